@@ -6,7 +6,7 @@ DROPS = [0, 2, 3, 5]
 REPEATS = [0, 1, 2, 3]
 LETTERS = "abcdefghij"
 
-# The built-in procedures, and two that execute some 1,200 statements.
+# The built-in procedures, and two of some 1,200 statements beside each other.
 PROCS = f"""
 proc put(k: text, v: int) write a = k; {{ set a = v; }}
 proc note(k: text, v: text) write a = k; {{ set a = v; }}

@@ -65,7 +65,7 @@ def workload_text(sessions):
 
 
 def draw_sessions(variant, calls, seed):
-    """Sessions that want so many calls and moves together, dealt out to them in turn."""
+    """Sessions that want this number of calls and moves together, dealt out to them in turn."""
     draws = random.Random(seed)
     count = variant.sessions * REGIONS
     sessions = [Session(f"s{it:03}", it % REGIONS, []) for it in range(count)]
@@ -111,5 +111,5 @@ def call(rank, proc, uses, *numbers):
 
 
 def of_rank(rank):
-    """How a line tells its rank."""
+    """How a line gives its rank."""
     return "" if rank == RANK else f"/{rank}"

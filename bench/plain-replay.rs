@@ -130,7 +130,7 @@ impl Region {
     }
 }
 
-/// All regions and sessions of a load, and what the report tells of the events so far.
+/// All regions and sessions of a load, and what the report says of the events so far.
 struct World<'a> {
     load: &'a Load,
     places: HashMap<&'a str, usize>,

@@ -28,7 +28,7 @@ class Report:
             else:
                 sections[head].append(line)
         if not {"replies", "order", "events", "table 0"} <= set(sections) or None in sections:
-            sys.exit("draw: this is no report")
+            sys.exit("draw: not a report")
         self.order = [line.split(" ", 4) for line in sections["order"]]
         self.outcomes = {words[0]: words[4] for words in self.order}
         self.replies = sections["replies"]
@@ -36,7 +36,7 @@ class Report:
         self.tables = [sections[f"table {number}"] for number in range(self.regions)]
         self.events = [line.split(" ") for line in sections["events"]]
         if not all(words[0] in KINDS for words in self.events):
-            sys.exit("draw: this is no report")
+            sys.exit("draw: not a report")
 
     def movers(self):
         """The ids that an outcome names as those of moves, each with the unit and the number of moves before."""

@@ -83,7 +83,7 @@ struct Search {
 }
 
 impl Search {
-    /// Of so many stuck ones nothing is found.
+    /// Nothing is found of this number of stuck ones.
     fn begin(&mut self, count: usize) {
         self.is_found.clear();
         self.is_found.resize(count, false);

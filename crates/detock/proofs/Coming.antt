@@ -55,7 +55,7 @@ module _ {F O A : Type 0} (words : List Bytes) (seen : F → FolderView) (files 
   }
 
   module _ (task : Task) (asks : Asks words task) where
-    -- why the task has no text is handed on
+    -- why the task has no text is passed on
     comes_refused : (text : Result (Vec ℕ A) Status) (why : Status) → text ≡ Err why → IsTextOf seen files files_after text task → out_after ≡ out
         → Comes words seen files files_after shown out out_after why
     comes_refused text why is has still =

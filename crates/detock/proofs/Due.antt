@@ -2,13 +2,10 @@
 use Rattle.std.proofs.Common.{◌≡◌, ℕ, ◌⊎◌, inl, inr, List, [], ◌∷◌, ◌++◌, length, Option, Some, None, IsSome, IsSomeAnd, slice_get, refl, ap, sym, ◌∙◌, subst, arith, get_or}
 use Rattle.std.proofs.lemmas.List.{map-append}
 use Rattle.dt_access.specs.Clash.{Bytes}
-use Rattle.dt_text.specs.Lines.{FileLine, lines_of}
 use Rattle.dt_outside.specs.Faults.{Rose}
 use Rattle.dt_outside.specs.Folder.{Files, FolderView}
-use Rattle.dt_lists.specs.Lists.{Pairwise}
 use Rattle.dt_events.specs.declared.Event.{Event}
-use Rattle.dt_events.specs.Events.{FirstWithoutForm, IsNumberedEvent}
-use Rattle.dt_events.proofs.Callers.{one_event}
+use Rattle.dt_events.proofs.Callers.{no_fault as no_form_fault, one_fault as one_form_fault, one_list}
 use Rattle.dt_cluster.specs.declared.Cluster.{Cluster}
 use Rattle.dt_cluster.specs.declared.ClusterFault.{ClusterFault}
 use Rattle.dt_cluster.specs.Builtin.{builtin_cluster}
@@ -75,32 +72,6 @@ module _ (words : List Bytes) where
   pub one_asked : (P Q : Task → Type 0) → AskFor words P → AskFor words Q → (task : Task) × P task × Q task
   one_asked P Q (s, asks, p) (t, also, q) = (s, p, subst Q (one_task t s also asks) q)
 
--- a file is one list of events
-pub one_list : (lines : List FileLine) (a b : List (ℕ × Event)) → Pairwise IsNumberedEvent lines a → Pairwise IsNumberedEvent lines b → a ≡ b
-one_list [] [] [] p q = refl
-one_list [] [] (y ∷ b) p q = absurd q
-one_list [] (x ∷ a) b p q = absurd p
-one_list (line ∷ lines) [] b p q = absurd p
-one_list (line ∷ lines) (x ∷ a) [] p q = absurd q
-one_list (line ∷ lines) (x ∷ a) (y ∷ b) ((at, is), p) ((also, too), q) =
-    let heads : x ≡ y = λ i. ((at ∙ sym also) i, one_event line.bytes x.1 y.1 is too i) in
-    λ i. heads i ∷ one_list lines a b p q i
-
--- where all lines are events, none is without a form
-all_formed : (lines : List FileLine) (events : List (ℕ × Event)) (number : ℕ) → Pairwise IsNumberedEvent lines events → FirstWithoutForm lines number → ⊥
-all_formed [] events number are without = without
-all_formed (line ∷ lines) [] number are without = are
-all_formed (line ∷ lines) (x ∷ events) number ((at, is), are) (inl (none, here)) = none (x.1, is)
-all_formed (line ∷ lines) (x ∷ events) number ((at, is), are) (inr (some, later)) = all_formed lines events number are later
-
--- the first line without a form is one
-one_without : (lines : List FileLine) (l m : ℕ) → FirstWithoutForm lines l → FirstWithoutForm lines m → l ≡ m
-one_without [] l m a b = absurd a
-one_without (line ∷ lines) l m (inl (none, here)) (inl (also, there)) = sym here ∙ there
-one_without (line ∷ lines) l m (inl (none, here)) (inr (some, later)) = absurd (none some)
-one_without (line ∷ lines) l m (inr (some, later)) (inl (none, here)) = absurd (none some)
-one_without (line ∷ lines) l m (inr (some, later)) (inr (also, after)) = one_without lines l m later after
-
 -- of events, the first that is not legal is one
 module _ (cluster : Cluster) (workload : Workload) where
   one_illegal : (w : World) (a b after later : List (ℕ × Event)) (x y : ℕ × Event) → a ++ x ∷ after ≡ b ++ y ∷ later
@@ -136,12 +107,12 @@ module _ (cluster : Cluster) (workload : Workload) where
   one_fault bytes l m TooLong Form (zero_l, long) (short, without) = absurd (omega (arith, long, short))
   one_fault bytes l m TooLong (Rule k) (zero_l, long) (events, are, illegal) = absurd (omega (arith, long, are.short))
   one_fault bytes l m Form TooLong (short, without) (zero_m, long) = absurd (omega (arith, long, short))
-  one_fault bytes l m Form Form (short, without) (also, none) = ap (λ line. BadEvents line Form) (one_without (lines_of bytes) l m without none)
-  one_fault bytes l m Form (Rule k) (short, without) (events, are, illegal) = absurd (all_formed (lines_of bytes) events l are.form without)
+  one_fault bytes l m Form Form (short, without) (also, none) = ap (λ line. BadEvents line Form) (one_form_fault bytes l m without none)
+  one_fault bytes l m Form (Rule k) (short, without) (events, are, illegal) = absurd (no_form_fault bytes events l are.form without)
   one_fault bytes l m (Rule n) TooLong (events, are, illegal) (zero_m, long) = absurd (omega (arith, long, are.short))
-  one_fault bytes l m (Rule n) Form (events, are, illegal) (short, without) = absurd (all_formed (lines_of bytes) events m are.form without)
+  one_fault bytes l m (Rule n) Form (events, are, illegal) (short, without) = absurd (no_form_fault bytes events m are.form without)
   one_fault bytes l m (Rule n) (Rule k) (events, are, illegal) (others, too, also) =
-      let same : others ≡ events = one_list (lines_of bytes) others events too.form are.form in
+      let same : others ≡ events = one_list bytes others events too.form are.form in
       let P : List (ℕ × Event) → Type 0 = λ list. IsFirstIllegal cluster workload list m k in
       let both = same_illegal events l m n k illegal (subst P same also) in
       λ i. BadEvents (both.0 i) (Rule (both.1 i))
@@ -149,10 +120,10 @@ module _ (cluster : Cluster) (workload : Workload) where
   -- legal events have no fault
   no_fault : (bytes : Bytes) (events : List (ℕ × Event)) (l : ℕ) (c : EventsCause) → HoldEvents events bytes → AreLegal cluster workload (unnumbered events) → AreBadEvents cluster workload l c bytes → ⊥
   no_fault bytes events l TooLong are legal (zero_l, long) = omega (arith, long, are.short)
-  no_fault bytes events l Form are legal (short, without) = all_formed (lines_of bytes) events l are.form without
+  no_fault bytes events l Form are legal (short, without) = no_form_fault bytes events l are.form without
   no_fault bytes events l (Rule n) are legal (others, too, illegal) =
       let P : List (ℕ × Event) → Type 0 = λ list. IsFirstIllegal cluster workload list l n in
-      all_legal events l n legal (subst P (one_list (lines_of bytes) others events too.form are.form) illegal)
+      all_legal events l n legal (subst P (one_list bytes others events too.form are.form) illegal)
 
 -- a word that begins with `:` is no name of a cluster's file
 no_file : (word : Bytes) (n : ℕ) → IsBuiltin n → word ≡ builtin_word n → IsClusterFile word → ⊥

@@ -26,18 +26,18 @@ file_more : (told : Option Files) (name : Bytes) (P Q : Bytes → Type 0) → ((
 file_more told name P Q more (bytes, is, p) = (bytes, is, more bytes p)
 
 -- what loads in between leave as it was: which files are reported; and the count of faults does not fall
-pub record Follows (before after : FolderView) : Type 0 where
+pub record KeepsFiles (before after : FolderView) : Type 0 where
   pub told : after.told ≡ before.told
   pub later : before.faults ≤ after.faults
 
 -- a load that failed after others
-missed_later : (before loaded now : FolderView) (name : Bytes) → Follows before loaded → WasMissed loaded now name → WasMissed before now name
+missed_later : (before loaded now : FolderView) (name : Bytes) → KeepsFiles before loaded → WasMissed loaded now name → WasMissed before now name
 missed_later before loaded now name follows missed = record {
   rose = omega (arith, follows.later, missed.rose);
   newest = missed.newest;
 }
 
--- an error that a `?` hands on as it is
+-- an error that a `?` passes on as it is
 pub passed_on : {T U : Type 0} (r : Result T Status) (s : Result U Status) (field made status : Status) → r ≡ Err field → s ≡ Err made → made ≡ field → s ≡ Err status → r ≡ Err status
 passed_on r s field made status was is_made same is = cc
 
@@ -56,7 +56,7 @@ module _ (word name : Bytes) (before : FolderView) where
   no_cluster now (CannotRead number) is = inl is
   no_cluster now status is = absurd is
 
-  pub no_workload : (cluster : Cluster) → HasCluster before.told word cluster → (loaded now : FolderView) (status : Status) → Follows before loaded
+  pub no_workload : (cluster : Cluster) → HasCluster before.told word cluster → (loaded now : FolderView) (status : Status) → KeepsFiles before loaded
       → IsWorkloadRefusal cluster name loaded now status → IsLoadRefusal word name before now status
   no_workload cluster names loaded now NoMemory follows is = tt
   no_workload cluster names loaded now (BadWorkload line cause) follows is = (cluster, names, subst (λ told. HasFile told name (AreBadWorkload cluster line cause)) follows.told is)
@@ -142,7 +142,7 @@ module _ (before : FolderView) (word name list : Bytes) (cluster : Cluster) (wor
   malformed line (Rule n) bytes is = absurd is
 
   -- the events' file was refused
-  pub no_events : (later now : FolderView) (status : Status) → Follows before later → IsEventsRefusal list later now status → IsRefusal (Replay word name list) before now status
+  pub no_events : (later now : FolderView) (status : Status) → KeepsFiles before later → IsEventsRefusal list later now status → IsRefusal (Replay word name list) before now status
   no_events later now NoMemory follows is = tt
   no_events later now (BadEvents line cause) follows is =
       let here : HasFile before.told list (AreMalformed line cause) = subst (λ told. HasFile told list (AreMalformed line cause)) follows.told is in

@@ -15,7 +15,7 @@ use Rattle.dt_world.specs.WorldReport.{report_of}
 use Rattle.detock.specs.Tasks.{Run}
 use Rattle.detock.specs.Loading.{Loaded}
 use Rattle.detock.specs.Headline.{BigRun, Headline}
-use Rattle.detock.specs.RefusalCode.{IsReportOfRun, IsTextOfRun}
+use Rattle.detock.specs.RefusalCode.{IsReportOfRun, IsSummaryOfRun, IsTextOfRun}
 use Rattle.detock.proofs.Refused.{headline_of}
 
 module _ (cluster : Cluster) (workload : Workload) (report : Report) (is : IsReportOfRun cluster workload report) where
@@ -42,13 +42,13 @@ module _ (cluster : Cluster) (workload : Workload) (report : Report) (is : IsRep
         summary = known;
       }
 
-  -- so what is written of it is what a big run reports
-  pub big_told : {A E : Type 0} (calls : ℕ) → calls ≤ 20000 → cluster ≡ load_cluster → workload ≡ load_workload calls → (r : Result (Vec ℕ A) E)
-      → IfOk r (λ text. text.items ≡ summary_of calls report) → IfOk r (λ text. BigRun (decimal calls) (λ lines. text.items ≡ lines))
-  big_told calls few of_cluster of_workload (Ok text) written = big_lines calls few of_cluster of_workload text.items written
-  big_told calls few of_cluster of_workload (Err error) written = tt
-
 -- a text of a run makes the headline true
 pub text_headline : {cluster : Cluster} {workload : Workload} {text : Bytes} → IsTextOfRun cluster workload text → (told : _) (word name : Bytes) → Loaded told (Run word name) cluster workload
     → IsValidCluster cluster → IsValidWorkload cluster workload → Headline told (Run word name) (λ lines. text ≡ lines)
 text_headline {cluster} {workload} {text} t told word name loaded valid fits = run_headline cluster workload t.report t.told told word name text loaded valid fits t.text_is
+
+-- the summary of a run of the load is what a big run reports
+pub big_told : {A E : Type 0} {cluster : Cluster} {workload : Workload} (calls : ℕ) → calls ≤ 20000 → cluster ≡ load_cluster → workload ≡ load_workload calls → (r : Result (Vec ℕ A) E)
+    → IfOk r (λ text. IsSummaryOfRun cluster workload calls text.items) → IfOk r (λ text. BigRun (decimal calls) (λ lines. text.items ≡ lines))
+big_told {cluster = cluster} {workload} calls few of_cluster of_workload (Ok text) s = big_lines cluster workload s.report s.told calls few of_cluster of_workload text.items s.text_is
+big_told calls few of_cluster of_workload (Err error) s = tt

@@ -75,7 +75,7 @@ HasBadEvents told task line cause =
     (cluster : Cluster) × (workload : Workload) × Loaded told task cluster workload
     × IsSomeAnd (events_word task) (λ name. HasFile told name (AreBadEvents cluster workload line cause))
 
--- a load failed in this call, and the newest one that did is that of this name, if the folder reports it
+-- a load failed in this call, and the most recent one that did is that of this name, if the folder reports it
 pub record WasMissed (before now : FolderView) (name : Bytes) : Type 0 where
   pub rose : Rose before.faults now.faults
   pub newest : MissedLast now name

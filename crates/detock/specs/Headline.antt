@@ -22,8 +22,8 @@ use Rattle.dt_world.specs.WorldReport.{report_of}
 use Rattle.detock.specs.Tasks.{Task, Replay, Run, Big}
 use Rattle.detock.specs.Loading.{Loaded, HasEvents, unnumbered}
 
--- what is reported: each event is legal after those before it; all regions agree on outcomes, tables, the order of what was
--- answered before it was submitted, and causes; and the report of these events was written
+-- what is reported: each event is legal after those before it; all regions agree on outcomes, tables, the order of an attempt
+-- that was answered before another was submitted, and causes; and the report of these events was written
 pub record Reported (cluster : Cluster) (workload : Workload) (events : List Event) (Written : Bytes → Type 0) : Type 0 where
   pub legal : AreLegal cluster workload events
   pub agree : Agree cluster workload events

@@ -19,6 +19,7 @@ use Rattle.detock.specs.declared.status.EventsCause.TheVariants.{TooLong, Form, 
 use Rattle.dt_session.specs.Run.{AreLegal}
 use Rattle.dt_report.specs.declared.Report.{Report}
 use Rattle.dt_report.specs.Report.{report_text}
+use Rattle.dt_sum.specs.Summary.{summary_of}
 use Rattle.dt_world.specs.WorldReport.{report_of}
 use Rattle.dt_world.specs.declared.StepError.{StepError}
 use Rattle.dt_world.specs.declared.StepError.TheVariants.{Illegal}
@@ -96,6 +97,12 @@ pub record IsTextOfRun (cluster : Cluster) (workload : Workload) (text : Bytes) 
   pub told : IsReportOfRun cluster workload report
   pub text_is : text ≡ report_text report
 
+-- the summary of such a report, for a workload of n calls
+pub record IsSummaryOfRun (cluster : Cluster) (workload : Workload) (calls : ℕ) (text : Bytes) : Type 0 where
+  pub report : Report
+  pub told : IsReportOfRun cluster workload report
+  pub text_is : text ≡ summary_of calls report
+
 -- why a task has no text
 abbrev pub IsRefusal : Task → FolderView → FolderView → Status → Type 0
 IsRefusal task before now NoMemory = Unit {0}
@@ -124,7 +131,7 @@ module _ {F A : Type 0} (seen : F → FolderView) (files files_after : F) (text 
   abbrev pub IsAskedFor : List Bytes → Type 0
   IsAskedFor words = HasNoTask words ⊎ AskFor words IsTextOf
 
--- how a call ends: a text is written, as far as the output takes it; and why there is none is handed on
+-- how a call ends: a text is written, as far as the output takes it; and why there is none is passed on
 module _ {O A : Type 0} (shown : O → SinkView) (out out_after : O) where
   abbrev pub EndsBy : Result (Vec ℕ A) Status → Status → Type 0
   EndsBy (Ok text) Done = Adds (shown out).held (shown out_after).held text.items

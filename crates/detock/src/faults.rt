@@ -14,8 +14,8 @@ use itoa::Buffer;
 /// The most bytes of a name that are written at once.
 const RUN: usize = 256;
 
-/// Tells a status by its line, piece by piece; nothing after `Done`. A fault of the sink is counted there, and changes
-/// nothing here. Takes no memory.
+/// Reports a status by its line, piece by piece; for `Done` it writes nothing. A fault of the sink is counted there, and
+/// changes nothing here. Takes no memory.
 pub fn tell<E: Sink>(status: &Status, err: &mut E)
     ensures { IsTold E.seen err.old err.new status.now }
 {

@@ -1,4 +1,4 @@
-ghost use Rattle.std.specs.Prelude.{◌≡◌, ℕ, IfOk, IfErr, MatchOption, None, drop};
+ghost use Rattle.std.specs.Prelude.{◌≡◌, IfOk, IfErr, MatchOption, None, drop};
 ghost use Rattle.std.specs.IoError.{error_kind};
 ghost use Rattle.detock.specs.Tasks.{word_bytes};
 ghost use Rattle.detock.specs.Answers.{Comes, IsTold};

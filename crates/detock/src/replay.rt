@@ -19,6 +19,7 @@ use dt_text::NoMemory;
 use dt_workload::Workload;
 use dt_world::{StepError, World};
 use std::alloc::Global;
+use std::mem::forget;
 
 /// The text of the report that a replay asks for, or why there is none.
 pub fn replay_text<F: Folder>(
@@ -50,7 +51,10 @@ fn report_of(
 {
     let world = world_after(alloc, cluster, workload, events.as_slice())?;
     let events = without_numbers(alloc, events)?;
-    Ok(world.text(alloc, events.as_slice())?)
+    let (text, sites) = world.text(alloc, events.as_slice())?;
+    // The program ends soon, and then gives back all memory at once, in a tenth of the time.
+    forget(sites);
+    Ok(text)
 }
 
 /// The world after these events, if each is legal after those before it.

@@ -5,7 +5,7 @@ ghost use Rattle.dt_cluster.specs.Valid.{IsValidCluster};
 ghost use Rattle.dt_workload.specs.Valid.{IsValidWorkload};
 ghost use Rattle.detock.specs.TaskCode.{IsRight, run_asked_for};
 ghost use Rattle.detock.specs.Headline.{BigRun};
-ghost use Rattle.detock.specs.RefusalCode.{IsReportOfRun, IsTextOf, IsTextOfRun};
+ghost use Rattle.detock.specs.RefusalCode.{IsSummaryOfRun, IsTextOf, IsTextOfRun};
 
 use crate::loading::load_both;
 use crate::status::Status;
@@ -15,12 +15,11 @@ use dt_gen::generate;
 use dt_graph::QueueSched;
 use dt_lock::NoGate;
 use dt_outside::Folder;
-use dt_report::Report;
-use dt_run::{Nodes, run, run_to_end};
-use dt_sum::summary;
+use dt_run::{Nodes, run_to_end};
 use dt_text::NoMemory;
 use dt_workload::Workload;
 use std::alloc::Global;
+use std::mem::forget;
 use std::sync::Wait;
 use std::thread::Threads;
 
@@ -49,8 +48,7 @@ pub fn big_text<R: Threads + Wait + Sync>(
     ensures { IfOk result (λ text. BigRun (decimal calls) (λ lines. text.items ≡ lines)) }
 {
     let (cluster, workload) = generate(alloc, calls)?;
-    let report = report_of_run(rt, alloc, cluster, workload)?;
-    summary(alloc, calls, &report)
+    summary_of_run(rt, alloc, cluster, workload, calls)
 }
 
 /// The text of the report of a run of a workload in a cluster.
@@ -69,17 +67,22 @@ fn text_of_run<R: Threads + Wait + Sync>(
     nodes.text(alloc)
 }
 
-/// The report of a run of a workload in a cluster.
-fn report_of_run<R: Threads + Wait + Sync>(
+/// The summary of the report of a run of a workload of n calls in a cluster.
+fn summary_of_run<R: Threads + Wait + Sync>(
     rt: &R,
     alloc: Global,
     cluster: Cluster,
     workload: Workload,
-) -> Result<Report, NoMemory>
+    calls: u32,
+) -> Result<Vec<u8>, NoMemory>
     requires cluster { IsValidCluster cluster }
     requires workload { IsValidWorkload cluster workload }
-    ensures { IfOk result (IsReportOfRun cluster workload) }
+    ensures { IfOk result (λ text. IsSummaryOfRun cluster workload calls text.items) }
 {
     let mut nodes: Nodes<QueueSched> = Nodes::opening(alloc, cluster, workload)?;
-    run(rt, alloc, &mut nodes, &NoGate)
+    run_to_end(rt, alloc, &mut nodes, &NoGate)?;
+    let text = nodes.summary(alloc, calls)?;
+    // The program ends soon, and then gives back all memory at once.
+    forget(nodes);
+    Ok(text)
 }

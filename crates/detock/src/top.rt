@@ -1,4 +1,3 @@
-ghost use Rattle.std.specs.Prelude.{◌≡◌, ◌≤◌, IfOk};
 ghost use Rattle.detock.specs.Tasks.{NeedsThreads, word_bytes};
 ghost use Rattle.detock.specs.TaskCode.{IsRightThreaded, threaded_asked_for};
 ghost use Rattle.detock.specs.Answers.{Comes, IsTold};

@@ -7,7 +7,7 @@ use crate::keys::Keys;
 use dt_text::NoMemory;
 use std::alloc::Global;
 
-/// The part of a transaction that one home orders: its keys that are homed there. Each part tells the transaction's rank,
+/// The part of a transaction that one home orders: its keys that are at home there. Each part has the transaction's rank,
 /// from 0 (first) to 9, and all its homes.
 #[derive(Debug, Drop)]
 pub struct Part {

@@ -31,7 +31,7 @@ use Rattle.dt_agreement.proofs.RootedWorlds.{legal_roots}
 use Rattle.dt_agreement.proofs.AllAgree.{has_lookup, outcomes_in_order, outcome_ids, outcomes_once}
 
 -- what an executed attempt that is not stale is
-record IsRun (cluster : Cluster) (w : World) (order : List TxnId) (a : TxnId) (x : Txn) : Type 0 where
+record RanFresh (cluster : Cluster) (w : World) (order : List TxnId) (a : TxnId) (x : Txn) : Type 0 where
   there : Has (txns_of w order) x
   own : x.id ≡ a
   outcome : Outcome
@@ -54,7 +54,7 @@ module _ {cluster : Cluster} {workload : Workload} {w : World} {order : List Txn
   in_run : (a : TxnId) (x : Txn) → Has order a → txn_of w a ≡ Some x → Has (txns_of w order) x
   in_run a x h e = looked_has (txn_of w) (txn_id w) order a x h e
 
-  run_of : (a : TxnId) (x : Txn) → Has order a → txn_of w a ≡ Some x → ¬ (IsStale (outcome_in (outcomes_in_order cluster w order) a)) → IsRun cluster w order a x
+  run_of : (a : TxnId) (x : Txn) → Has order a → txn_of w a ≡ Some x → ¬ (IsStale (outcome_in (outcomes_in_order cluster w order) a)) → RanFresh cluster w order a x
   run_of a x h e n =
       let own : x.id ≡ a = txn_id w a x e in
       let r : (o : Outcome) × Has (outcomes_in_order cluster w order) (a, o) × (outcome_in (outcomes_in_order cluster w order) a ≡ Some o) = outcome_of_executed a h in
@@ -67,14 +67,14 @@ module _ {cluster : Cluster} {workload : Workload} {w : World} {order : List Txn
       }
 
   -- two executed attempts that are not stale and clash are ordered
-  ordered_across : (a b : TxnId) (x y : Txn) → a ≢ b → IsRun cluster w order a x → IsRun cluster w order b y → clash (uses_in x) (uses_in y) ≡ true → Ordered (Precedes (logs_of w)) a b
+  ordered_across : (a b : TxnId) (x y : Txn) → a ≢ b → RanFresh cluster w order a x → RanFresh cluster w order b y → clash (uses_in x) (uses_in y) ≡ true → Ordered (Precedes (logs_of w)) a b
   ordered_across a b x y ne p q c =
       let apart : x.id ≢ y.id = λ e. ne (sym p.own ∙ e ∙ q.own) in
       subst₂ (Ordered (Precedes (logs_of w))) p.own q.own
       (across_moves cluster.procs (Precedes (logs_of w)) (opening_table cluster) (txns_of w order) past x y p.outcome q.outcome p.there q.there apart p.gave q.gave p.fresh q.fresh c)
 
   -- of two executed attempts that use one unit, that with fewer moves of it, if it is not stale, precedes the other
-  fewer_precedes : (a b : TxnId) (x y : Txn) → IsRun cluster w order a x → Has order b → txn_of w b ≡ Some y
+  fewer_precedes : (a b : TxnId) (x y : Txn) → RanFresh cluster w order a x → Has order b → txn_of w b ≡ Some y
       → (k l : Access) → Has x.access k → Has y.access l → unit_of cluster.version k.key ≡ unit_of cluster.version l.key → k.counter < l.counter → Precedes (logs_of w) a b
   fewer_precedes a b x y p hb eb k l hk hl unit fewer =
       subst₂ (Precedes (logs_of w)) p.own (txn_id w b y eb)

@@ -41,8 +41,9 @@ use Rattle.dt_session.specs.Step.{IsLast, MayEnd, MayAnswer, awaited_at, upcomin
 use Rattle.dt_session.specs.Run.{world_after, AreLegalFrom, executed_id, order_of, txns_of, serial_outcomes, ids_before}
 use Rattle.dt_session.specs.Agreement.{WaitsFor, IsAwaited, HasCause, ReceivedAlike, Agree}
 use Rattle.dt_agreement.specs.LegalRun.{IsLegalRun}
+use Rattle.dt_agreement.specs.OneHistory.{executions_at}
 use Rattle.dt_agreement.specs.Invariant.{IsExecutedAt, Rooted, Inv}
-use Rattle.dt_agreement.proofs.Submissions.{IsKnown, txn_id}
+use Rattle.dt_agreement.proofs.Submissions.{WasSubmitted, txn_id}
 use Rattle.dt_agreement.proofs.Views.{received_log}
 use Rattle.dt_agreement.proofs.RegionViews.{view_fronts, order_known}
 use Rattle.dt_agreement.proofs.Annotations.{moves_its_unit, txns_valid, unmoved_at_first}
@@ -103,10 +104,6 @@ fronts_alike (n ∷ a) (m ∷ b) (log ∷ logs) e = ap₂ ◌∷◌ (ap (λ k. t
 abbrev pub outcomes_in_order : Cluster → World → List TxnId → List (TxnId × Outcome)
 outcomes_in_order cluster w order = outcomes cluster.procs (txns_of w order) (opening_table cluster)
 
--- the transactions that a region ran
-abbrev pub ran_at : World → ℕ → List Txn
-ran_at w region = txns_of w (done_ids (node_at w region).here)
-
 -- a region is drained of what it received
 abbrev pub IsDrainedAt : World → ℕ → Type 0
 IsDrainedAt w region = IsDrained (received_logs w region) (node_at w region).here
@@ -125,8 +122,8 @@ module _ {cluster : Cluster} {workload : Workload} {w : World} {order : List Txn
   -- an outcome that a region keeps is one of the serial run
   kept_outcome : (region : ℕ) (id : TxnId) (outcome : Outcome) → region < cluster.regions → Has (node_at w region).here.done (id, outcome) → Has (outcomes_in_order cluster w order) (id, outcome)
   kept_outcome region id outcome lr h =
-      all_get (Has (outcomes_in_order cluster w order)) (outcomes cluster.procs (ran_at w region) (opening_table cluster))
-      (one_outcome cluster.procs (Precedes (logs_of w)) (opening_table cluster) (txns_of w order) past (ran_at w region)
+      all_get (Has (outcomes_in_order cluster w order)) (outcomes cluster.procs (executions_at w region) (opening_table cluster))
+      (one_outcome cluster.procs (Precedes (logs_of w)) (opening_table cluster) (txns_of w order) past (executions_at w region)
       (region_members i rooted region lr)
       (region_down i rooted region lr))
       (id, outcome) (subst (λ l. Has l (id, outcome)) (i.tables region lr).outcomes h)
@@ -139,7 +136,7 @@ module _ {cluster : Cluster} {workload : Workload} {w : World} {order : List Txn
       → (node_at w region).here.table ≡ table_after cluster.procs (txns_of w (filter (is_among (done_ids (node_at w region).here)) order)) (opening_table cluster)
   tables_agree region lr =
       (i.tables region lr).table
-      ∙ one_restricted cluster.procs (Precedes (logs_of w)) (opening_table cluster) (txns_of w order) past (ran_at w region)
+      ∙ one_restricted cluster.procs (Precedes (logs_of w)) (opening_table cluster) (txns_of w order) past (executions_at w region)
       (region_members i rooted region lr)
       (region_down i rooted region lr)
       ∙ ap (λ l. table_after cluster.procs (filter (λ x. is_among l x.id) (txns_of w order)) (opening_table cluster)) (done_txn_ids i region lr)
@@ -192,13 +189,13 @@ module _ {cluster : Cluster} {workload : Workload} {w : World} {order : List Txn
         (λ home. all_in region home d ∙ ap (λ n. length (take n (log_of w home))) (alike home) ∙ sym (all_in other home e))
         ∙ sym (view_fronts i other lo)
 
-    there : (id : TxnId) → Has (txn_ids (ran_at w region)) id → Has (txn_ids (ran_at w other)) id
+    there : (id : TxnId) → Has (txn_ids (executions_at w region)) id → Has (txn_ids (executions_at w other)) id
     there id h =
         let done : IsExecutedAt w region id = subst (λ l. Has l id) (done_txn_ids i region lr) h in
         let closed : IsClosed (view_at w other) id = subst (λ v. IsClosed v id) same_view ((drained_done region lr d id).0 done) in
         subst (λ l. Has l id) (sym (done_txn_ids i other lo)) ((drained_done other lo e id).1 closed)
 
-    back : (id : TxnId) → Has (txn_ids (ran_at w other)) id → Has (txn_ids (ran_at w region)) id
+    back : (id : TxnId) → Has (txn_ids (executions_at w other)) id → Has (txn_ids (executions_at w region)) id
     back id h =
         let done : IsExecutedAt w other id = subst (λ l. Has l id) (done_txn_ids i other lo) h in
         let closed : IsClosed (view_at w region) id = subst (λ v. IsClosed v id) (sym same_view) ((drained_done other lo e id).0 done) in
@@ -207,7 +204,7 @@ module _ {cluster : Cluster} {workload : Workload} {w : World} {order : List Txn
     pub drained_agree : (node_at w region).here.table ≡ (node_at w other).here.table
     drained_agree =
         (i.tables region lr).table
-        ∙ one_set cluster.procs (Precedes (logs_of w)) (opening_table cluster) (txns_of w order) past (ran_at w region) (ran_at w other)
+        ∙ one_set cluster.procs (Precedes (logs_of w)) (opening_table cluster) (txns_of w order) past (executions_at w region) (executions_at w other)
         (region_members i rooted region lr) (region_members i rooted other lo)
         (region_down i rooted region lr) (region_down i rooted other lo)
         (λ id. (there id, back id))
@@ -327,7 +324,7 @@ real_time_at {cluster = cluster} {workload = workload} first region session midd
     answered = (i.ordered.executed a).1 (region, inner.1.0.regions, answered_done cluster early region (session_at workload.sessions early.places region session) a inner.1.0.allowed awaited)
 
     new : ¬ (Has (order_of before) b)
-    new h = next_unknown j other (all_get (IsKnown late) (order_of before) (order_known j) b h)
+    new h = next_unknown j other (all_get (WasSubmitted late) (order_of before) (order_known j) b h)
 
 -- all regions agree
 pub legal_agree : {cluster : Cluster} {workload : Workload} {events : List Event} → IsLegalRun cluster workload events → Agree cluster workload events

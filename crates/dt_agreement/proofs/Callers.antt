@@ -1,10 +1,11 @@
 -- What a proof of a crate above may cite of this crate: nothing else of `proofs/` is cited from there. First what is only
 -- passed on, then the laws of legal lists, then small facts of one world that keeps the invariant, by what they speak of:
 -- events, logs, ids, views, sessions.
-pub use Rattle.dt_agreement.proofs.Submissions.{IsKnown, find_has, from_region, numbered, home_region, submission_is_found, txn_there, txn_id}
-pub use Rattle.dt_agreement.proofs.Views.{log_is, logs_length, received_log, received_own}
+pub use Rattle.dt_serial.proofs.Callers.{test_of_key}
+pub use Rattle.dt_agreement.proofs.Submissions.{WasSubmitted, find_has, from_region, numbered, home_region, submission_is_found, txn_there, txn_id}
+pub use Rattle.dt_agreement.proofs.Views.{fronts_longer, log_is, logs_length, received_log, received_own}
 pub use Rattle.dt_agreement.proofs.Logs.{part_homed}
-pub use Rattle.dt_agreement.proofs.Sessions.{key_of_test, test_of_key, session_of_test, session_found}
+pub use Rattle.dt_agreement.proofs.Sessions.{found_is_named, key_of_test, session_of_test, session_found}
 pub use Rattle.dt_agreement.proofs.Runs.{world_from_append, world_after_more, legal_append, legal_more, append_legal, more_legal, with_executed, ordered, order_of_more}
 pub use Rattle.dt_agreement.proofs.Annotations.{unmoved_at_first, body_fits, version_stays}
 pub use Rattle.dt_agreement.proofs.AllAgree.{lookup_has, answered_done}
@@ -88,7 +89,7 @@ pub submits : (cluster : Cluster) → IsValidCluster cluster → (workload : Wor
 submits cluster ok workload w order region name may i = rule1.submits i ok region name may
 
 pub executable_known : (cluster : Cluster) (workload : Workload) (w : World) (order : List TxnId) (region : ℕ) (id : TxnId) → region < cluster.regions
-    → MayStep (received_logs w region) (node_at w region).here (Execute region id) → Inv cluster workload w order → IsKnown w id
+    → MayStep (received_logs w region) (node_at w region).here (Execute region id) → Inv cluster workload w order → WasSubmitted w id
 executable_known cluster workload w order region id lr may i = rule6.executable_known i region id lr may
 
 module _ (cluster : Cluster) (workload : Workload) (w : World) (order : List TxnId) (home source : ℕ) (lh : home < cluster.regions) (ls : source < cluster.regions) (i : Inv cluster workload w order) where
@@ -123,7 +124,7 @@ module _ (cluster : Cluster) (workload : Workload) (w : World) (order : List Txn
   received_within region home lr lh = (i.lengths region home lr lh).received
 
   -- what a region executed was submitted
-  pub done_known : (region : ℕ) → region < cluster.regions → AllIn (IsKnown w) (done_ids (node_at w region).here)
+  pub done_known : (region : ℕ) → region < cluster.regions → AllIn (WasSubmitted w) (done_ids (node_at w region).here)
   done_known = views.done_known i
 
   pub transaction_found : (region : ℕ) (s : Submission) → Has (node_at w region).submitted s → txn_of w s.txn.id ≡ Some s.txn

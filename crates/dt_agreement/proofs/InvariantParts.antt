@@ -21,8 +21,8 @@ use Rattle.dt_agreement.proofs.Submissions.{Keeps, txn_same}
 
 -- the parts of the invariant, each as a statement on a world
 
-abbrev pub Sized : ℕ → World → Type 0
-Sized regions w = (region : ℕ) → region < regions → IsSized regions (node_at w region)
+abbrev pub AreSized : ℕ → World → Type 0
+AreSized regions w = (region : ℕ) → region < regions → IsSized regions (node_at w region)
 
 abbrev pub Numbered : ℕ → World → Type 0
 Numbered regions w = (region : ℕ) → region < regions → AreNumbered region (node_at w region).submitted

@@ -20,7 +20,7 @@ use Rattle.dt_session.specs.Step.{IsLegal, placed, received, moved_on, answered,
 use Rattle.dt_session.specs.Run.{world_after, order_of}
 use Rattle.dt_agreement.specs.LegalRun.{IsLegalRun}
 use Rattle.dt_agreement.specs.Invariant.{Inv}
-use Rattle.dt_agreement.proofs.Submissions.{IsKnown, Keeps, submission_same, txn_stays}
+use Rattle.dt_agreement.proofs.Submissions.{WasSubmitted, Keeps, submission_same, txn_stays}
 use Rattle.dt_agreement.proofs.Rule1Submit.{Submits, attempt_made, submits, made_found}
 use Rattle.dt_agreement.proofs.Rule2Append.{append_cases, submitted_placed}
 use Rattle.dt_agreement.proofs.Rule6Execute.{executable_known, executed_more}
@@ -116,7 +116,7 @@ next_done {cluster = cluster} ok w order (Resolve region ids) l i =
     done_kept w (moved_on cluster w region (Resolve region ids))
     (field_of_set (λ n. done_ids n.here) w.nodes region (record (node_at w region) { here = stepped cluster.procs (txn_of w) (node_at w region).here (Resolve region ids) }) no_node refl)
 next_done ok w order (Execute region id) l i =
-    let known : IsKnown w id = executable_known i region id l.regions l.allowed in
+    let known : WasSubmitted w id = executable_known i region id l.regions l.allowed in
     executed_more i region id l.regions l.allowed known.0 known.1
 next_done {cluster = cluster} {workload = workload} ok w order (Answer region session) l i =
     done_kept w (next cluster workload w (Answer region session)) (answer_done workload w region (session_at workload.sessions w.places region session))

@@ -16,7 +16,7 @@ use Rattle.dt_session.specs.Step.{IsLegal, moved_on, next}
 use Rattle.dt_session.specs.Run.{world_after, order_of}
 use Rattle.dt_agreement.specs.LegalRun.{IsLegalRun}
 use Rattle.dt_agreement.specs.Invariant.{Inv}
-use Rattle.dt_agreement.proofs.Submissions.{IsKnown}
+use Rattle.dt_agreement.proofs.Submissions.{WasSubmitted}
 use Rattle.dt_agreement.proofs.OpeningWorld.{opening_keeps}
 use Rattle.dt_agreement.proofs.Rule1Submit.{submit_keeps}
 use Rattle.dt_agreement.proofs.Rule2Append.{append_keeps}
@@ -31,10 +31,10 @@ module _ {cluster : Cluster} {workload : Workload} (ok : IsValidCluster cluster)
   execute_keeps : (w : World) (order : List TxnId) (region : ℕ) (id : TxnId) → region < cluster.regions → MayStep (received_logs w region) (node_at w region).here (Execute region id)
       → Inv cluster workload w order → Inv cluster workload (moved_on cluster w region (Execute region id)) (cond (is_among order id) order (order ++ id ∷ []))
   execute_keeps w order region id lr may i =
-      let k : IsKnown w id = executable_known i region id lr may in
+      let k : WasSubmitted w id = executable_known i region id lr may in
       go k (is_among order id) refl
     where
-      go : IsKnown w id → (b : Bool) → is_among order id ≡ b → Inv cluster workload (moved_on cluster w region (Execute region id)) (cond b order (order ++ id ∷ []))
+      go : WasSubmitted w id → (b : Bool) → is_among order id ≡ b → Inv cluster workload (moved_on cluster w region (Execute region id)) (cond b order (order ++ id ∷ []))
       go k true e = execute_again i region id lr may k.0 k.1 (has_of_among order id e)
       go k false e = execute_first i region id lr may k.0 k.1 (λ h. cc (among_of_has order id h))
 

@@ -11,7 +11,7 @@ use Rattle.dt_session.specs.World.{World, Node, no_node, node_at, with_node, log
 use Rattle.dt_session.specs.Run.{txns_of}
 use Rattle.dt_agreement.specs.Invariant.{IsSized, IsOrder, Inv}
 use Rattle.dt_agreement.proofs.Submissions.{Keeps, txns_same}
-use Rattle.dt_agreement.proofs.InvariantParts.{Sized, Lengths, Sound, Tables, ids_kept, valid_kept, asked_kept, logs_kept, sessions_kept}
+use Rattle.dt_agreement.proofs.InvariantParts.{AreSized, Lengths, Sound, Tables, ids_kept, valid_kept, asked_kept, logs_kept, sessions_kept}
 
 -- the node left its requests and its log as they were
 pub record LeavesRequests (before after : Node) : Type 0 where
@@ -52,7 +52,7 @@ module _ {cluster : Cluster} {workload : Workload} {w : World} {order : List Txn
   pub txns_now : (ids : List TxnId) → txns_of (with_node w region n) ids ≡ txns_of w ids
   txns_now ids = txns_same w (with_node w region n) (keeps (λ x. x.submitted) same.submitted) ids
 
-  sized : length n.received ≡ cluster.regions → length n.here.inserted ≡ cluster.regions → Sized cluster.regions (with_node w region n)
+  sized : length n.received ≡ cluster.regions → length n.here.inserted ≡ cluster.regions → AreSized cluster.regions (with_node w region n)
   sized received inserted q lt = each_of_set (λ k x. IsSized cluster.regions x) w.nodes region n no_node
       (let s : IsSized cluster.regions (node_at w region) = i.sized region lr in
       record { asked = ap length same.asked ∙ s.asked; taken = ap length same.taken ∙ s.taken; received = received; inserted = inserted })

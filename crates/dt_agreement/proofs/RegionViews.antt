@@ -13,7 +13,7 @@ use Rattle.dt_cluster.specs.declared.Cluster.{Cluster}
 use Rattle.dt_workload.specs.declared.Workload.{Workload}
 use Rattle.dt_session.specs.World.{World, node_at, logs_of, log_of, view_at, txn_of}
 use Rattle.dt_agreement.specs.Invariant.{Inv, IsExecutedAt}
-use Rattle.dt_agreement.proofs.Submissions.{IsKnown}
+use Rattle.dt_agreement.proofs.Submissions.{WasSubmitted}
 use Rattle.dt_agreement.proofs.Views.{view_is, fronts_longer, log_is, logs_length}
 use Rattle.dt_agreement.proofs.Logs.{id_known, logs_well_formed}
 
@@ -32,7 +32,7 @@ module _ {cluster : Cluster} {workload : Workload} {w : World} {order : List Txn
   view_well_formed region lt = well_formed_front (view_at w region) (logs_of w) (view_longer region lt) full_well_formed
 
   -- what has a part in a log was submitted
-  pub present_known : (t : TxnId) → IsPresent (logs_of w) t → IsKnown w t
+  pub present_known : (t : TxnId) → IsPresent (logs_of w) t → WasSubmitted w t
   present_known t p =
       let r : (home : ℕ) × (home < length (logs_of w)) × HasPart (log_at (logs_of w) home) t = any_at (λ log. HasPart log t) [] (logs_of w) p in
       let within : r.0 < length w.nodes = subst (λ n. r.0 < n) (logs_length w) r.1 in
@@ -47,18 +47,18 @@ module _ {cluster : Cluster} {workload : Workload} {w : World} {order : List Txn
   pub precedes_full : (region : ℕ) (u t : TxnId) → region < cluster.regions → IsClosed (view_at w region) t → Precedes (view_at w region) u t ↔ Precedes (logs_of w) u t
   precedes_full region u t lt c = preceders_stay (view_at w region) (logs_of w) (view_longer region lt) full_well_formed u t c
 
-  pub closed_known : (t : TxnId) → IsClosed (logs_of w) t → IsKnown w t
+  pub closed_known : (t : TxnId) → IsClosed (logs_of w) t → WasSubmitted w t
   closed_known t c = present_known t (present_of_complete (logs_of w) t (complete_of_closed (logs_of w) t c))
 
   -- what a region executed is closed in its view, and was submitted
   pub executed_closed : (region : ℕ) (t : TxnId) → region < cluster.regions → IsExecutedAt w region t → IsClosed (view_at w region) t
   executed_closed region t lt h = all_get (IsClosed (view_at w region)) (done_ids (node_at w region).here) (i.sound region lt).done_closed t h
 
-  pub done_known : (region : ℕ) → region < cluster.regions → AllIn (IsKnown w) (done_ids (node_at w region).here)
-  done_known region lt = all_put (IsKnown w) (done_ids (node_at w region).here) (λ t h. closed_known t (closed_full region t lt (executed_closed region t lt h)))
+  pub done_known : (region : ℕ) → region < cluster.regions → AllIn (WasSubmitted w) (done_ids (node_at w region).here)
+  done_known region lt = all_put (WasSubmitted w) (done_ids (node_at w region).here) (λ t h. closed_known t (closed_full region t lt (executed_closed region t lt h)))
 
   pub order_closed : (t : TxnId) → Has order t → IsClosed (logs_of w) t
   order_closed t h = let r : (region : ℕ) × (region < cluster.regions) × IsExecutedAt w region t = (i.ordered.executed t).0 h in closed_full r.0 t r.1 (executed_closed r.0 t r.1 r.2)
 
-  pub order_known : AllIn (IsKnown w) order
-  order_known = all_put (IsKnown w) order (λ t h. closed_known t (order_closed t h))
+  pub order_known : AllIn (WasSubmitted w) order
+  order_known = all_put (WasSubmitted w) order (λ t h. closed_known t (order_closed t h))

@@ -18,7 +18,7 @@ use Rattle.dt_session.specs.Run.{world_after, AreLegalFrom, order_of, serial_out
 use Rattle.dt_agreement.specs.LegalRun.{IsLegalRun}
 use Rattle.dt_agreement.specs.Invariant.{IsExecutedAt, IsPlaceOf, Inv}
 use Rattle.dt_agreement.specs.Reports.{IsAccounted, IsAnswered}
-use Rattle.dt_agreement.proofs.Submissions.{IsKnown}
+use Rattle.dt_agreement.proofs.Submissions.{WasSubmitted}
 use Rattle.dt_agreement.proofs.RegionViews.{order_known}
 use Rattle.dt_agreement.proofs.Runs.{run_front}
 use Rattle.dt_agreement.proofs.LegalWorlds.{legal_keeps}
@@ -29,7 +29,7 @@ use Rattle.dt_agreement.proofs.AllAgree.{order_front, answered_done}
 use Rattle.dt_agreement.proofs.AcrossMoves.{executed_outcome}
 
 -- a known id has a submission
-known_submission : (w : World) (id : TxnId) → IsKnown w id → (s : Submission) × (submission_of w id ≡ Some s)
+known_submission : (w : World) (id : TxnId) → WasSubmitted w id → (s : Submission) × (submission_of w id ≡ Some s)
 known_submission w id k = go (submission_of w id) refl k.1
   where
     go : (o : Option Submission) → submission_of w id ≡ o → option_map (λ s. s.txn) o ≡ Some k.0 → (s : Submission) × (submission_of w id ≡ Some s)
@@ -69,7 +69,7 @@ executed_accounted {cluster = cluster} {workload = workload} {events = events} r
     i = legal_keeps run
 
     s : (s : Submission) × (submission_of w id ≡ Some s)
-    s = known_submission w id (all_get (IsKnown w) (order_of events) (order_known i) id h)
+    s = known_submission w id (all_get (WasSubmitted w) (order_of events) (order_known i) id h)
 
     o : (o : Outcome) × Has (serial_outcomes cluster workload events) (id, o) × (serial_outcome cluster workload events id ≡ Some o)
     o = executed_outcome run id h

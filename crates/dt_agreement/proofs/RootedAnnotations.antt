@@ -24,7 +24,7 @@ use Rattle.dt_session.specs.World.{World, Submission, node_at, opening_table, op
 use Rattle.dt_session.specs.Step.{upcoming_id}
 use Rattle.dt_session.specs.Run.{txns_of}
 use Rattle.dt_agreement.specs.Invariant.{history_of, HasRoot, IsRooted, Rooted, Inv}
-use Rattle.dt_agreement.proofs.Submissions.{Keeps, IsKnown, txn_there, numbered, txns_same}
+use Rattle.dt_agreement.proofs.Submissions.{Keeps, WasSubmitted, txn_there, numbered, txns_same}
 use Rattle.dt_agreement.proofs.RegionViews.{closed_full, present_known, executed_closed}
 use Rattle.dt_agreement.proofs.OpeningWorld.{opening_submissions}
 use Rattle.dt_agreement.proofs.Annotations.{opening_home_stays, unmoved_at_first}
@@ -70,7 +70,7 @@ opening_rooted cluster workload = all_put _ (submissions (opening_world cluster 
 
 module _ {cluster : Cluster} {workload : Workload} {w : World} {order : List TxnId} (i : Inv cluster workload w order) where
   -- the id of a region's next submission was not submitted
-  pub next_unknown : (region : ℕ) → ¬ (IsKnown w (upcoming_id w region))
+  pub next_unknown : (region : ℕ) → ¬ (WasSubmitted w (upcoming_id w region))
   next_unknown region k =
       let r : (s : Submission) × Has (submissions w) s × (s.txn ≡ k.0) × (s.txn.id ≡ upcoming_id w region) = txn_there w (upcoming_id w region) k.0 k.1 in
       let p : (q j : ℕ) × (q < cluster.regions) × (slice_get (node_at w q).submitted j ≡ Some r.0) × (r.0.txn.id ≡ record { seq = j + 1; region = q }) = numbered cluster.regions w i.nodes i.ids r.0 r.1 in

@@ -36,7 +36,7 @@ use Rattle.dt_session.specs.Step.{IsLegal, MaySubmit, upcoming_id, submitted, pl
 use Rattle.dt_session.specs.Run.{world_after, order_of, txns_of}
 use Rattle.dt_agreement.specs.LegalRun.{IsLegalRun}
 use Rattle.dt_agreement.specs.Invariant.{history_of, HasRoot, IsRooted, Rooted, Inv}
-use Rattle.dt_agreement.proofs.Submissions.{Keeps, IsKnown, txns_stay, txns_same}
+use Rattle.dt_agreement.proofs.Submissions.{Keeps, WasSubmitted, txns_stay, txns_same}
 use Rattle.dt_agreement.proofs.RegionViews.{order_known}
 use Rattle.dt_agreement.proofs.Rule1Submit.{Submits, world_made, submits, made_logs, made_was, made_txns}
 use Rattle.dt_agreement.proofs.Rule2Append.{IsNextRequest, append_cases, logs_placed, submissions_placed, submitted_placed, placed_longer, placed_well_formed}
@@ -216,14 +216,14 @@ module _ {cluster : Cluster} {workload : Workload} (ok : IsValidCluster cluster)
   execute_roots : (w : World) (order : List TxnId) (region : ℕ) (id : TxnId) → region < cluster.regions → MayStep (received_logs w region) (node_at w region).here (Execute region id)
       → Inv cluster workload w order → Rooted cluster w order → Rooted cluster (moved_on cluster w region (Execute region id)) (cond (is_among order id) order (order ++ id ∷ []))
   execute_roots w order region id lr may i r =
-      let k : IsKnown w id = executable_known i region id lr may in
+      let k : WasSubmitted w id = executable_known i region id lr may in
       rooted_kept cluster w (moved_on cluster w region (Execute region id)) (cond (is_among order id) order (order ++ id ∷ []))
       (map_of_set (λ n. n.log) w.nodes region (record (node_at w region) { here = stepped cluster.procs (txn_of w) (node_at w region).here (Execute region id) }) no_node refl)
       (flat_map_of_set (λ n. n.submitted) w.nodes region (record (node_at w region) { here = stepped cluster.procs (txn_of w) (node_at w region).here (Execute region id) }) no_node refl)
       (field_of_set (λ n. n.submitted) w.nodes region (record (node_at w region) { here = stepped cluster.procs (txn_of w) (node_at w region).here (Execute region id) }) no_node refl)
       (go (is_among order id) k)
     where
-      go : (b : Bool) → IsKnown w id → Rooted cluster w (cond b order (order ++ id ∷ []))
+      go : (b : Bool) → WasSubmitted w id → Rooted cluster w (cond b order (order ++ id ∷ []))
       go true k = r
       go false k = more_roots i r id k.0 k.1
 

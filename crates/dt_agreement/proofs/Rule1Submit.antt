@@ -28,11 +28,12 @@ use Rattle.dt_txn.proofs.Callers.{ask_length}
 use Rattle.dt_session.specs.Step.{MayTry, MaySubmit, awaited_at, body_of, upcoming_id, next_attempt, attempt_for, node_submitted, world_submitted, called, submitted}
 use Rattle.dt_session.specs.Run.{txns_of}
 use Rattle.dt_agreement.specs.Invariant.{IsSized, AreNumbered, has_home, requests, given_by, attempts_by, IsSubmissionOf, IsWaiting, IsPlaced, IsPlaceOf, SessionsMatch, Inv}
-use Rattle.dt_agreement.proofs.InvariantParts.{Sized, Numbered, Valid, Asked, Logs, parts_kept, lengths_kept, view_kept, sound_kept, tables_kept, ordered_kept}
+use Rattle.dt_agreement.proofs.InvariantParts.{AreSized, Numbered, Valid, Asked, Logs, parts_kept, lengths_kept, view_kept, sound_kept, tables_kept, ordered_kept}
 use Rattle.dt_agreement.proofs.Submissions.{Keeps, AreUnlike, submission_is_found, at_region, from_region, unlike, submission_stays, txn_stays, txns_stay}
 use Rattle.dt_agreement.proofs.Homes.{home_of_test, test_of_home, homes_once, ask_here, ask_other}
 use Rattle.dt_agreement.proofs.Requests.{requests_append, requests_here, requests_not, numbered_more}
-use Rattle.dt_agreement.proofs.Sessions.{key_of_test, test_of_key, session_found, place_changed}
+use Rattle.dt_agreement.proofs.Sessions.{key_of_test, session_found, place_changed}
+use Rattle.dt_serial.proofs.Callers.{test_of_key}
 use Rattle.dt_agreement.proofs.RegionViews.{done_known}
 use Rattle.dt_agreement.proofs.Annotations.{txns_valid, version_stays, home_below, body_fits, annotated_valid}
 
@@ -123,7 +124,7 @@ module _ {cluster : Cluster} {workload : Workload} {w : World} {order : List Txn
   unfolding n'
   submitted_here = ap (λ n. n.submitted) node
 
-  sized : Sized cluster.regions v
+  sized : AreSized cluster.regions v
   unfolding v n'
   sized q lt = each_of_set (λ k n. IsSized cluster.regions n) w.nodes region n' no_node
       (let z : IsSized cluster.regions (node_at w region) = i.sized region lr in record {

@@ -22,7 +22,7 @@ use Rattle.dt_workload.specs.declared.Workload.{Workload}
 use Rattle.dt_session.specs.World.{World, Node, Submission, no_node, node_at, asked_of, taken_of, log_of, logs_of, received_of, view_at, submissions, txn_of}
 use Rattle.dt_session.specs.Step.{placed, next}
 use Rattle.dt_agreement.specs.Invariant.{IsSized, IsPartAt, given_by, IsLog, AreInOrder, IsExecutedAt, IsOrder, has_home, Inv}
-use Rattle.dt_agreement.proofs.InvariantParts.{Sized, Numbered, Asked, Logs, Lengths, ids_kept, valid_kept, asked_kept, parts_kept, log_kept, sound_kept, tables_kept, sessions_kept}
+use Rattle.dt_agreement.proofs.InvariantParts.{AreSized, Numbered, Asked, Logs, Lengths, ids_kept, valid_kept, asked_kept, parts_kept, log_kept, sound_kept, tables_kept, sessions_kept}
 use Rattle.dt_agreement.proofs.Submissions.{Keeps, txns_same, txn_same, txn_found, from_region}
 use Rattle.dt_agreement.proofs.Requests.{request_has}
 use Rattle.dt_agreement.proofs.Homes.{home_of_test}
@@ -98,7 +98,7 @@ module _ {cluster : Cluster} {workload : Workload} {w : World} {order : List Txn
     unfolding v n'
     nodes_now = length-set w.nodes home n' ∙ i.nodes
 
-    sized : Sized cluster.regions v
+    sized : AreSized cluster.regions v
     unfolding v n'
     sized q lt = each_of_set (λ k n. IsSized cluster.regions n) w.nodes home n' no_node
         (let s : IsSized cluster.regions (node_at w home) = i.sized home lh in

@@ -27,7 +27,7 @@ use Rattle.dt_agreement.specs.Invariant.{IsRunOf, IsExecutedAt, IsOrder, Inv}
 use Rattle.dt_agreement.proofs.InvariantParts.{Sound, Tables, lengths_kept, view_kept}
 use Rattle.dt_agreement.proofs.OneRegion as changed
 use Rattle.dt_agreement.proofs.OneRegion.{LeavesRequests}
-use Rattle.dt_agreement.proofs.Submissions.{Keeps, IsKnown, txn_id}
+use Rattle.dt_agreement.proofs.Submissions.{Keeps, WasSubmitted, txn_id}
 use Rattle.dt_agreement.proofs.RegionViews.{closed_full, closed_known, precedes_full}
 
 -- the transaction of an id at the end
@@ -193,5 +193,5 @@ module _ {cluster : Cluster} {workload : Workload} {w : World} {order : List Txn
 
 -- an executable id was submitted
 pub executable_known : {cluster : Cluster} {workload : Workload} {w : World} {order : List TxnId} → Inv cluster workload w order
-    → (region : ℕ) (id : TxnId) → region < cluster.regions → MayStep (received_logs w region) (node_at w region).here (Execute region id) → IsKnown w id
+    → (region : ℕ) (id : TxnId) → region < cluster.regions → MayStep (received_logs w region) (node_at w region).here (Execute region id) → WasSubmitted w id
 executable_known i region id lr may = closed_known i id (closed_full i region id lr may.closed)

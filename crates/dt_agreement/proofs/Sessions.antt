@@ -13,13 +13,22 @@ use Rattle.dt_session.specs.World.{Place, is_session, session_at, with_place}
 pub key_of_test : (a b : Bytes) → same_key a b ≡ true → a ≡ b
 key_of_test a b e = (bytes_decides a b).0 e
 
-pub test_of_key : (a b : Bytes) → a ≡ b → same_key a b ≡ true
-test_of_key a b e = (bytes_decides a b).1 e
-
 pub session_of_test : (region : ℕ) (name : Bytes) (s : Session) → is_session region name s ≡ true → (s.name ≡ name) × (s.region ≡ region)
 session_of_test region name s e =
     let r : (same_key s.name name ≡ true) × (eqb s.region region ≡ true) = and_parts (same_key s.name name) (eqb s.region region) e in
     (key_of_test s.name name r.0, eqb-true s.region region r.1)
+
+-- the session that is found has the name that is looked for
+pub found_is_named : (sessions : List Session) (places : List Place) (region : ℕ) (name : Bytes) (s : Session) (p : Place) → session_at sessions places region name ≡ Some (s, p) → s.name ≡ name
+found_is_named [] places region name s p e = cc
+found_is_named (t ∷ sessions) [] region name s p e = cc
+found_is_named (t ∷ sessions) (x ∷ places) region name s p e = go (cases_Bool (is_session region name t)) (found_is_named sessions places region name s p)
+  where
+    go : (is_session region name t ≡ true) ⊎ (is_session region name t ≡ false) → (session_at sessions places region name ≡ Some (s, p) → s.name ≡ name) → s.name ≡ name
+    go (inl y) f =
+        let is : ◌≡◌ {A = Option (Session × Place)} (Some (t, x)) (Some (s, p)) = rw y at e in
+        ap (λ z. z.name) (sym (some_pair_parts t s x p is).0) ∙ (session_of_test region name t y).0
+    go (inr n) f = f (rw n at e)
 
 -- the session that is found has the name and the region, and what holds of all sessions with their places holds of it
 pub session_found : (P : Session → Place → Type 0) (sessions : List Session) (places : List Place) (region : ℕ) (name : Bytes) (s : Session) (p : Place) → Pairwise P sessions places

@@ -110,8 +110,8 @@ pub txn_id : (w : World) (id : TxnId) (txn : Txn) → txn_of w id ≡ Some txn �
 txn_id w id txn e = let r : (s : Submission) × Has (submissions w) s × (s.txn ≡ txn) × (s.txn.id ≡ id) = txn_there w id txn e in ap (λ t. t.id) (sym r.2) ∙ r.3
 
 -- the id was submitted
-abbrev pub IsKnown : World → TxnId → Type 0
-IsKnown w id = (txn : Txn) × (txn_of w id ≡ Some txn)
+abbrev pub WasSubmitted : World → TxnId → Type 0
+WasSubmitted w id = (txn : Txn) × (txn_of w id ≡ Some txn)
 
 -- more submissions, among which no two have one id, leave those of ids as they were
 pub submission_stays : (w v : World) → ((region : ℕ) (s : Submission) → Has (node_at w region).submitted s → Has (node_at v region).submitted s) → AreUnlike (submissions v)
@@ -129,7 +129,7 @@ txn_stays w v stays id txn e = go (submission_of w id) refl e
     go None is e = cc
     go (Some s) is e = ap (option_map (λ x. x.txn)) (stays id s is) ∙ e
 
-pub txns_stay : (w v : World) → ((id : TxnId) (txn : Txn) → txn_of w id ≡ Some txn → txn_of v id ≡ Some txn) → (ids : List TxnId) → AllIn (IsKnown w) ids → txns_of v ids ≡ txns_of w ids
+pub txns_stay : (w v : World) → ((id : TxnId) (txn : Txn) → txn_of w id ≡ Some txn → txn_of v id ≡ Some txn) → (ids : List TxnId) → AllIn (WasSubmitted w) ids → txns_of v ids ≡ txns_of w ids
 txns_stay w v f [] a = refl
 txns_stay w v f (id ∷ ids) a = let before : txn_of w id ≡ Some a.0.0 = a.0.1 in let now : txn_of v id ≡ Some a.0.0 = f id a.0.0 a.0.1 in rw (before, now) (ap (λ l. a.0.0 ∷ l) (txns_stay w v f ids a.1))
 

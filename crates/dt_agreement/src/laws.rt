@@ -37,8 +37,8 @@ pub fn invariant_of_legal_worlds()
         Rooted cluster (world_after cluster workload events) (order_of events) }
 {}
 
-/// In every legal world all regions agree on outcomes, tables, the order of what was answered before it was submitted,
-/// the causes of failures, and, once drained of the same logs, on all rows.
+/// In every legal world all regions agree on outcomes, tables, the order of an attempt that was answered before another was
+/// submitted, the causes of failures, and, once drained of the same logs, on all rows.
 pub fn agreement()
     ensures { (cluster : Cluster) (workload : Workload) (events : List Event) →
         IsLegalRun cluster workload events →

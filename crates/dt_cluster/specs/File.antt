@@ -146,8 +146,8 @@ IsFaultOf top fault =
 abbrev pub IsCluster : Bytes → Cluster → Type 0
 IsCluster bytes cluster = (top : Members) × IsDocument bytes top × IsClusterOf top cluster
 
--- the first fault of the bytes: they are no document, or the document has this fault. That a file is too long is reported by who
--- loads it
+-- the first fault of the bytes: they are no document, or the document has this fault. That a file is too long is reported by
+-- whoever loads it
 abbrev pub IsClusterFault : Bytes → ClusterFault → Type 0
 IsClusterFault bytes fault =
     (((top : Members) → ¬ (IsDocument bytes top)) × (fault ≡ record { place = place.Whole; cause = cause.NotToml }))

@@ -26,19 +26,19 @@ use Rattle.dt_eval.proofs.SortLaws.{sort_kept}
 -- what each statement needs
 
 pub step_let : (f : Frame) (e : ExprTree) → IsSoundStep f (let_new e) → IsSorted f e
-step_let f e s = (s.2.0, subst (λ n. HasSort (map sort_of_datum f.variables.items) n e s.2.0) s.1 s.2.1)
+step_let f e s = (s.2.0, subst (λ n. HasSort (map sort_of_datum f.variables) n e s.2.0) s.1 s.2.1)
 
 pub step_set_key : (f : Frame) (k : ℕ) (e : ExprTree) → IsSoundStep f (set_row k e) → k < length f.rows.0
 step_set_key f k e s = subst (λ n. k < n) s.1 (place_within s.0 k true s.2.0)
 
 pub step_set_value : (f : Frame) (k : ℕ) (e : ExprTree) → IsSoundStep f (set_row k e) → (s : Sort) × IsStoredSort s × HasSortIn f e s
-step_set_value f k e s = (s.2.1.0, s.2.1.1, subst (λ n. HasSort (map sort_of_datum f.variables.items) n e s.2.1.0) s.1 s.2.1.2)
+step_set_value f k e s = (s.2.1.0, s.2.1.1, subst (λ n. HasSort (map sort_of_datum f.variables) n e s.2.1.0) s.1 s.2.1.2)
 
 pub step_clear_key : (f : Frame) (k : ℕ) → IsSoundStep f (clear_row k) → k < length f.rows.0
 step_clear_key f k s = subst (λ n. k < n) s.1 (place_within s.0 k true s.2.0)
 
 pub step_test : (f : Frame) (e : ExprTree) (a b : BlockTree) → IsSoundStep f (choose e a b) → HasSortIn f e sort.Bool
-step_test f e a b s = subst (λ n. HasSort (map sort_of_datum f.variables.items) n e sort.Bool) s.1 s.2.0
+step_test f e a b s = subst (λ n. HasSort (map sort_of_datum f.variables) n e sort.Bool) s.1 s.2.0
 
 pub step_first : (f : Frame) (e : ExprTree) (a b : BlockTree) → IsSoundStep f (choose e a b) → IsSoundBlock f a
 step_first f e a b s = (s.0, s.1, s.2.1)
@@ -46,8 +46,8 @@ step_first f e a b s = (s.0, s.1, s.2.1)
 pub step_second : (f : Frame) (e : ExprTree) (a b : BlockTree) → IsSoundStep f (choose e a b) → IsSoundBlock f b
 step_second f e a b s = (s.0, s.1, s.2.2)
 
-pub step_gifts : (f : Frame) (gs : List GiveTree) → IsSoundStep f (give_all gs) → AllIn (IsSoundGift (map sort_of_datum f.variables.items) (length f.rows.0)) gs
-step_gifts f gs s = subst (λ n. AllIn (IsSoundGift (map sort_of_datum f.variables.items) n) gs) s.1 s.2.0
+pub step_gifts : (f : Frame) (gs : List GiveTree) → IsSoundStep f (give_all gs) → AllIn (IsSoundGift (map sort_of_datum f.variables) (length f.rows.0)) gs
+step_gifts f gs s = subst (λ n. AllIn (IsSoundGift (map sort_of_datum f.variables) n) gs) s.1 s.2.0
 
 -- the first statement of sound ones is sound
 head_sound : (variables : List Sort) (writes : List Bool) (st : StmtTree) (rest : BlockTree) → AreSound variables writes (then st rest) → AreSound variables writes (then st done)
@@ -59,7 +59,7 @@ head_sound variables writes (abort_with t) rest s = (s.0, tt)
 head_sound variables writes (give_all gs) rest s = (s.0, tt)
 
 pub block_head : (f : Frame) (st : StmtTree) (rest : BlockTree) → IsSoundBlock f (then st rest) → IsSoundStep f st
-block_head f st rest s = (s.0, s.1, head_sound (map sort_of_datum f.variables.items) s.0 st rest s.2)
+block_head f st rest s = (s.0, s.1, head_sound (map sort_of_datum f.variables) s.0 st rest s.2)
 
 -- what a run leads to
 

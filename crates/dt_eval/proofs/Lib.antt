@@ -2,10 +2,14 @@ pub mod Agreement
 pub mod CallLaws
 pub mod Callers
 pub mod FrameLaws
+pub mod KeyFronts
 pub mod KeyLaws
+pub mod NumberLaws
 pub mod OperandLaws
 pub mod RowLaws
+pub mod RowParts
 pub mod RowPlaces
 pub mod RunStart
 pub mod SortLaws
 pub mod TextLaws
+pub mod VariableLaws

@@ -1,21 +1,15 @@
--- A run before its first statement: the places of its keys, and that its statements are sound.
-use Rattle.std.proofs.Common.{◌≡◌, ◌<◌, ◌+◌, cond, ℕ, suc, Bool, true, false, List, [], ◌∷◌, ◌++◌, map, length, get_or, drop, add-one, append_assoc}
-use Rattle.std.proofs.Common.{Some, refl, sym, ap, ap₂, subst, ◌∙◌, inl, inr}
-use Rattle.std.specs.Prelude.{Option, None}
-use Rattle.std.specs.List.{position, position_from}
-use Rattle.std.proofs.lemmas.Iterator.Adapters.{position_from-zero}
-use Rattle.std.proofs.lemmas.Option.{none-some}
-use Rattle.std.specs.Cmp.Lexicographic.{bytes_decides}
-use Rattle.std.proofs.lemmas.Bool.{true≢false}
-use Rattle.std.proofs.lemmas.List.{get_or-map, length-map, map-append}
+-- A run before its first statement: its keys are read, its rows have places, and its statements are sound.
+use Rattle.std.proofs.Common.{◌≡◌, ◌<◌, ◌+◌, ℕ, suc, List, [], ◌∷◌, ◌++◌, map, length, get_or, drop, add-one, append_assoc}
+use Rattle.std.proofs.Common.{refl, sym, ap, ap₂, subst, ◌∙◌, inl, inr}
+use Rattle.std.specs.Prelude.{Option}
+use Rattle.std.proofs.lemmas.List.{length-map, map-append}
 use Rattle.std.proofs.Math.Seq.{drop-cons}
 use Rattle.dt_lists.proofs.Callers.{all_more}
-use Rattle.std.proofs.lemmas.List.Quantifiers.{position-Some}
 use Rattle.dt_lists.specs.Lists.{AnyIn, AllIn, Has, EachThen, Pairwise}
-use Rattle.dt_lists.proofs.Callers.{any_map, any_image, any_of_image, all_put, each_image}
+use Rattle.dt_lists.proofs.Callers.{any_image, any_of_image, all_put, each_image}
 use Rattle.dt_text.specs.declared.Value.{Value}
 use Rattle.dt_text.specs.declared.Value.TheVariants as val
-use Rattle.dt_access.specs.Clash.{Bytes, same_key}
+use Rattle.dt_access.specs.Clash.{Bytes}
 use Rattle.dt_access.specs.Orders.{KeyBefore}
 use Rattle.dt_access.specs.declared.Mode.{Mode}
 use Rattle.dt_proc.specs.declared.tree.KeyDecl.{KeyDecl}
@@ -31,29 +25,6 @@ use Rattle.dt_eval.specs.Keys.{key_text, keys_of, names_given, names_of, use_of}
 use Rattle.dt_eval.specs.Meaning.{Fits, IsOfKind, unchanged}
 use Rattle.dt_eval.proofs.KeyLaws.{keys_ascend, keys_there}
 use Rattle.dt_eval.proofs.RowLaws.{opening_keys}
-
--- the place of a key
-
-from_none : {A : Type 0} (t : A → Bool) (i : ℕ) (xs : List A) → position_from t i xs ≡ None → AnyIn (λ x. t x ≡ true) xs → ⊥
-from_none t i [] e any = any
-from_none t i (x ∷ xs) e any = go (t x) refl e any (from_none t (i + 1) xs)
-  where
-    go : (b : Bool) → t x ≡ b → cond b (Some i) (position_from t (i + 1) xs) ≡ None → AnyIn (λ x. t x ≡ true) (x ∷ xs) → (position_from t (i + 1) xs ≡ None → AnyIn (λ x. t x ≡ true) xs → ⊥) → ⊥
-    go true is e any later = none-some i (sym e)
-    go false is e (inl same) later = true≢false (sym same ∙ is)
-    go false is e (inr any) later = later e any
-
--- a key that is read has a place
-pub place_some : (reads : List (Bytes × Option Value)) (name : Bytes) → AnyIn (λ r. r.0 ≡ name) reads → position (λ r. same_key r.0 name) reads ≡ None → ⊥
-place_some reads name any e =
-    from_none (λ r. same_key r.0 name) 0 reads (sym (position_from-zero (λ r. same_key r.0 name) reads) ∙ e) (any_map _ _ reads (λ r h. (bytes_decides r.0 name).1 h) any)
-
--- the read at that place is of the key
-pub place_there : (reads : List (Bytes × Option Value)) (name : Bytes) (i : ℕ) → position (λ r. same_key r.0 name) reads ≡ Some i → (i < length reads) × (get_or (map (λ (r : Bytes × Option Value). r.0) reads) i [] ≡ name)
-place_there reads name i e =
-    let d : Bytes × Option Value = ([], None) in
-    let r = position-Some (λ (r : Bytes × Option Value). same_key r.0 name) reads i d e in
-    (r.0, get_or-map (λ (r : Bytes × Option Value). r.0) reads i d [] r.0 ∙ (bytes_decides (get_or reads i d).0 name).0 r.1)
 
 -- the keys of declarations are read, where the reads are of the keys of the call
 
@@ -101,7 +72,7 @@ opening_sorts (kind.Int ∷ params) (val.Text t ∷ args) f = absurd f.0
 opening_sorts (kind.Text ∷ params) (val.Int z ∷ args) f = absurd f.0
 opening_sorts (kind.Text ∷ params) (val.Text t ∷ args) f = ap₂ ◌∷◌ refl (opening_sorts params args f.1)
 
-pub opening_sound : (proc : ProcTree) (args : List Value) (f : Frame) → IsSoundProc proc → Fits proc args → f.variables.items ≡ map datum_of args → f.rows.0 ≡ names_of proc args → IsSoundBlock f proc.body
+pub opening_sound : (proc : ProcTree) (args : List Value) (f : Frame) → IsSoundProc proc → Fits proc args → f.variables ≡ map datum_of args → f.rows.0 ≡ names_of proc args → IsSoundBlock f proc.body
 opening_sound proc args f sound fits vs names = (
   map (λ (d : KeyDecl). d.write) proc.keys,
   length-map proc.keys (λ (d : KeyDecl). d.write) ∙ sym (length-map proc.keys (λ (d : KeyDecl). key_text args d.items)) ∙ ap length (sym names),

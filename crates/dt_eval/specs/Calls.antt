@@ -1,5 +1,5 @@
 -- Calls, which name their procedure by its number in a list of procedures. What a call needs before it may run, which
--- keys it uses, and how it ends; the parts of each are said by Keys and Meaning. Transactions (dt_txn) speak of calls in
+-- keys it uses, and how it ends; the parts of each are stated in Keys and Meaning. Transactions (dt_txn) speak of calls in
 -- these words alone. Read next: Keys and Meaning.
 use Rattle.std.specs.Prelude.{◌≡◌, ℕ, List, [], slice_get, Option, Some, None}
 use Rattle.dt_text.specs.declared.Value.{Value}

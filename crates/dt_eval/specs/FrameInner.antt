@@ -36,11 +36,11 @@ EvalAnswers told_in (Err NoMemory) = Unit {0}
 
 -- the state that a frame stands for
 abbrev pub seen : Frame → RunState
-seen f = record { variables = f.variables.items; rows = f.rows.1; given = f.given }
+seen f = record { variables = f.variables; rows = f.rows.1; given = f.given }
 
 -- an expression has this sort in a frame
 abbrev pub HasSortIn : Frame → ExprTree → Sort → Type 0
-HasSortIn f e s = HasSort (map sort_of_datum f.variables.items) (length f.rows.0) e s
+HasSortIn f e s = HasSort (map sort_of_datum f.variables) (length f.rows.0) e s
 
 -- an expression has some sort in a frame
 abbrev pub IsSorted : Frame → ExprTree → Type 0
@@ -57,7 +57,7 @@ GivesSort s (Err c) = Unit {0}
 
 -- statements fit where a frame stands, some of its keys being for writing
 abbrev pub IsSoundBlock : Frame → BlockTree → Type 0
-IsSoundBlock f b = (writes : List Bool) × (length writes ≡ length f.rows.0) × AreSound (map sort_of_datum f.variables.items) writes b
+IsSoundBlock f b = (writes : List Bool) × (length writes ≡ length f.rows.0) × AreSound (map sort_of_datum f.variables) writes b
 
 -- a statement fits where a frame stands
 abbrev pub IsSoundStep : Frame → StmtTree → Type 0

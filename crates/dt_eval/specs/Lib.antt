@@ -6,4 +6,5 @@ pub mod FrameInner
 pub mod Keys
 pub mod Laws
 pub mod Meaning
+pub mod RowsInner
 pub mod Statements

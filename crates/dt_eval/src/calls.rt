@@ -1,19 +1,16 @@
-ghost use Rattle.std.specs.Prelude.{◌≡◌, ◌<◌, ◌↔◌, IsTrue, IfOk, length, map, slice_index_or, []};
+ghost use Rattle.std.specs.Prelude.{◌≡◌, ◌↔◌, IsTrue, IfOk, length, map};
 ghost use Rattle.dt_lists.specs.Lists.{AllIn, AnyIn, EachThen, Pairwise};
-ghost use Rattle.std.specs.List.{position};
-ghost use Rattle.dt_access.specs.Clash.{same_key};
 ghost use Rattle.dt_proc.specs.Sound.{IsSoundProc};
-ghost use Rattle.dt_eval.specs.Data.{datum_of};
 ghost use Rattle.dt_eval.specs.FrameInner.{ArePlaces, IsItemWithin};
 ghost use Rattle.dt_eval.specs.Keys.{HasKeys, keys_of, names_given, names_of};
 ghost use Rattle.dt_eval.specs.Meaning.{Fits, IsOfKind, meaning, unchanged};
 
 use crate::finish::{Finish, Reads, Values};
 use crate::frame::Frame;
-use crate::keys::key_text;
+use crate::places::place_of;
 use crate::rows::Rows;
-use crate::state::{Datum, Row};
 use crate::stop::Stop;
+use crate::variables::Variables;
 use dt_access::TryCopy;
 use dt_proc::{KeyDecl, Kind, Proc};
 use dt_text::{Key, NoMemory, Value};
@@ -78,7 +75,7 @@ pub fn run_owned(
     ensures { IfOk result (λ finish. finish ≡ meaning body.now args.now reads) }
 {
     let mut frame = Frame {
-        variables: variables(alloc, args)?,
+        variables: Variables::of(alloc, args),
         rows: rows(alloc, body, args, reads)?,
         given: Values::new(alloc),
     };
@@ -92,27 +89,6 @@ pub fn run_owned(
     }
 }
 
-/// The variables of the parameters.
-fn variables(alloc: Global, args: &[Value]) -> Result<Vec<Datum>, NoMemory>
-    ensures { IfOk result (λ variables. variables.items ≡ map datum_of args.now) }
-{
-    let mut variables = Vec::new(alloc);
-    for value in args {
-        variables.push(datum_of(alloc, value)?)?;
-    }
-    Ok(variables)
-}
-
-/// A value, as an expression gives it.
-fn datum_of(alloc: Global, value: &Value) -> Result<Datum, NoMemory>
-    ensures { IfOk result (λ datum. datum ≡ datum_of value.now) }
-{
-    match value {
-        Value::Int(number) => Ok(Datum::Int(*number)),
-        Value::Text(text) => Ok(Datum::Text(text.copy(alloc)?)),
-    }
-}
-
 /// The rows of a run before its first statement.
 fn rows(alloc: Global, body: &Proc, args: &[Value], reads: Reads) -> Result<Rows, NoMemory>
     requires fits { Fits body.now args.now }
@@ -121,25 +97,7 @@ fn rows(alloc: Global, body: &Proc, args: &[Value], reads: Reads) -> Result<Rows
 {
     let declarations = body.keys();
     let places = places(alloc, declarations, args, reads.as_slice())?;
-    let items = unchanged_rows(alloc, reads)?;
-    Ok(Rows::new(items, places))
-}
-
-/// The rows as they are read.
-fn unchanged_rows(alloc: Global, reads: Reads) -> Result<Vec<Row>, NoMemory>
-    ensures { IfOk result (λ rows. rows.items ≡ map unchanged reads) }
-{
-    Ok(
-        reads
-            .into_vec()
-            .into_iter()
-            .map(|(key, value)| Row {
-                key,
-                value,
-                changed: false,
-            })
-            .collect(alloc)?,
-    )
+    Rows::new(alloc, reads.into_vec(), places)
 }
 
 /// For each declaration the place of its key among the reads.
@@ -153,29 +111,9 @@ fn places(
     requires read { AllIn (λ name. AnyIn (λ r. r.0 ≡ name) reads.now) (names_given args.now declarations.now) }
     ensures { IfOk result (λ places. ArePlaces (names_given args.now declarations.now) (map (λ r. r.0) reads.now) places.items) }
 {
-    let mut places = Vec::new(alloc);
+    let mut places = Vec::with_capacity(alloc, declarations.len())?;
     for declared in declarations {
-        let text = key_text(alloc, declared.items.as_slice(), args)?;
-        places.push(place_of(reads, text.as_slice()))?;
+        places.push(place_of(reads, declared.items.as_slice(), args))?;
     }
     Ok(places)
-}
-
-/// The place of the read of this key, which is there.
-fn place_of(reads: &[(Key, Option<Value>)], name: &[u8]) -> usize
-    requires { AnyIn (λ r. r.0 ≡ name.now) reads.now }
-    ensures below { result < length reads.now }
-    ensures there { slice_index_or (map (λ r. r.0) reads.now) result [] ≡ name.now }
-{
-    let Some(place) = place_in(reads, name) else {
-        unreachable!();
-    };
-    place
-}
-
-/// The place of the first read of this key, if there is one.
-fn place_in(reads: &[(Key, Option<Value>)], name: &[u8]) -> Option<usize>
-    ensures { result ≡ position (λ r. same_key r.0 name.now) reads.now }
-{
-    reads.iter().position(|read| read.0.bytes() == name)
 }

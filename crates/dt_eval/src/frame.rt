@@ -1,36 +1,39 @@
-ghost use Rattle.std.specs.Prelude.{◌≡◌, ◌<◌, length, map, IfOk, OnOk, option_copied};
+ghost use Rattle.std.specs.Prelude.{◌≡◌, ◌<◌, length, map, Ok, IfOk, OnOk, IfSome, option_copied};
 ghost use Rattle.dt_lists.specs.Lists.{AllIn};
 ghost use Rattle.dt_proc.specs.declared.tree.Sort.{Sort};
 ghost use Rattle.dt_proc.specs.TreeViews.{block_tree, expr_tree, give_tree, stmt_tree};
 ghost use Rattle.dt_proc.specs.Sound.{IsSoundGift, IsStoredSort};
-ghost use Rattle.dt_proc.specs.Tree.{choose, let_new, set_row};
+ghost use Rattle.dt_proc.specs.Tree.{binary, choose, let_new, set_row};
 ghost use Rattle.dt_eval.specs.Data.{sort_of_datum};
+ghost use Rattle.dt_eval.specs.declared.state.Datum.TheVariants.{Int};
 ghost use Rattle.dt_eval.specs.FrameInner.{EvalAnswers, HasSortIn, IsSorted, IsSoundBlock, IsSoundStep, RunReaches, seen, told_in};
 ghost use Rattle.dt_eval.specs.Statements.{after_block, after_gifts, after_step, gift_value};
 
 use crate::finish::{Cause, Values};
 use crate::operators::{
-    byte_count, decides, negated, number_in, operate, opposite, printed, stored, text_in, truth_of,
+    byte_count, decides, negated, number_at, number_in, of_numbers, operate, opposite, printed,
+    stored, text_in, truth_of,
 };
 use crate::rows::Rows;
 use crate::state::Datum;
 use crate::stop::Stop;
-use dt_proc::{Expr, Give, Stmt, Stmts};
+use crate::variables::Variables;
+use dt_proc::{Expr, Give, Op, Stmt, Stmts};
 use dt_text::{NoMemory, Value};
 use std::alloc::Global;
 
 /// What a run knows between two statements.
 #[derive(Drop)]
-pub(crate) struct Frame {
+pub(crate) struct Frame<'a> {
     /// The parameters, and the lets that are visible.
-    pub(crate) variables: Vec<Datum>,
+    pub(crate) variables: Variables<'a>,
     /// The rows of its keys.
     pub(crate) rows: Rows,
     /// The values given so far.
     pub(crate) given: Values,
 }
 
-impl Frame {
+impl Frame<'_> {
     /// What an expression gives. Operands are evaluated from the left, and the right one only where the left one does not
     /// decide.
     pub(crate) fn value_of(&self, alloc: Global, expr: &Expr) -> Result<Datum, Stop>
@@ -42,7 +45,7 @@ impl Frame {
             Expr::Int(number) => Ok(Datum::Int(*number)),
             Expr::Text(text) => Ok(Datum::Text(text.get().copy(alloc)?)),
             Expr::Bool(truth) => Ok(Datum::Bool(*truth)),
-            Expr::Var(variable) => Ok(self.variables[*variable as usize].copy(alloc)?),
+            Expr::Var(variable) => Ok(self.variables.datum(alloc, *variable)?),
             Expr::IntOf(key) => number_in(self.rows.value(*key)),
             Expr::TextOf(key) => text_in(alloc, self.rows.value(*key)),
             Expr::Has(key) => Ok(Datum::Bool(self.rows.value(*key).is_some())),
@@ -51,6 +54,9 @@ impl Frame {
             Expr::Neg(number) => Ok(negated(self.value_of(alloc, number)?)?),
             Expr::Not(truth) => Ok(opposite(self.value_of(alloc, truth)?)),
             Expr::Binary(op, left, right) => {
+                if let Some(given) = self.of_known(*op, left, right) {
+                    return Ok(given?);
+                }
                 let left = self.value_of(alloc, left)?;
                 if decides(*op, &left) {
                     return Ok(left);
@@ -58,6 +64,30 @@ impl Frame {
                 let right = self.value_of(alloc, right)?;
                 operate(alloc, *op, left, right)
             }
+        }
+    }
+
+    /// What an operator gives, if both operands are numbers that stand somewhere.
+    #[tactic(auto, using(crate::proofs::NumberLaws::binary_numbers, crate::proofs::NumberLaws::takes_numbers))]
+    fn of_known(&self, op: Op, left: &Expr, right: &Expr) -> Option<Result<Datum, Cause>>
+        requires { IsSorted self.now (binary op (expr_tree left.now) (expr_tree right.now)) }
+        ensures { IfSome result (λ given. told_in self.now (binary op (expr_tree left.now) (expr_tree right.now)) ≡ given) }
+    {
+        let left = self.known(left)?;
+        let right = self.known(right)?;
+        Some(of_numbers(op, left, right))
+    }
+
+    /// The number that an expression gives, if it is one that stands there, or in a variable or a row.
+    fn known(&self, expr: &Expr) -> Option<i64>
+        requires { IsSorted self.now (expr_tree expr.now) }
+        ensures { IfSome result (λ number. told_in self.now (expr_tree expr.now) ≡ Ok (Int number)) }
+    {
+        match expr {
+            Expr::Int(number) => Some(*number),
+            Expr::Var(variable) => self.variables.number(*variable),
+            Expr::IntOf(key) => number_at(self.rows.value(*key)),
+            _ => None,
         }
     }
 
@@ -143,7 +173,7 @@ impl Frame {
 
     /// Adds the values of the items to the result, in order.
     fn give(&mut self, alloc: Global, items: &[Give]) -> Result<(), Stop>
-        requires { AllIn (IsSoundGift (map sort_of_datum self.old.variables.items) (length self.old.rows.0)) (map give_tree items.now) }
+        requires { AllIn (IsSoundGift (map sort_of_datum self.old.variables) (length self.old.rows.0)) (map give_tree items.now) }
         ensures answer { RunReaches (after_gifts self.old.rows.0 (map give_tree items.now) (seen self.old)) self.new result }
         ensures names { OnOk result (self.new.rows.0 ≡ self.old.rows.0) }
     {
@@ -157,7 +187,7 @@ impl Frame {
 
     /// What an item adds to the result.
     fn gift(&self, alloc: Global, item: &Give) -> Result<Option<Value>, Stop>
-        requires { IsSoundGift (map sort_of_datum self.now.variables.items) (length self.now.rows.0) (give_tree item.now) }
+        requires { IsSoundGift (map sort_of_datum self.now.variables) (length self.now.rows.0) (give_tree item.now) }
         ensures { EvalAnswers (gift_value self.now.rows.0 (give_tree item.now) (seen self.now)) result }
     {
         match item {

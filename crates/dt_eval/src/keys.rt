@@ -81,11 +81,7 @@ fn use_of(
 }
 
 /// What a key expression gives.
-pub(crate) fn key_text(
-    alloc: Global,
-    items: &[KeyItem],
-    args: &[Value],
-) -> Result<Vec<u8>, NoMemory>
+fn key_text(alloc: Global, items: &[KeyItem], args: &[Value]) -> Result<Vec<u8>, NoMemory>
     requires { AllIn (IsItemWithin (length args.now)) items.now }
     ensures { IfOk result (λ text. text.items ≡ key_text args.now items.now) }
 {

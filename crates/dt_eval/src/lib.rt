@@ -12,9 +12,11 @@ mod frame;
 mod keys;
 mod laws;
 mod operators;
+mod places;
 mod rows;
 mod state;
 mod stop;
+mod variables;
 
 pub use calls::{fits, run, run_owned};
 pub use finish::{Args, Cause, Finish, Reads, Values};

@@ -1,4 +1,4 @@
-ghost use Rattle.std.specs.Prelude.{◌≡◌, ◌++◌, Some, Ok, IfOk, option_copied};
+ghost use Rattle.std.specs.Prelude.{◌≡◌, ◌++◌, Some, Ok, IfOk, IfSome, option_copied};
 ghost use Rattle.std.specs.Fmt.{signed_decimal};
 ghost use Rattle.dt_text.specs.Texts.{IsStr};
 ghost use Rattle.dt_proc.specs.declared.tree.Sort.TheVariants as sort;
@@ -25,6 +25,16 @@ pub(crate) fn number_in(value: Option<&Value>) -> Result<Datum, Stop>
     }
 }
 
+/// The number in a row, if there is one.
+pub(crate) fn number_at(value: Option<&Value>) -> Option<i64>
+    ensures { IfSome result (λ number. spec.number_in (option_copied value.entry) ≡ Ok (Int number)) }
+{
+    match value {
+        Some(Value::Int(number)) => Some(*number),
+        _ => None,
+    }
+}
+
 /// The text in a row.
 pub(crate) fn text_in(alloc: Global, value: Option<&Value>) -> Result<Datum, Stop>
     ensures { EvalAnswers (spec.text_in (option_copied value.entry)) result }
@@ -36,7 +46,7 @@ pub(crate) fn text_in(alloc: Global, value: Option<&Value>) -> Result<Datum, Sto
 }
 
 /// The number that an expression gave.
-fn number_of(datum: Datum) -> i64
+fn given_number(datum: Datum) -> i64
     requires { sort_of_datum datum ≡ sort.Int }
     ensures { datum ≡ Int result }
 {
@@ -86,7 +96,7 @@ pub(crate) fn printed(alloc: Global, datum: Datum) -> Result<Datum, Stop>
     requires { sort_of_datum datum ≡ sort.Int }
     ensures { EvalAnswers (spec.printed_datum datum) result }
 {
-    let bytes = digits_of(alloc, number_of(datum))?;
+    let bytes = digits_of(alloc, given_number(datum))?;
     Ok(Datum::Text(Str::new(alloc, bytes.as_slice())?))
 }
 
@@ -105,7 +115,7 @@ pub(crate) fn negated(datum: Datum) -> Result<Datum, Cause>
     requires { sort_of_datum datum ≡ sort.Int }
     ensures { result ≡ spec.negated datum }
 {
-    in_range(number_of(datum).checked_neg())
+    in_range(given_number(datum).checked_neg())
 }
 
 /// The other truth.
@@ -151,7 +161,7 @@ pub(crate) fn operate(alloc: Global, op: Op, left: Datum, right: Datum) -> Resul
 }
 
 /// What an operator gives of two numbers.
-fn of_numbers(op: Op, left: i64, right: i64) -> Result<Datum, Cause>
+pub(crate) fn of_numbers(op: Op, left: i64, right: i64) -> Result<Datum, Cause>
     requires { TakesSort op sort.Int }
     ensures { result ≡ spec.of_numbers op left right }
 {

@@ -3,9 +3,10 @@ ghost use Rattle.dt_lists.specs.Lists.{AllIn, EachThen};
 ghost use Rattle.dt_access.specs.Orders.{KeyBefore};
 ghost use Rattle.dt_eval.specs.Data.{declared_key, value_in, with_value};
 ghost use Rattle.dt_eval.specs.Data.{names_at, keys_in};
-ghost use Rattle.dt_eval.specs.Meaning.{writes_of};
+ghost use Rattle.dt_eval.specs.Meaning.{unchanged, writes_of};
+ghost use Rattle.dt_eval.specs.RowsInner.{rows_in};
+ghost use Rattle.std.specs.List.{list_all};
 
-use crate::state::Row;
 use dt_access::Writes;
 use dt_text::{Key, NoMemory, Value};
 use std::alloc::Global;
@@ -15,33 +16,45 @@ use std::marker::Model;
 /// the rows.
 #[derive(Drop)]
 pub(crate) struct Rows {
-    items: Vec<Row>,
+    items: Vec<(Key, Option<Value>)>,
+    changed: Vec<bool>,
     places: Vec<usize>,
 }
 
 impl Model for Rows {
-    ghost use Rattle.std.specs.Prelude.{List, ℕ, ◌<◌, length};
+    ghost use Rattle.std.specs.Prelude.{◌≡◌, List, ℕ, ◌<◌, length};
     ghost use Rattle.dt_lists.specs.Lists.{AllIn, EachThen};
     ghost use Rattle.dt_access.specs.Orders.{KeyBefore};
     ghost use Rattle.dt_eval.specs.declared.state.Row.{Row};
     ghost use Rattle.dt_eval.specs.Data.{names_at, keys_in};
+    ghost use Rattle.dt_eval.specs.RowsInner.{rows_in};
 
     ghost Value = { List (List ℕ) × List Row };
 
-    ghost view = { λ r. (names_at r.places.items r.items.items, r.items.items) };
+    ghost view = { λ r. (names_at r.places.items (rows_in r.items.items r.changed.items), rows_in r.items.items r.changed.items) };
 
-    ghost invariant = { λ r. AllIn (λ p. p < length r.items.items) r.places.items
-        × EachThen KeyBefore (keys_in r.items.items) };
+    ghost invariant = { λ r. (length r.changed.items ≡ length r.items.items)
+        × AllIn (λ p. p < length (rows_in r.items.items r.changed.items)) r.places.items
+        × EachThen KeyBefore (keys_in (rows_in r.items.items r.changed.items)) };
 }
 
 impl Rows {
-    /// These rows, the declarations being of the keys at these places. Takes no memory.
-    pub(crate) fn new(items: Vec<Row>, places: Vec<usize>) -> Self
-        requires places { AllIn (λ p. p < length items.items) places.items }
-        requires keys { EachThen KeyBefore (keys_in items.items) }
-        ensures { result ≡ (names_at places.items items.items, items.items) }
+    /// These rows as they are read, the declarations being of the keys at these places.
+    pub(crate) fn new(
+        alloc: Global,
+        items: Vec<(Key, Option<Value>)>,
+        places: Vec<usize>,
+    ) -> Result<Self, NoMemory>
+        requires places { AllIn (λ p. p < length (map unchanged items.items)) places.items }
+        requires keys { EachThen KeyBefore (keys_in (map unchanged items.items)) }
+        ensures { IfOk result (λ rows. rows ≡ (names_at places.items (map unchanged items.items), map unchanged items.items)) }
     {
-        Rows { items, places }
+        let changed = vec![in alloc; false; items.len()]?;
+        Ok(Rows {
+            items,
+            changed,
+            places,
+        })
     }
 
     /// The value of the row of the key that the declaration of this number gives, if it has one. Takes no memory.
@@ -49,7 +62,7 @@ impl Rows {
         requires { key < length self.now.0 }
         ensures { option_copied result ≡ value_in self.now.1 (declared_key self.now.0 key) }
     {
-        self.items[self.places[key as usize]].value.as_ref()
+        self.items[self.places[key as usize]].1.as_ref()
     }
 
     /// Gives the row of the key that the declaration of this number gives a value, or none. Takes no memory.
@@ -57,30 +70,44 @@ impl Rows {
         requires { key < length self.old.0 }
         ensures { self.new ≡ (self.old.0, with_value (declared_key self.old.0 key) value self.old.1) }
     {
-        let row = &mut self.items[self.places[key as usize]];
-        row.value = value;
-        row.changed = true;
+        let place = self.places[key as usize];
+        self.items[place].1 = value;
+        self.changed[place] = true;
     }
 
     /// The rows that were set or cleared, each with its last value or none, in order of keys.
-    #[tactic(auto, using(crate::proofs::RowLaws::writes_distinct))]
     pub(crate) fn into_writes(self, alloc: Global) -> Result<Writes, NoMemory>
         ensures { IfOk result (λ writes. writes ≡ writes_of self.1) }
     {
-        let Rows { items, .. } = self;
-        Ok(Writes::from_vec(changed_rows(alloc, items)?))
+        let Rows { items, changed, .. } = self;
+        Ok(Writes::from_vec(changed_rows(alloc, items, changed.as_slice())?))
     }
 }
 
-/// The keys and values of the rows that were set or cleared, in order.
-fn changed_rows(alloc: Global, items: Vec<Row>) -> Result<Vec<(Key, Option<Value>)>, NoMemory>
-    ensures { IfOk result (λ writes. writes.items ≡ writes_of items.items) }
+/// The keys and values of the rows that were set or cleared, in order. Takes no memory where all were.
+fn changed_rows(
+    alloc: Global,
+    items: Vec<(Key, Option<Value>)>,
+    changed: &[bool],
+) -> Result<Vec<(Key, Option<Value>)>, NoMemory>
+    requires { length changed.now ≡ length items.items }
+    ensures { IfOk result (λ writes. writes.items ≡ writes_of (rows_in items.items changed.now)) }
 {
+    if are_all(changed) {
+        return Ok(items);
+    }
     let mut writes = Vec::new(alloc);
-    for row in items {
-        if row.changed {
-            writes.push((row.key, row.value))?;
+    for (changed, row) in changed.iter().zip(items) {
+        if *changed {
+            writes.push(row)?;
         }
     }
     Ok(writes)
+}
+
+/// Whether each of these holds.
+fn are_all(tests: &[bool]) -> bool
+    ensures { result ≡ list_all (λ test. test) tests.now }
+{
+    tests.iter().all(|test| *test)
 }

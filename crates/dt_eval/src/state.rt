@@ -27,7 +27,7 @@ impl Datum {
     }
 }
 
-/// The row of a key in a run.
+/// The row of a key in a run, as contracts see it.
 #[derive(Drop)]
 pub(crate) struct Row {
     /// The key.

@@ -1,5 +1,5 @@
 -- Events as text: the words of an event's line, and the lines that are events. An event is one atomic step of one region,
--- and a file of events is a whole run, which can be sent, kept and played again. How lines and words are cut is said in
+-- and a file of events is a whole run, which can be sent, kept and played again. How lines and words are cut is stated in
 -- dt_text. Read next: Laws, why text and events are as good as each other; and `Step` of dt_session, for what each kind
 -- of step does.
 use Rattle.std.specs.Prelude.{◌≡◌, ℕ, ◌<◌, ◌≤◌, ◌^◌, ◌⊎◌, List, [], ◌∷◌, ◌++◌, length, map, codes, Option, Some, None}

@@ -1,7 +1,7 @@
 //! Events: the atomic steps of regions, and their text.
 //!
 //! Read next: `specs/Events.antt`, how each kind of event is written and what a file of events is, and `specs/Stamps.antt`, how
-//! a region numbers its events. When an event may happen, and what it does, is said in `dt_session`.
+//! a region numbers its events. When an event may happen, and what it does, is stated in `dt_session`.
 #![tactic(auto)]
 
 mod event;

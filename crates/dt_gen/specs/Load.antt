@@ -29,7 +29,7 @@ account_numbers = range_with_len 0 100
 abbrev pub account_row : ℕ → Bytes × Value
 account_row q = (account q, Int (pos 1000))
 
--- the cluster: four regions, in which every fifth packet is lost and of the others every seventh comes twice, the built-in
+-- the cluster: four regions, in which every fifth packet is lost and every seventh comes twice, unless it is lost; the built-in
 -- procedures, and the rows of the accounts
 abbrev pub load_cluster : Cluster
 load_cluster = record {

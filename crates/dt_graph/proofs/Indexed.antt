@@ -60,7 +60,7 @@ pub settled : {A E P : Type 0} (r : Result A E) → IsOk r → IfOk r (λ _. P) 
 settled (Ok a) o h = h
 settled (Err e) o h = cc
 
--- the tests of ids and of numbers tell
+-- the tests of ids and of numbers tell them apart
 pub tells_id : Tells same_id
 tells_id = record { of_test = id_of_test; of_self = λ x. test_of_id x x refl }
 

@@ -1,9 +1,9 @@
-//! The scheduler with queues: it decides what may be executed and resolved from what is left in the graph, and from that
-//! alone which waits.
+//! The scheduler with queues: it decides from what is left in the graph, and from nothing else, what may be executed and
+//! resolved.
 //!
 //! Once all that reaches a transaction is done, it is out: nothing waits for it, and no answer reads it any more. Of the
 //! others, each use of a row stands in a queue (the crate dt_queue), and a transaction waits for the neighbours of its entries;
-//! its degree counts them. Why that is enough is a matter of the crate dt_waits, whose words the contracts here use. So
+//! its degree counts them. Why that is enough is shown in the crate dt_waits, whose words the contracts here use. So
 //!
 //! - one that is complete, in no resolved class and of degree 0 is executable: it is kept in a set of those that are ready;
 //! - one that is complete, in no resolved class and of a higher degree is stuck, until its neighbours are done, or until a

@@ -1,25 +1,15 @@
--- What is counted from a place on: the statement there, with those within it, and the others; and the procedures of which
--- some is long.
-use Rattle.std.proofs.Common.{◌≡◌, ◌<◌, ◌+◌, ℕ, zero, suc, drop, get_or, add-one, List, [], ◌∷◌, length, sym, ap, subst, ◌∙◌, inl, inr}
+-- How many outermost statements a body has; and the procedures from a place on, of which some is long.
+use Rattle.std.proofs.Common.{◌≡◌, ◌+◌, ℕ, zero, suc, drop, add-one, List, [], ◌∷◌, length, refl, sym, subst, inl, inr, arith}
 use Rattle.std.specs.Prelude.{slice_get}
-use Rattle.std.proofs.Math.Seq.{drop-cons}
 use Rattle.dt_lists.specs.Lists.{AnyIn}
 use Rattle.dt_proc.specs.Tree.{ProcTree}
 use Rattle.dt_proc.specs.declared.tree.Stmt.{Stmt}
-use Rattle.dt_proc.specs.TreeViews.{block_size, block_tree, step_size, stmt_tree}
-use Rattle.dt_lock.specs.Long.{IsLong, IsLongIn, least_of_block, least_of_step}
+use Rattle.dt_proc.specs.TreeViews.{block_tree}
+use Rattle.dt_lock.specs.Long.{IsLong, IsLongIn, outermost}
 
-pub size_from : (xs : List Stmt) (i : ℕ) (x : Stmt) → i < length xs → x ≡ get_or xs i x →
-    block_size (block_tree (drop i xs)) ≡ step_size (stmt_tree x) + block_size (block_tree (drop (i + 1) xs))
-size_from xs i x below is =
-    ap (λ ys. block_size (block_tree ys)) (drop-cons xs i x below) ∙ ap (λ y. step_size (stmt_tree y) + block_size (block_tree (drop (suc i) xs))) (sym is)
-    ∙ ap (λ j. step_size (stmt_tree x) + block_size (block_tree (drop j xs))) (sym (add-one i))
-
-pub least_from : (xs : List Stmt) (i : ℕ) (x : Stmt) → i < length xs → x ≡ get_or xs i x →
-    least_of_block (block_tree (drop i xs)) ≡ least_of_step (stmt_tree x) + least_of_block (block_tree (drop (i + 1) xs))
-least_from xs i x below is =
-    ap (λ ys. least_of_block (block_tree ys)) (drop-cons xs i x below) ∙ ap (λ y. least_of_step (stmt_tree y) + least_of_block (block_tree (drop (suc i) xs))) (sym is)
-    ∙ ap (λ j. least_of_step (stmt_tree x) + least_of_block (block_tree (drop j xs))) (sym (add-one i))
+pub outermost_of : (xs : List Stmt) → outermost (block_tree xs) ≡ length xs
+outermost_of [] = refl
+outermost_of (x ∷ xs) = let rest = outermost_of xs in omega (arith, rest)
 
 -- a long one at some place is some long one
 pub long_at : (procs : List ProcTree) (n : ℕ) → IsLongIn (slice_get procs n) → AnyIn IsLong procs

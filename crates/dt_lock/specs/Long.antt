@@ -1,23 +1,18 @@
 -- Which calls are worth a thread. A round starts threads for these alone; no promise of a round speaks of it, since what a
 -- round comes to depends on no thread. Read next: src/jobs.rt.
-use Rattle.std.specs.Prelude.{◌≤◌, ◌+◌, ℕ, List, Option, Some, None, min, slice_get}
-use Rattle.dt_proc.specs.Tree.{BlockTree, ProcTree, StmtTree, choose, done, then}
+use Rattle.std.specs.Prelude.{◌≤◌, ◌+◌, ℕ, List, Option, Some, None, slice_get}
+use Rattle.dt_proc.specs.Tree.{BlockTree, ProcTree, done, then}
 use Rattle.dt_txn.specs.declared.txn.Body.{Body}
 use Rattle.dt_txn.specs.declared.txn.Body.TheVariants.{Call, Move}
 
--- the fewest statements that are executed of a statement, or of a block, whichever way each `if` goes, unless one aborts
-abbrev mutual
-  pub least_of_step : StmtTree → ℕ
-  least_of_step (choose test a b) = 1 + min (least_of_block a) (least_of_block b)
-  least_of_step _ = 1
+-- how many outermost statements a block has: an `if` is one of them, whatever its own blocks hold
+abbrev pub outermost : BlockTree → ℕ
+outermost done = 0
+outermost (then s rest) = 1 + outermost rest
 
-  pub least_of_block : BlockTree → ℕ
-  least_of_block done = 0
-  least_of_block (then s rest) = least_of_step s + least_of_block rest
-
--- a procedure is long if each call of it executes at least 1,000 statements, unless it aborts
+-- a procedure is long if its body has at least 1,000 outermost statements: so many each call of it executes, unless it aborts
 abbrev pub IsLong : ProcTree → Type 0
-IsLong proc = 1000 ≤ least_of_block proc.body
+IsLong proc = 1000 ≤ outermost proc.body
 
 -- a procedure is there, and long
 abbrev pub IsLongIn : Option ProcTree → Type 0

@@ -5,8 +5,8 @@ use dt_round::{Rounded, Rounds};
 use dt_text::NoMemory;
 use std::alloc::Global;
 
-/// Makes rounds by a closure, which makes one: so a caller hands in a round by threads with its own runtime, gate and number
-/// of workers.
+/// Makes rounds by a closure that makes one: so a caller can pass a round by threads, with a runtime, a gate and a number of
+/// workers of its own.
 #[derive(Drop)]
 pub struct By<F> {
     pub by: F,

@@ -7,15 +7,15 @@ use Rattle.std.proofs.lemmas.List.{length-append, length-map, length-set}
 use Rattle.std.proofs.lemmas.List.Sums.{sum_by-cons}
 use Rattle.std.proofs.lemmas.Nat.{mul-le}
 use Rattle.dt_lists.specs.Lists.{AnyIn, AllIn, Distinct, EachThen, Has, IsFront, Pairwise}
-use Rattle.dt_lists.proofs.Callers.{any_at, any_front, any_image, front_take, front_trans}
+use Rattle.dt_lists.proofs.Callers.{any_at, any_front, any_image, front_take, front_trans, pairwise_length}
 use Rattle.dt_lists.proofs.Callers.{all_get, all_map, all_put, any_get, any_map, any_of_image, any_put, distinct_within, each_image, has_filter, has_map, has_of_filtered}
 use Rattle.dt_access.specs.Clash.{Bytes, same_key}
 use Rattle.dt_access.specs.declared.TxnId.{TxnId}
 use Rattle.dt_access.specs.declared.Part.{Part}
-use Rattle.dt_sched.specs.Views.{View, HasPart, IsClass, IsClosed, ids_of, log_at}
+use Rattle.dt_sched.specs.Views.{View, HasPart, IsClass, IsClosed, IsLonger, ids_of, log_at}
 use Rattle.dt_sched.specs.Decide.{IsSound}
 use Rattle.dt_sched.proofs.Callers.{class_unique, complete_of_closed, present_of_complete}
-use Rattle.dt_txn.specs.Replica.{done_ids, fronts}
+use Rattle.dt_txn.specs.Replica.{done_ids}
 use Rattle.dt_cluster.specs.Valid.{IsValidCluster}
 use Rattle.dt_cluster.specs.declared.Cluster.{Cluster}
 use Rattle.dt_workload.specs.Valid.{IsValidWorkload, calls_in}
@@ -27,19 +27,18 @@ use Rattle.dt_session.specs.Run.{world_from, AreLegalFrom}
 use Rattle.dt_session.specs.Eager.{AllChange}
 use Rattle.dt_session.specs.World.{World, Place, Submission, no_node, node_at, log_of, received_lengths, received_logs, received_of, logs_of, submissions, txn_of, view_at}
 use Rattle.dt_agreement.specs.Invariant.{IsPartAt, IsPlaceOf, IsPlaced, IsSubmissionOf, attempts_by}
-use Rattle.dt_agreement.proofs.Callers.{IsKnown, done_known, log_distinct, logs_length, next_keeps, ordered, received_log, received_within, test_of_key, txn_there}
+use Rattle.dt_agreement.proofs.Callers.{WasSubmitted, done_known, fronts_longer, log_distinct, logs_length, next_keeps, ordered, received_log, received_within, test_of_key, txn_there}
 use Rattle.dt_txn.proofs.Callers.{fronts_at}
 use Rattle.dt_merge.specs.Own.{own, places_at}
 use Rattle.dt_merge.specs.Weight.{most_events, sum_below, weight, world_weight}
 use Rattle.dt_merge.specs.WorldRegions.{HasInvariant}
+use Rattle.dt_merge.proofs.SumsBelow.{sum_below_added, sum_below_const, sum_below_first, sum_below_le}
 use Rattle.dt_merge.proofs.Weighing.{events_weighed}
 use Rattle.dt_merge.proofs.OwnParts.{local, local_no, local_yes, places_no, places_yes}
 
--- a view has as many logs as there are
-fronts_length : (lengths : List ℕ) (view : View) → length (fronts lengths view) ≡ length view
-fronts_length lengths [] = refl
-fronts_length [] (log ∷ logs) = ap suc (fronts_length [] logs)
-fronts_length (n ∷ lengths) (log ∷ logs) = ap suc (fronts_length lengths logs)
+-- a longer view has as many logs
+as_many : (short long : View) → IsLonger short long → length short ≡ length long
+as_many short long longer = pairwise_length IsFront short long longer
 
 -- sums
 
@@ -50,31 +49,11 @@ at_most_each (x ∷ xs) m f =
     let rest : sum xs ≤ length xs * m = at_most_each xs m (λ i lt. f (suc i) (omega arith)) in
     subst (λ n. n ≤ suc (length xs) * m) (sym (sum_by-cons (λ y. y) x xs)) (omega arith)
 
-sum_under : (f g : ℕ → ℕ) (n : ℕ) → ((q : ℕ) → q < n → f q ≤ g q) → sum_below f n ≤ sum_below g n
-sum_under f g zero h = omega arith
-sum_under f g (suc n) h =
-    let a : sum_below f n ≤ sum_below g n = sum_under f g n (λ q lt. h q (omega arith)) in
-    let b : f n ≤ g n = h n (omega arith) in
-    omega arith
-
-sum_of_one : (m n : ℕ) → sum_below (λ q. m) n ≡ n * m
-sum_of_one m zero = omega arith
-sum_of_one m (suc n) = let a : sum_below (λ q. m) n ≡ n * m = sum_of_one m n in omega arith
-
-sum_two : (f g : ℕ → ℕ) (n : ℕ) → sum_below (λ q. f q + g q) n ≡ sum_below f n + sum_below g n
-sum_two f g zero = refl
-sum_two f g (suc n) = let a : sum_below (λ q. f q + g q) n ≡ sum_below f n + sum_below g n = sum_two f g n in omega arith
-
--- a sum with its first term apart
-sum_first : (f : ℕ → ℕ) (n : ℕ) → sum_below f (suc n) ≡ f 0 + sum_below (λ q. f (suc q)) n
-sum_first f zero = omega arith
-sum_first f (suc n) = let a : sum_below f (suc n) ≡ f 0 + sum_below (λ q. f (suc q)) n = sum_first f n in omega arith
-
 joined_length : {A B : Type 0} (f : A → List B) (d : A) (xs : List A) → length (flat_map f xs) ≡ sum_below (λ q. length (f (get_or xs q d))) (length xs)
 joined_length f d [] = refl
 joined_length f d (x ∷ xs) =
     length-append (f x) (flat_map f xs) ∙ ap (λ n. length (f x) + n) (joined_length f d xs)
-    ∙ sym (sum_first (λ q. length (f (get_or (x ∷ xs) q d))) (length xs))
+    ∙ sym (sum_below_first (λ q. length (f (get_or (x ∷ xs) q d))) (length xs))
 
 -- what each region's sessions have is not more than what all have
 
@@ -146,12 +125,12 @@ scaled t (s ∷ sessions) =
 
 -- of a session its region has it, and no other
 spread : (f : Session → ℕ) (sessions : List Session) (n : ℕ) → sum_below (λ q. sum_by f (local q sessions)) n ≤ sum_by f sessions
-spread f [] n = let e : sum_below (λ q. 0) n ≡ n * 0 = sum_of_one 0 n in omega arith
+spread f [] n = let e : sum_below (λ q. 0) n ≡ n * 0 = sum_below_const 0 n in omega arith
 spread f (s ∷ sessions) n =
     let each : sum_below (λ q. sum_by f (local q (s ∷ sessions))) n ≤ sum_below (λ q. cond (eqb s.region q) (f s) 0 + sum_by f (local q sessions)) n =
-    sum_under (λ q. sum_by f (local q (s ∷ sessions))) (λ q. cond (eqb s.region q) (f s) 0 + sum_by f (local q sessions)) n (λ q lt. at q (cases_Bool (eqb s.region q))) in
+    sum_below_le (λ q. sum_by f (local q (s ∷ sessions))) (λ q. cond (eqb s.region q) (f s) 0 + sum_by f (local q sessions)) n (λ q lt. at q (cases_Bool (eqb s.region q))) in
     let both : sum_below (λ q. cond (eqb s.region q) (f s) 0 + sum_by f (local q sessions)) n
-    ≡ sum_below (λ q. cond (eqb s.region q) (f s) 0) n + sum_below (λ q. sum_by f (local q sessions)) n = sum_two (λ q. cond (eqb s.region q) (f s) 0) (λ q. sum_by f (local q sessions)) n in
+    ≡ sum_below (λ q. cond (eqb s.region q) (f s) 0) n + sum_below (λ q. sum_by f (local q sessions)) n = sum_below_added (λ q. cond (eqb s.region q) (f s) 0) (λ q. sum_by f (local q sessions)) n in
     let first : sum_below (λ q. cond (eqb s.region q) (f s) 0) n ≤ f s = one_of s.region (f s) n in
     let rest : sum_below (λ q. sum_by f (local q sessions)) n ≤ sum_by f sessions = spread f sessions n in
     let p : sum_by f (s ∷ sessions) ≡ f s + sum_by f sessions = sum_by-cons f s sessions in
@@ -227,27 +206,27 @@ attempts_within tries w session place p = go place.waits p.placed
         omega arith
 
 -- the first of a list of ids
-abbrev first_of : TxnId → List TxnId → TxnId
-first_of d [] = d
-first_of d (id ∷ ids) = id
+abbrev first_id : TxnId → List TxnId → TxnId
+first_id d [] = d
+first_id d (id ∷ ids) = id
 
 abbrev no_id : TxnId
 no_id = record { seq = 0; region = 0 }
 
-first_has : (ids : List TxnId) → 2 ≤ length ids → Has ids (first_of no_id ids)
+first_has : (ids : List TxnId) → 2 ≤ length ids → Has ids (first_id no_id ids)
 first_has [] le = absurd (omega arith)
 first_has (id ∷ ids) le = inl refl
 
 -- groups that are classes of their members, and differ, differ in their first members
 firsts_apart : (view : View) (groups : List (List TxnId)) → AllIn (λ ids. 2 ≤ length ids) groups → AllIn (λ ids. AllIn (λ t. IsClass view t ids) ids) groups → Distinct groups
-    → EachThen (λ a b. ¬ (first_of no_id a ≡ first_of no_id b)) groups
+    → EachThen (λ a b. ¬ (first_id no_id a ≡ first_id no_id b)) groups
 firsts_apart view [] several classes once = tt
 firsts_apart view (ids ∷ groups) several classes once = (
-  all_put (λ b. ¬ (first_of no_id ids ≡ first_of no_id b)) groups (λ b h same.
+  all_put (λ b. ¬ (first_id no_id ids ≡ first_id no_id b)) groups (λ b h same.
       all_get (λ c. ¬ (ids ≡ c)) groups once.0 b h
-      (class_unique view (first_of no_id ids) ids b (all_get (λ t. IsClass view t ids) ids classes.0 (first_of no_id ids) (first_has ids several.0))
+      (class_unique view (first_id no_id ids) ids b (all_get (λ t. IsClass view t ids) ids classes.0 (first_id no_id ids) (first_has ids several.0))
       (subst (λ t. IsClass view t b) (sym same)
-      (all_get (λ t. IsClass view t b) b (all_get (λ c. AllIn (λ t. IsClass view t c) c) groups classes.1 b h) (first_of no_id b) (first_has b (all_get (λ c. 2 ≤ length c) groups several.1 b h)))))),
+      (all_get (λ t. IsClass view t b) b (all_get (λ c. AllIn (λ t. IsClass view t c) c) groups classes.1 b h) (first_id no_id b) (first_has b (all_get (λ c. 2 ≤ length c) groups several.1 b h)))))),
   firsts_apart view groups several.1 classes.1 once.1,
 )
 
@@ -268,20 +247,20 @@ module _ {cluster : Cluster} {workload : Workload} (ok : IsValidCluster cluster)
   there : ℕ
   there = length (submissions w)
 
-  in_known : (id : TxnId) → IsKnown w id → Has known id
+  in_known : (id : TxnId) → WasSubmitted w id → Has known id
   unfolding known
   in_known id k =
       let r : (s : Submission) × Has (submissions w) s × (s.txn ≡ k.0) × (s.txn.id ≡ id) = txn_there w id k.0 k.1 in
       subst (Has (map (λ s. s.txn.id) (submissions w))) r.3 (has_map (λ s. s.txn.id) (submissions w) r.0 r.1)
 
   -- distinct ids that were submitted are no more than there are submissions
-  few_ids : (ids : List TxnId) → Distinct ids → AllIn (IsKnown w) ids → length ids ≤ there
+  few_ids : (ids : List TxnId) → Distinct ids → AllIn (WasSubmitted w) ids → length ids ≤ there
   unfolding known there
   few_ids ids once all =
       subst (λ n. length ids ≤ n) (length-map (submissions w) (λ s. s.txn.id))
-      (distinct_within ids (map (λ s. s.txn.id) (submissions w)) once (all_map (IsKnown w) (Has (map (λ s. s.txn.id) (submissions w))) ids (λ id k. in_known id k) all))
+      (distinct_within ids (map (λ s. s.txn.id) (submissions w)) once (all_map (WasSubmitted w) (Has (map (λ s. s.txn.id) (submissions w))) ids (λ id k. in_known id k) all))
 
-  in_log : (home : ℕ) → home < cluster.regions → (id : TxnId) → Has (ids_of (log_of w home)) id → IsKnown w id
+  in_log : (home : ℕ) → home < cluster.regions → (id : TxnId) → Has (ids_of (log_of w home)) id → WasSubmitted w id
   in_log home lh id h =
       let r : (p : Part) × Has (log_of w home) p × (p.id ≡ id) = any_get (λ p. p.id ≡ id) (log_of w home) (any_of_image (λ y. y ≡ id) (λ p. p.id) (log_of w home) h) in
       let part : IsPartAt w home r.0 = all_get (IsPartAt w home) (log_of w home) (g.inv.logs home lh).parts r.0 r.1 in
@@ -290,7 +269,7 @@ module _ {cluster : Cluster} {workload : Workload} (ok : IsValidCluster cluster)
   few_in_log : (home : ℕ) → home < cluster.regions → length (log_of w home) ≤ there
   few_in_log home lh =
       subst (λ n. n ≤ there) (length-map (log_of w home) (λ p. p.id))
-      (few_ids (ids_of (log_of w home)) (log_distinct cluster workload w g.order g.inv home lh) (all_put (IsKnown w) (ids_of (log_of w home)) (in_log home lh)))
+      (few_ids (ids_of (log_of w home)) (log_distinct cluster workload w g.order g.inv home lh) (all_put (WasSubmitted w) (ids_of (log_of w home)) (in_log home lh)))
 
   module _ (q : ℕ) (lq : q < cluster.regions) where
     sound : IsSound (view_at w q) (node_at w q).here.resolved (done_ids (node_at w q).here)
@@ -300,10 +279,10 @@ module _ {cluster : Cluster} {workload : Workload} (ok : IsValidCluster cluster)
     few_done = subst (λ n. n ≤ there) (length-map (node_at w q).here.done (λ d. d.0)) (few_ids (done_ids (node_at w q).here) sound.done_once (done_known cluster workload w g.order g.inv q lq))
 
     -- what is closed in a region's view was submitted
-    closed_known : (id : TxnId) → IsClosed (view_at w q) id → IsKnown w id
+    closed_known : (id : TxnId) → IsClosed (view_at w q) id → WasSubmitted w id
     closed_known id c = by (any_at (λ log. HasPart log id) [] (view_at w q) (present_of_complete (view_at w q) id (complete_of_closed (view_at w q) id c)))
       where
-        by : (home : ℕ) × (home < length (view_at w q)) × HasPart (log_at (view_at w q) home) id → IsKnown w id
+        by : (home : ℕ) × (home < length (view_at w q)) × HasPart (log_at (view_at w q) home) id → WasSubmitted w id
         by r =
             let seen : log_at (view_at w q) r.0 ≡ take (slice_index (node_at w q).here.inserted r.0) (take (received_of w q r.0) (log_of w r.0)) =
             fronts_at (node_at w q).here.inserted (received_logs w q) r.0 ∙ ap (take (slice_index (node_at w q).here.inserted r.0)) (received_log w q r.0) in
@@ -313,23 +292,23 @@ module _ {cluster : Cluster} {workload : Workload} (ok : IsValidCluster cluster)
             let part : HasPart (log_of w r.0) id =
             any_front (λ p. p.id ≡ id) (take (slice_index (node_at w q).here.inserted r.0) (take (received_of w q r.0) (log_of w r.0))) (log_of w r.0) front (subst (λ l. HasPart l id) seen r.2) in
             let lh : r.0 < cluster.regions =
-            subst (λ n. r.0 < n) (fronts_length (node_at w q).here.inserted (received_logs w q) ∙ fronts_length (received_lengths w q) (logs_of w) ∙ logs_length w ∙ g.inv.nodes) r.1 in
+            subst (λ n. r.0 < n) (as_many _ _ (fronts_longer (node_at w q).here.inserted (received_logs w q)) ∙ as_many _ _ (fronts_longer (received_lengths w q) (logs_of w)) ∙ logs_length w ∙ g.inv.nodes) r.1 in
             in_log r.0 lh id (any_image (λ y. y ≡ id) (λ p. p.id) (log_of w r.0) part)
 
     few_resolved : length (node_at w q).here.resolved ≤ there
-    few_resolved = subst (λ n. n ≤ there) (length-map (node_at w q).here.resolved (first_of no_id))
-        (few_ids (map (first_of no_id) (node_at w q).here.resolved)
-        (each_image (λ a b. ¬ (a ≡ b)) (first_of no_id) (node_at w q).here.resolved (firsts_apart (view_at w q) (node_at w q).here.resolved sound.resolved_several sound.resolved_classes sound.resolved_once))
-        (all_put (IsKnown w) (map (first_of no_id) (node_at w q).here.resolved) first_known))
+    few_resolved = subst (λ n. n ≤ there) (length-map (node_at w q).here.resolved (first_id no_id))
+        (few_ids (map (first_id no_id) (node_at w q).here.resolved)
+        (each_image (λ a b. ¬ (a ≡ b)) (first_id no_id) (node_at w q).here.resolved (firsts_apart (view_at w q) (node_at w q).here.resolved sound.resolved_several sound.resolved_classes sound.resolved_once))
+        (all_put (WasSubmitted w) (map (first_id no_id) (node_at w q).here.resolved) first_known))
       where
-        first_known : (id : TxnId) → Has (map (first_of no_id) (node_at w q).here.resolved) id → IsKnown w id
+        first_known : (id : TxnId) → Has (map (first_id no_id) (node_at w q).here.resolved) id → WasSubmitted w id
         first_known id h =
-            let r : (ids : List TxnId) × Has (node_at w q).here.resolved ids × (first_of no_id ids ≡ id) =
-            any_get (λ ids. first_of no_id ids ≡ id) (node_at w q).here.resolved (any_of_image (λ y. y ≡ id) (first_of no_id) (node_at w q).here.resolved h) in
+            let r : (ids : List TxnId) × Has (node_at w q).here.resolved ids × (first_id no_id ids ≡ id) =
+            any_get (λ ids. first_id no_id ids ≡ id) (node_at w q).here.resolved (any_of_image (λ y. y ≡ id) (first_id no_id) (node_at w q).here.resolved h) in
             let closed : AllIn (IsClosed (view_at w q)) r.0 = all_get (AllIn (IsClosed (view_at w q))) (node_at w q).here.resolved sound.resolved_closed r.0 r.1 in
             let several : 2 ≤ length r.0 = all_get (λ ids. 2 ≤ length ids) (node_at w q).here.resolved sound.resolved_several r.0 r.1 in
-            subst (IsKnown w) r.2
-            (closed_known (first_of no_id r.0) (all_get (IsClosed (view_at w q)) r.0 closed (first_of no_id r.0) (first_has r.0 several)))
+            subst (WasSubmitted w) r.2
+            (closed_known (first_id no_id r.0) (all_get (IsClosed (view_at w q)) r.0 closed (first_id no_id r.0) (first_has r.0 several)))
 
     few_received : sum (received_lengths w q) ≤ cluster.regions * there
     few_received =
@@ -395,7 +374,7 @@ module _ {cluster : Cluster} {workload : Workload} (ok : IsValidCluster cluster)
   all_submitted : sum_below (λ q. length (node_at w q).submitted) cluster.regions ≤ calls_in workload.sessions * cluster.tries
   all_submitted =
       let a : sum_below (λ q. length (node_at w q).submitted) cluster.regions ≤ sum_below (λ q. sum_by (λ s. length s.calls * cluster.tries) (local q workload.sessions)) cluster.regions =
-      sum_under (λ q. length (node_at w q).submitted) (λ q. sum_by (λ s. length s.calls * cluster.tries) (local q workload.sessions)) cluster.regions few_submitted in
+      sum_below_le (λ q. length (node_at w q).submitted) (λ q. sum_by (λ s. length s.calls * cluster.tries) (local q workload.sessions)) cluster.regions few_submitted in
       let b : sum_below (λ q. sum_by (λ s. length s.calls * cluster.tries) (local q workload.sessions)) cluster.regions ≤ sum_by (λ s. length s.calls * cluster.tries) workload.sessions =
       spread (λ s. length s.calls * cluster.tries) workload.sessions cluster.regions in
       let c : sum_by (λ s. length s.calls * cluster.tries) workload.sessions ≡ calls_in workload.sessions * cluster.tries = scaled cluster.tries workload.sessions in
@@ -408,7 +387,7 @@ module _ {cluster : Cluster} {workload : Workload} (ok : IsValidCluster cluster)
   all_answered : sum_below (λ q. sum_by (λ p. p.answered) (places_at q workload.sessions w.places)) cluster.regions ≤ calls_in workload.sessions
   all_answered =
       let a : sum_below (λ q. sum_by (λ p. p.answered) (places_at q workload.sessions w.places)) cluster.regions ≤ sum_below (λ q. sum_by (λ s. length s.calls) (local q workload.sessions)) cluster.regions =
-      sum_under (λ q. sum_by (λ p. p.answered) (places_at q workload.sessions w.places)) (λ q. sum_by (λ s. length s.calls) (local q workload.sessions)) cluster.regions
+      sum_below_le (λ q. sum_by (λ p. p.answered) (places_at q workload.sessions w.places)) (λ q. sum_by (λ s. length s.calls) (local q workload.sessions)) cluster.regions
       (λ q lt. answered_within (IsPlaceOf cluster.tries w) (λ s p r. r.answered) q workload.sessions w.places g.inv.sessions.places) in
       let b : sum_below (λ q. sum_by (λ s. length s.calls) (local q workload.sessions)) cluster.regions ≤ sum_by (λ s. length s.calls) workload.sessions =
       spread (λ s. length s.calls) workload.sessions cluster.regions in
@@ -429,17 +408,17 @@ module _ {cluster : Cluster} {workload : Workload} (ok : IsValidCluster cluster)
   weight_bounded =
       let a : world_weight cluster.regions workload w
       ≤ sum_below (λ q. length (node_at w q).submitted + sum_by (λ p. p.answered) (places_at q workload.sessions w.places) + (2 * cluster.regions + 2) * length (submissions w)) cluster.regions =
-      sum_under (λ q. weight q (own workload w q))
+      sum_below_le (λ q. weight q (own workload w q))
       (λ q. length (node_at w q).submitted + sum_by (λ p. p.answered) (places_at q workload.sessions w.places) + (2 * cluster.regions + 2) * length (submissions w)) cluster.regions few_weight in
       let b : sum_below (λ q. length (node_at w q).submitted + sum_by (λ p. p.answered) (places_at q workload.sessions w.places) + (2 * cluster.regions + 2) * length (submissions w)) cluster.regions
       ≡ sum_below (λ q. length (node_at w q).submitted + sum_by (λ p. p.answered) (places_at q workload.sessions w.places)) cluster.regions
       + sum_below (λ q. (2 * cluster.regions + 2) * length (submissions w)) cluster.regions =
-      sum_two (λ q. length (node_at w q).submitted + sum_by (λ p. p.answered) (places_at q workload.sessions w.places)) (λ q. (2 * cluster.regions + 2) * length (submissions w)) cluster.regions in
+      sum_below_added (λ q. length (node_at w q).submitted + sum_by (λ p. p.answered) (places_at q workload.sessions w.places)) (λ q. (2 * cluster.regions + 2) * length (submissions w)) cluster.regions in
       let c : sum_below (λ q. length (node_at w q).submitted + sum_by (λ p. p.answered) (places_at q workload.sessions w.places)) cluster.regions
       ≡ sum_below (λ q. length (node_at w q).submitted) cluster.regions + sum_below (λ q. sum_by (λ p. p.answered) (places_at q workload.sessions w.places)) cluster.regions =
-      sum_two (λ q. length (node_at w q).submitted) (λ q. sum_by (λ p. p.answered) (places_at q workload.sessions w.places)) cluster.regions in
+      sum_below_added (λ q. length (node_at w q).submitted) (λ q. sum_by (λ p. p.answered) (places_at q workload.sessions w.places)) cluster.regions in
       let d : sum_below (λ q. (2 * cluster.regions + 2) * length (submissions w)) cluster.regions ≡ cluster.regions * ((2 * cluster.regions + 2) * length (submissions w)) =
-      sum_of_one ((2 * cluster.regions + 2) * length (submissions w)) cluster.regions in
+      sum_below_const ((2 * cluster.regions + 2) * length (submissions w)) cluster.regions in
       let e : sum_below (λ q. length (node_at w q).submitted) cluster.regions ≤ calls_in workload.sessions * cluster.tries = all_submitted in
       let f : sum_below (λ q. sum_by (λ p. p.answered) (places_at q workload.sessions w.places)) cluster.regions ≤ calls_in workload.sessions = all_answered in
       let h : cluster.regions * ((2 * cluster.regions + 2) * length (submissions w)) ≤ cluster.regions * ((2 * cluster.regions + 2) * (calls_in workload.sessions * cluster.tries)) = all_rest in

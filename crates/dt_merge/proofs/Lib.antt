@@ -9,8 +9,10 @@ pub mod LocalEvents
 pub mod Worlds
 pub mod MergeLists
 pub mod Chronicles
+pub mod SumsBelow
 pub mod Weighing
 pub mod Bound
 pub mod Few
 pub mod MergesExist
+pub mod MergeSums
 pub mod Callers

@@ -6,6 +6,7 @@ use Rattle.std.specs.Prelude.{Option, option_map, option_and_then, unwrap_or, fi
 use Rattle.std.proofs.lemmas.Bool.{false_from_ne_true}
 use Rattle.std.proofs.lemmas.List.{length-append, map-append}
 use Rattle.std.proofs.lemmas.List.Elements.{filter-append}
+use Rattle.std.proofs.lemmas.Option.{same_Some}
 use Rattle.dt_lists.specs.Lists.{Has, IsFront}
 use Rattle.dt_lists.proofs.Callers.{either_nat, get_front, at_place, has_place}
 use Rattle.dt_access.specs.Clash.{Bytes}
@@ -26,7 +27,7 @@ use Rattle.dt_session.specs.World.{submission_of, find_submission, txn_of, attem
 use Rattle.dt_session.specs.Tries.{Awaited, MayEnd, MayTry, attempt_after}
 use Rattle.dt_session.specs.Step.{IsLegal, MaySubmit, MayAnswer, awaited_at, next_attempt, called, submitted, answered, next}
 use Rattle.dt_agreement.specs.Invariant.{IsPlaceOf, has_home, requests}
-use Rattle.dt_agreement.proofs.Callers.{IsKnown, IsRequest, WaitsAt, executable_known, log_is, logs_length, received_within, request_is, session_found, waiting_for}
+use Rattle.dt_agreement.proofs.Callers.{WasSubmitted, IsRequest, WaitsAt, executable_known, log_is, logs_length, received_within, request_is, session_found, waiting_for}
 use Rattle.dt_merge.specs.Own.{own, HasGrown, HaveGrown, source_of, IsSupplied}
 use Rattle.dt_merge.specs.WorldRegions.{HasInvariant}
 use Rattle.dt_merge.proofs.OwnParts.{local, found_own, found_on, fronts_stay, logs_longer}
@@ -34,9 +35,6 @@ use Rattle.dt_merge.proofs.OwnSteps.{append_own, received_own, deliver_own, move
 
 awaits : (a b : ℕ) (o p : Option Outcome) → a ≡ b → o ≡ p → ◌≡◌ {A = Option Awaited} (Some (record { attempt = a; outcome = o })) (Some (record { attempt = b; outcome = p }))
 awaits a b o p e f = λ k. Some (record { attempt = e k; outcome = f k })
-
-some_same : {A : Type 0} {x y : A} → Some x ≡ Some y → x ≡ y
-some_same e = cc
 
 longer_than : {A : Type 0} (xs ys : List A) (n : ℕ) → IsFront xs ys → n < length xs → n < length ys
 longer_than xs ys n f lt = subst (λ l. n < length l) f.1 (let both : length (xs ++ f.0) ≡ length xs + length f.0 = length-append xs f.0 in omega arith)
@@ -95,7 +93,7 @@ module _ {cluster : Cluster} {workload : Workload} (w v z : World) (gw : HasInva
       ∙ sym (found_own workload.sessions v.places region name)
 
   one_txn : (id : TxnId) (x y : Txn) → txn_of w id ≡ Some x → txn_of v id ≡ Some y → x ≡ y
-  one_txn id x y e f = some_same (sym (txn_up w z bw id x e) ∙ txn_up v z bv id y f)
+  one_txn id x y e f = same_Some _ _ (sym (txn_up w z bw id x e) ∙ txn_up v z bv id y f)
 
   -- sessions
 
@@ -175,7 +173,7 @@ module _ {cluster : Cluster} {workload : Workload} (w v z : World) (gw : HasInva
       at_v = at_place (asked_of v source region) number more_v
 
       one_id : at_w.0 ≡ at_v.0
-      one_id = some_same (
+      one_id = same_Some _ _ (
           sym (get_front (asked_of w source region) (asked_of z source region) number at_w.0 (asked_front w z gw gz source region ls lr (bw source)) at_w.1)
           ∙ get_front (asked_of v source region) (asked_of z source region) number at_v.0 (asked_front v z gv gz source region ls lr (bv source)) at_v.1)
 
@@ -229,10 +227,10 @@ module _ {cluster : Cluster} {workload : Workload} (w v z : World) (gw : HasInva
       ∙ ap₂ (λ o t. move_own o (executed cluster.procs o.node.here t)) same txn_same
       ∙ sym (own_moved cluster workload v region (room v gv) (executed cluster.procs (node_at v region).here (txn_of v id)))
     where
-      in_w : IsKnown w id
+      in_w : WasSubmitted w id
       in_w = executable_known cluster workload w gw.order region id lr may gw.inv
 
-      in_v : IsKnown v id
+      in_v : WasSubmitted v id
       in_v = executable_known cluster workload v gv.order region id lr (may_same (Execute region id) may) gv.inv
 
       txn_same : txn_of w id ≡ txn_of v id
@@ -248,7 +246,7 @@ takes_entries region home first last n = ap (λ b. cond b None (Some home)) (fal
 
 from_is : (b : Bool) (source q : ℕ) → ◌≡◌ {A = Option ℕ} (cond b None (Some source)) (Some q) → source ≡ q
 from_is true source q e = cc
-from_is false source q e = some_same e
+from_is false source q e = same_Some _ _ e
 
 -- the law of locality
 pub locality : {cluster : Cluster} {workload : Workload} (w v z : World) (event : Event) → HasInvariant cluster workload w → HasInvariant cluster workload v → HasInvariant cluster workload z → HaveGrown w z → HaveGrown v z

@@ -7,15 +7,15 @@ use Rattle.dt_merge.specs.Merge.{region_at, kept_at, HasLowerStamp, ComesBefore,
 use Rattle.dt_merge.proofs.MergeLists.{before_transitive, region_of_kept}
 
 -- one of the two comes first
-abbrev AreApart : Stamped → Stamped → Type 0
-AreApart x y = ComesBefore x y ⊎ ComesBefore y x
+abbrev OneIsFirst : Stamped → Stamped → Type 0
+OneIsFirst x y = ComesBefore x y ⊎ ComesBefore y x
 
 -- an item is put into a list, from all of which it is apart
-put : (x : Stamped) (ys : List Stamped) → AllIn (AreApart x) ys → EachThen ComesBefore ys → (zs : List Stamped) × IsPicked ComesBefore (λ u. (u ≡ x) ⊎ Has ys u) zs
+put : (x : Stamped) (ys : List Stamped) → AllIn (OneIsFirst x) ys → EachThen ComesBefore ys → (zs : List Stamped) × IsPicked ComesBefore (λ u. (u ≡ x) ⊎ Has ys u) zs
 put x [] apart each = (x ∷ [], record { ascending = (tt, tt); members = λ u. (λ h. elim h [ inl e ↦ inl (sym e) | inr f ↦ inr f ], λ h. elim h [ inl e ↦ inl (sym e) | inr f ↦ inr f ]) })
 put x (y ∷ ys) apart each = at apart.0 (put x ys apart.1 each.1)
   where
-    at : AreApart x y → (zs : List Stamped) × IsPicked ComesBefore (λ u. (u ≡ x) ⊎ Has ys u) zs → (zs : List Stamped) × IsPicked ComesBefore (λ u. (u ≡ x) ⊎ Has (y ∷ ys) u) zs
+    at : OneIsFirst x y → (zs : List Stamped) × IsPicked ComesBefore (λ u. (u ≡ x) ⊎ Has ys u) zs → (zs : List Stamped) × IsPicked ComesBefore (λ u. (u ≡ x) ⊎ Has (y ∷ ys) u) zs
     at (inl lower) r = (
       x ∷ y ∷ ys,
       record {
@@ -35,12 +35,12 @@ put x (y ∷ ys) apart each = at apart.0 (put x ys apart.1 each.1)
     )
 
 -- and so are all that a region keeps
-put_all : (xs ys : List Stamped) → EachThen ComesBefore ys → EachThen HasLowerStamp xs → AllIn (λ x. AllIn (AreApart x) ys) xs → (zs : List Stamped) × IsPicked ComesBefore (λ u. Has xs u ⊎ Has ys u) zs
+put_all : (xs ys : List Stamped) → EachThen ComesBefore ys → EachThen HasLowerStamp xs → AllIn (λ x. AllIn (OneIsFirst x) ys) xs → (zs : List Stamped) × IsPicked ComesBefore (λ u. Has xs u ⊎ Has ys u) zs
 put_all [] ys each rising apart = (ys, record { ascending = each; members = λ u. (λ h. inr h, λ h. elim h [ inl e ↦ absurd e | inr k ↦ k ]) })
 put_all (x ∷ xs) ys each rising apart = with_first (put_all xs ys each rising.1 apart.1)
   where
     with_first : (zs : List Stamped) × IsPicked ComesBefore (λ u. Has xs u ⊎ Has ys u) zs → (zs : List Stamped) × IsPicked ComesBefore (λ u. Has (x ∷ xs) u ⊎ Has ys u) zs
-    with_first r = ending (put x r.0 (all_put (AreApart x) r.0 (λ u h. elim ((r.1.members u).0 h) [ inl k ↦ inl (inl (all_get (HasLowerStamp x) xs rising.0 u k)) | inr k ↦ all_get (AreApart x) ys apart.0 u k ])) r.1.ascending)
+    with_first r = ending (put x r.0 (all_put (OneIsFirst x) r.0 (λ u h. elim ((r.1.members u).0 h) [ inl k ↦ inl (inl (all_get (HasLowerStamp x) xs rising.0 u k)) | inr k ↦ all_get (OneIsFirst x) ys apart.0 u k ])) r.1.ascending)
       where
         ending : (zs : List Stamped) × IsPicked ComesBefore (λ u. (u ≡ x) ⊎ Has r.0 u) zs → (zs : List Stamped) × IsPicked ComesBefore (λ u. Has (x ∷ xs) u ⊎ Has ys u) zs
         ending s = (
@@ -54,7 +54,7 @@ put_all (x ∷ xs) ys each rising apart = with_first (put_all xs ys each rising.
           },
         )
 
-by_stamps : (x y : Stamped) → region_at y < region_at x → (x.stamp < y.stamp) ⊎ (y.stamp < x.stamp) ⊎ (y.stamp ≡ x.stamp) → AreApart x y
+by_stamps : (x y : Stamped) → region_at y < region_at x → (x.stamp < y.stamp) ⊎ (y.stamp < x.stamp) ⊎ (y.stamp ≡ x.stamp) → OneIsFirst x y
 by_stamps x y lower (inl a) = inl (inl a)
 by_stamps x y lower (inr (inl b)) = inr (inl b)
 by_stamps x y lower (inr (inr c)) = inr (inr (c, lower))
@@ -65,7 +65,7 @@ three_ways a b = grind arith
 below_or_last : (r n : ℕ) → r < suc n → (r < n) ⊎ (r ≡ n)
 below_or_last r n lt = grind arith
 
-kept_within : (kept : List (List Stamped)) (region : ℕ) (x : Stamped) → Has (get_or kept region []) x → region < length kept
+pub kept_within : (kept : List (List Stamped)) (region : ℕ) (x : Stamped) → Has (get_or kept region []) x → region < length kept
 kept_within [] region x h = absurd h
 kept_within (l ∷ kept) zero x h = omega arith
 kept_within (l ∷ kept) (suc region) x h = let lt : region < length kept = kept_within kept region x h in omega arith
@@ -78,9 +78,9 @@ module _ (kept : List (List Stamped)) (each : AreKept kept) where
     where
       more : (zs : List Stamped) × IsPicked ComesBefore (λ u. (region_at u < n) × Has (kept_at kept (region_at u)) u) zs
           → (zs : List Stamped) × IsPicked ComesBefore (λ u. (region_at u < suc n) × Has (kept_at kept (region_at u)) u) zs
-      more r = ending (put_all (kept_at kept n) r.0 r.1.ascending (each n).1 (all_put (λ x. AllIn (AreApart x) r.0) (kept_at kept n) (λ x h. all_put (AreApart x) r.0 (λ y k. apart x y h ((r.1.members y).0 k).0))))
+      more r = ending (put_all (kept_at kept n) r.0 r.1.ascending (each n).1 (all_put (λ x. AllIn (OneIsFirst x) r.0) (kept_at kept n) (λ x h. all_put (OneIsFirst x) r.0 (λ y k. apart x y h ((r.1.members y).0 k).0))))
         where
-          apart : (x y : Stamped) → Has (kept_at kept n) x → region_at y < n → AreApart x y
+          apart : (x y : Stamped) → Has (kept_at kept n) x → region_at y < n → OneIsFirst x y
           apart x y h lt = by_stamps x y (subst (λ q. region_at y < q) (sym (region_of_kept kept each n x h)) lt) (three_ways x.stamp y.stamp)
 
           ending : (zs : List Stamped) × IsPicked ComesBefore (λ u. Has (kept_at kept n) u ⊎ Has r.0 u) zs → (zs : List Stamped) × IsPicked ComesBefore (λ u. (region_at u < suc n) × Has (kept_at kept (region_at u)) u) zs

@@ -5,7 +5,7 @@ use Rattle.dt_lists.proofs.Callers.{all_map, either_nat, filter_none}
 use Rattle.dt_merge.specs.Regional.{Regions, after_all, AreLegalIn, AllChangeIn, Below, AreLocal, one_by_one, AreTurns, AreSideBySide}
 use Rattle.dt_merge.proofs.Reordering.{after_append, legal_together, change_together, not_here, good_after, below_refl, below_after, still}
 
-below_other : (q n : ℕ) → q < suc n → (q < n) ⊎ (n ≡ q)
+pub below_other : (q n : ℕ) → q < suc n → (q < n) ⊎ (n ≡ q)
 below_other q n lt = grind arith
 
 not_above : (n q : ℕ) → suc n ≤ q → n ≢ q

@@ -27,13 +27,15 @@ use Rattle.dt_session.specs.Step.{IsLegal, MayAnswer, MaySubmit, answered, next,
 use Rattle.dt_session.specs.Run.{world_from, AreLegalFrom}
 use Rattle.dt_session.specs.Eager.{AllChange}
 use Rattle.dt_agreement.specs.Invariant.{IsPlaceOf}
-use Rattle.dt_agreement.proofs.Callers.{IsKnown, Submits, append_cases, executable_known, next_keeps, ordered, received_own, session_found, submits}
+use Rattle.dt_agreement.proofs.Callers.{WasSubmitted, Submits, append_cases, executable_known, next_keeps, ordered, received_own, session_found, submits}
 use Rattle.dt_merge.specs.Own.{Own, own}
 use Rattle.dt_merge.specs.Weight.{sum_below, weight, world_weight}
 use Rattle.dt_merge.specs.WorldRegions.{HasInvariant}
 use Rattle.dt_merge.proofs.Frames.{frame}
 use Rattle.dt_merge.proofs.OwnParts.{local, found_own}
 use Rattle.dt_merge.proofs.OwnSteps.{attempt_of_own, move_own, own_answered, own_submitted, own_appended, own_delivered, own_moved}
+use Rattle.dt_merge.proofs.SideBySide.{below_other}
+use Rattle.dt_merge.proofs.SumsBelow.{sum_below_same}
 use Rattle.dt_merge.proofs.Worlds.{region_there}
 
 -- sums
@@ -47,19 +49,9 @@ raise_set xs i a b lt less =
     let f : sum_by (λ x. x) (set xs i b) + get_or xs i 0 ≡ sum_by (λ x. x) xs + b = sum_by-set (λ x. x) xs i b 0 lt in
     omega arith
 
-last_or_below : (r n : ℕ) → r < suc n → (r < n) ⊎ (n ≡ r)
-last_or_below r n lt = grind arith
-
-sum_same : (f g : ℕ → ℕ) (n : ℕ) → ((q : ℕ) → q < n → f q ≡ g q) → sum_below f n ≡ sum_below g n
-sum_same f g zero h = refl
-sum_same f g (suc n) h =
-    let a : sum_below f n ≡ sum_below g n = sum_same f g n (λ q lt. h q (omega arith)) in
-    let b : f n ≡ g n = h n (omega arith) in
-    omega arith
-
 sum_raise : (f g : ℕ → ℕ) (r n : ℕ) → r < n → f r < g r → ((q : ℕ) → r ≢ q → f q ≡ g q) → sum_below f n < sum_below g n
 sum_raise f g r zero lt less h = absurd (omega arith)
-sum_raise f g r (suc n) lt less h = by (λ early. sum_raise f g r n early less h) (last_or_below r n lt)
+sum_raise f g r (suc n) lt less h = by (λ early. sum_raise f g r n early less h) (below_other r n lt)
   where
     by : (r < n → sum_below f n < sum_below g n) → (r < n) ⊎ (n ≡ r) → sum_below f (suc n) < sum_below g (suc n)
     by later (inl early) =
@@ -67,7 +59,7 @@ sum_raise f g r (suc n) lt less h = by (λ early. sum_raise f g r n early less h
         let b : f n ≡ g n = h n (λ is. let none : ⊥ = omega arith in none) in
         omega arith
     by later (inr is) =
-        let a : sum_below f n ≡ sum_below g n = sum_same f g n (λ q early. h q (λ same. let none : ⊥ = omega arith in none)) in
+        let a : sum_below f n ≡ sum_below g n = sum_below_same f g n (λ q early. h q (λ same. let none : ⊥ = omega arith in none)) in
         let b : f n < g n = subst (λ x. f x < g x) (sym is) less in
         omega arith
 
@@ -252,7 +244,7 @@ module _ (cluster : Cluster) (ok : IsValidCluster cluster) (workload : Workload)
   execute_rises : (id : TxnId) → MayStep (received_logs w region) (node_at w region).here (Execute region id) → Rises (next cluster workload w (Execute region id))
   unfolding Rises
   execute_rises id may =
-      let known : IsKnown w id = executable_known cluster workload w g.order region id lr may g.inv in
+      let known : WasSubmitted w id = executable_known cluster workload w g.order region id lr may g.inv in
       let outcome : _ = (known.0.id, (one cluster.procs known.0 (node_at w region).here.table).0) in
       subst (λ x. weight region (own workload w region) < weight region x)
       (sym (own_moved cluster workload w region room (executed cluster.procs (node_at w region).here (txn_of w id)) ∙ ap (λ t. move_own (own workload w region) (executed cluster.procs (node_at w region).here t)) known.1))

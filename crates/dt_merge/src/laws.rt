@@ -1,6 +1,5 @@
 //! The laws of many regions. Each is the contract of a function that does nothing.
-ghost use Rattle.std.specs.Prelude.{◌≡◌, ◌≢◌, ◌⊎◌, ◌<◌, ◌≤◌, ◌+◌, ℕ, List, [], ◌∷◌, Some, length, set};
-ghost use Rattle.dt_access.specs.declared.TxnId.{TxnId};
+ghost use Rattle.std.specs.Prelude.{◌≡◌, ◌≢◌, ◌⊎◌, ◌<◌, ◌≤◌, ◌+◌, ℕ, List, [], ◌∷◌, Some, length, set, sum_by};
 ghost use Rattle.dt_events.specs.Events.{region_of};
 ghost use Rattle.dt_events.specs.Stamps.{events_of};
 ghost use Rattle.dt_events.specs.declared.Event.{Event};
@@ -100,13 +99,16 @@ pub fn rescheduling()
         AreLegalIn (world_regions cluster workload) w events → AreLegalFrom cluster workload w events }
 {}
 
-/// What regions keep has a merge, and one only, which has of each region what it keeps, in its order. The merge of nothing is empty.
-/// Else it begins with a head that comes before the heads of all others, and goes on with the merge of what is left.
+/// What regions keep has a merge, and one only, which has of each region what it keeps, in its order; so a sum over it is the sum
+/// over what each keeps. The merge of nothing is empty. Else it begins with a head that comes before the heads of all others, and
+/// goes on with the merge of what is left.
 pub fn merges()
     ensures some { (kept : List (List Stamped)) → AreKept kept → (merged : List Stamped) × IsMerge kept merged }
     ensures one { (kept : List (List Stamped)) (a b : List Stamped) → IsMerge kept a → IsMerge kept b → a ≡ b }
     ensures own { (kept : List (List Stamped)) → AreKept kept → (merged : List Stamped) → IsMerge kept merged →
         (region : ℕ) → those_at region merged ≡ kept_at kept region }
+    ensures sums { (kept : List (List Stamped)) → AreKept kept → (merged : List Stamped) → IsMerge kept merged →
+        (worth : Stamped → ℕ) → sum_by worth merged ≡ sum_by (sum_by worth) kept }
     ensures none { (kept : List (List Stamped)) → ((region : ℕ) → kept_at kept region ≡ []) → IsMerge kept [] }
     ensures begins { (kept : List (List Stamped)) → AreKept kept →
         (region : ℕ) (x : Stamped) (rest : List Stamped) → region < length kept → kept_at kept region ≡ x ∷ rest →

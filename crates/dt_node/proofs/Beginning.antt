@@ -2,7 +2,7 @@
 -- the events are the first ones of the region, session by session.
 use Rattle.std.proofs.Common.{◌≡◌, ◌<◌, ◌≤◌, ◌+◌, ◌-◌, ℕ, zero, suc, Bool, true, false, cond, List, [], ◌∷◌, ◌++◌}
 use Rattle.std.proofs.Common.{length, map, drop, get_or, replicate, slice_get, Some, None, refl, sym, ap, ap₂, subst, ◌∙◌, append-nil, append_assoc, arith}
-use Rattle.std.specs.Prelude.{Option, option_and_then, option_map, slice_index}
+use Rattle.std.specs.Prelude.{Option, option_and_then, option_map}
 use Rattle.std.specs.Map.{lookup, set_value}
 use Rattle.std.proofs.lemmas.List.{drop-map, get_or-replicate, map-append}
 use Rattle.std.proofs.lemmas.Map.{keys-set_value}
@@ -20,6 +20,7 @@ use Rattle.dt_proc.specs.Tree.{ProcTree}
 use Rattle.dt_table.specs.Table.{Table}
 use Rattle.dt_txn.specs.declared.Body.{Body}
 use Rattle.dt_txn.specs.Replica.{Replica, opening_replica, taken_from}
+use Rattle.dt_region.proofs.Callers.{number_none}
 use Rattle.dt_packet.specs.declared.packet.Packet.{Packet}
 use Rattle.dt_cluster.specs.declared.Cluster.{Cluster}
 use Rattle.dt_workload.specs.declared.Ranked.{Ranked}
@@ -30,6 +31,7 @@ use Rattle.dt_session.specs.Eager.{first_calls, first_events, is_home, sessions_
 use Rattle.dt_session.specs.Sessions.{MaySeatEnd, MaySeatTry, all_idle, idle_seat, is_named, numbers_next, seat_of, waiting, wanted_of, with_changed}
 use Rattle.dt_session.specs.Tries.{MayEnd, ranked_body}
 use Rattle.dt_session.specs.World.{no_node, opening_node, opening_table}
+use Rattle.dt_session.proofs.Callers.{seat_found}
 use Rattle.dt_site.proofs.Callers.{opening_sessions_stand}
 use Rattle.dt_node.specs.NodeView.{NodeView, new_items, number_of}
 use Rattle.dt_node.specs.Standing.{NodeFits}
@@ -38,10 +40,10 @@ use Rattle.dt_node.specs.Steps.{AllWhoMight, is_own, own_to_place, placings}
 use Rattle.dt_node.specs.StepsInner.{IsAnswering, IsSubmission, StepsAt}
 use Rattle.dt_node.specs.TurnInner.{EndsAll, EndsOne, HasGoneOn}
 use Rattle.dt_node.specs.Beginning.{BeginsSoFar, HasBegun}
-use Rattle.dt_node.proofs.HavingStepped.{someone}
-use Rattle.dt_node.proofs.Moving.{gone_more, new_joined, new_none}
-use Rattle.dt_node.proofs.Seating.{finds_own, opening_seats, set_behind}
-use Rattle.dt_node.proofs.Settling.{begins_more}
+use Rattle.dt_node.proofs.SteppedSessions.{someone}
+use Rattle.dt_node.proofs.CallAfterCall.{gone_more, new_joined, new_none}
+use Rattle.dt_node.proofs.SeatOrder.{opening_seats, set_behind}
+use Rattle.dt_node.proofs.TurnStops.{begins_more}
 
 -- what a list has from a place on
 
@@ -68,11 +70,6 @@ none_asked zero h = refl
 none_asked (suc n) zero = refl
 none_asked (suc n) (suc h) = none_asked n h
 
-none_taken : (n h : ℕ) → slice_index (replicate n 0) h ≡ 0
-none_taken zero h = refl
-none_taken (suc n) zero = refl
-none_taken (suc n) (suc h) = none_taken n h
-
 module _ {cluster : Cluster} {workload : Workload} {a : NodeView} (f : NodeFits cluster workload [] a) where
   here_is : a.site.region.state.here ≡ opening_replica cluster.regions (opening_table cluster)
   here_is =
@@ -80,7 +77,7 @@ module _ {cluster : Cluster} {workload : Workload} {a : NodeView} (f : NodeFits 
       ∙ ap (λ x. x.here) (get_or-replicate cluster.regions (number_of a) (opening_node cluster.regions (opening_table cluster)) no_node f.number)
 
   taken_none : taken_from a.site.region.state.here (number_of a) ≡ 0
-  taken_none = ap (λ (h : Replica). taken_from h (number_of a)) here_is ∙ none_taken cluster.regions (number_of a)
+  taken_none = ap (λ (h : Replica). taken_from h (number_of a)) here_is ∙ number_none cluster.regions (number_of a)
 
   pub placed_none : HasPlacedOwn a
   placed_none = ap length (ap (λ (h : Replica). get_or h.asked (number_of a) []) here_is ∙ none_asked cluster.regions (number_of a)) ∙ sym taken_none
@@ -177,7 +174,7 @@ module _ {procs : List ProcTree} {a b c : NodeView} (place : ℕ) (ascending : H
     named = slice_get-map (λ q. q.0) b.sessions.seats place ∙ ap (option_map (λ q. q.0)) here.0
 
     found : seat_of b.sessions s.name ≡ Some (idle_seat s).1
-    found = finds_own b.sessions.seats (idle_seat s) b_ascending (has_place b.sessions.seats place (idle_seat s) here.0)
+    found = seat_found b.sessions.seats (idle_seat s) b_ascending (has_place b.sessions.seats place (idle_seat s) here.0)
 
     may_one : 0 < length s.calls → MaySubmitAt b s.name
     may_one lt = subst (λ o. MaySeatTry b.sessions.tries o (last_at b s.name)) (sym found) lt

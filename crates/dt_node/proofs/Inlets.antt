@@ -5,7 +5,7 @@ use Rattle.dt_lists.proofs.Callers.{all_append_left}
 use Rattle.dt_packet.specs.declared.packet.Packet.{Packet}
 use Rattle.dt_node.specs.NodeView.{NodeView}
 use Rattle.dt_node.specs.TurnInner.{CanTake, IsTaking}
-use Rattle.dt_node.proofs.Telling.{take_on, told_first}
+use Rattle.dt_node.proofs.TruePackets.{take_on, told_first}
 
 -- fewer packets may be taken where more may
 

@@ -1,9 +1,9 @@
 -- A packet leaves nothing out: a node that stands in a world holds the transaction of each id that it asked for, and of each part
 -- in its log.
-use Rattle.std.proofs.Common.{◌≡◌, ◌<◌, ◌+◌, ℕ, zero, suc, List, [], ◌∷◌, map, drop, take, get_or, Some, refl, sym, ap, ap₂, subst}
+use Rattle.std.proofs.Common.{◌≡◌, ◌<◌, ◌+◌, ℕ, List, [], ◌∷◌, map, take, get_or, Some, refl, sym, ap, ap₂, subst}
 use Rattle.std.specs.Prelude.{filter_map}
 use Rattle.dt_lists.specs.Lists.{AllIn, Has}
-use Rattle.dt_lists.proofs.Callers.{all_map, all_put}
+use Rattle.dt_lists.proofs.Callers.{all_front, all_map, all_put, front_take}
 use Rattle.dt_access.specs.declared.Part.{Part}
 use Rattle.dt_access.specs.declared.TxnId.{TxnId}
 use Rattle.dt_events.specs.declared.Event.{Event}
@@ -12,7 +12,7 @@ use Rattle.dt_proc.specs.Tree.{ProcTree}
 use Rattle.dt_txn.specs.declared.Entry.{Entry}
 use Rattle.dt_txn.specs.declared.Txn.{Txn}
 use Rattle.dt_region.specs.Region.{RegionState, held}
-use Rattle.dt_region.proofs.Callers.{held_id}
+use Rattle.dt_region.proofs.Callers.{all_drop, held_id}
 use Rattle.dt_cluster.specs.declared.Cluster.{Cluster}
 use Rattle.dt_workload.specs.declared.Workload.{Workload}
 use Rattle.dt_session.specs.World.{World, Node, asked_of}
@@ -23,17 +23,11 @@ use Rattle.dt_node.specs.NodeView.{NodeView, entry_held, most_items, number_of, 
 use Rattle.dt_node.specs.Sending.{LeavesNothingOut}
 use Rattle.dt_node.specs.Standing.{NodeFits}
 use Rattle.dt_node.specs.TurnInner.{CanGo}
-use Rattle.dt_node.proofs.Going.{reached}
+use Rattle.dt_node.proofs.EventsGoOn.{reached}
 
-all_taken : {A : Type 0} (P : A → Type 0) (n : ℕ) (xs : List A) → AllIn P xs → AllIn P (take n xs)
-all_taken P zero xs a = tt
-all_taken P (suc n) [] a = tt
-all_taken P (suc n) (x ∷ xs) a = (a.0, all_taken P n xs a.1)
-
-all_dropped : {A : Type 0} (P : A → Type 0) (n : ℕ) (xs : List A) → AllIn P xs → AllIn P (drop n xs)
-all_dropped P zero xs a = a
-all_dropped P (suc n) [] a = tt
-all_dropped P (suc n) (x ∷ xs) a = all_dropped P n xs a.1
+-- what all items have, the first n have
+pub all_take : {A : Type 0} (P : A → Type 0) (n : ℕ) (xs : List A) → AllIn P xs → AllIn P (take n xs)
+all_take P n xs a = all_front P (take n xs) xs (front_take n xs) a
 
 -- what is held is found, each under its id
 
@@ -71,9 +65,9 @@ module _ {cluster : Cluster} {workload : Workload} {events : List Event} {n : No
   nothing_out : LeavesNothingOut n target
   nothing_out = record {
     asked = found_ids s (stretch_from (get_or n.took target 0) (get_or s.here.asked target []))
-        (all_taken (IsHeld s) most_items _ (all_dropped (IsHeld s) (get_or n.took target 0) (get_or s.here.asked target []) asked_held));
+        (all_take (IsHeld s) most_items _ (all_drop (IsHeld s) (get_or n.took target 0) (get_or s.here.asked target []) asked_held));
     entries = found_parts s (stretch_from (get_or n.received target 0) (log_at s.logs (number_of n)))
-        (all_taken (λ (p : Part). IsHeld s p.id) most_items _ (all_dropped (λ (p : Part). IsHeld s p.id) (get_or n.received target 0) (log_at s.logs (number_of n)) parts_held));
+        (all_take (λ (p : Part). IsHeld s p.id) most_items _ (all_drop (λ (p : Part). IsHeld s p.id) (get_or n.received target 0) (log_at s.logs (number_of n)) parts_held));
   }
 
 -- the same after a turn, which has sent

@@ -13,11 +13,11 @@ use Rattle.dt_round.specs.Rounds.{CanRound}
 use Rattle.dt_packet.specs.declared.packet.Packet.{Packet}
 use Rattle.dt_session.specs.World.{World, logs_of, received_lengths}
 use Rattle.dt_session.specs.Run.{world_after}
-use Rattle.dt_site.proofs.Callers.{IsShort, counter_few, holds_valid, legal_short}
+use Rattle.dt_site.proofs.Callers.{HasShortLists, counter_few, holds_valid, legal_short}
 use Rattle.dt_node.specs.NodeView.{NodeView, number_of}
 use Rattle.dt_node.specs.TurnInner.{CanGo}
 use Rattle.dt_node.proofs.Few.{few_events}
-use Rattle.dt_node.proofs.Going.{reached}
+use Rattle.dt_node.proofs.EventsGoOn.{reached}
 
 module _ {procs : List ProcTree} {packets : List Packet} {n : NodeView} (c : CanGo procs packets n) where
   pub few : length (events_of c.all) ≤ 24640000
@@ -38,7 +38,7 @@ module _ {procs : List ProcTree} {packets : List Packet} {n : NodeView} (c : Can
   parts_few : parts_in n.site.region.state.logs ≤ length (events_of c.all)
   parts_few =
       let w : World = world_after c.cluster c.workload (events_of c.all) in
-      let short : IsShort w (length (events_of c.all)) = legal_short c.cluster c.fits.run.sound c.workload c.fits.run.fits (events_of c.all) c.fits.run.legal in
+      let short : HasShortLists w (length (events_of c.all)) = legal_short c.cluster c.fits.run.sound c.workload c.fits.run.fits (events_of c.all) c.fits.run.legal in
       let all : parts_in (fronts (received_lengths w (number_of n)) (logs_of w)) ≤ parts_in (logs_of w) = fronts_few (received_lengths w (number_of n)) (logs_of w) in
       subst (λ l. parts_in l ≤ length (events_of c.all)) (sym c.fits.site.logs) (omega (arith, all, short.parts))
 

@@ -1,5 +1,5 @@
 -- What the calls that answer a session or submit for one ask for, and how they end.
-use Rattle.std.proofs.Common.{◌≡◌, ◌<◌, ◌+◌, ℕ, false, List, [], length, map, get_or, slice_get, Ok, Some, None, refl, sym, ap, subst, ◌∙◌, arith}
+use Rattle.std.proofs.Common.{◌≡◌, ◌<◌, ◌+◌, ℕ, false, List, [], length, map, get_or, slice_get, Ok, None, refl, sym, ap, subst, ◌∙◌, arith}
 use Rattle.std.specs.Prelude.{Option, option_and_then}
 use Rattle.std.proofs.lemmas.List.{length-append, length_push}
 use Rattle.dt_access.specs.Clash.{Bytes}
@@ -20,17 +20,13 @@ use Rattle.dt_node.specs.NodeView.{NodeView, new_items, number_of}
 use Rattle.dt_node.specs.Turn.{HasPlacedOwn, MayAnswerAt, last_at}
 use Rattle.dt_node.specs.Steps.{IsNextAt}
 use Rattle.dt_node.specs.TurnInner.{EndsOne, HasGoneOn, MovesOn}
-use Rattle.dt_node.proofs.Answering.{seats_kept}
-use Rattle.dt_node.proofs.Falling.{answer_falls, wait_falls}
-use Rattle.dt_node.proofs.Making.{answer_moves, submit_moves}
+use Rattle.dt_node.proofs.Rule7Answer.{seats_kept}
+use Rattle.dt_node.proofs.LessIsLeft.{answer_falls, wait_falls}
+use Rattle.dt_node.proofs.CallsOfNode.{answer_moves, submit_moves}
 
 -- there is no session at this place
 pub none_there : (May : NodeView → Bytes → Type 0) (a : NodeView) (index : ℕ) → None ≡ slice_get (map (λ p. p.0) a.sessions.seats) index → EndsOne May a index false a
 none_there May a index none = (refl, λ name found. absurd (cc (none, found)))
-
--- there is one, and it cannot go on
-pub one_cannot : (May : NodeView → Bytes → Type 0) (a : NodeView) (index : ℕ) (name : Bytes) → Some name ≡ slice_get (map (λ p. p.0) a.sessions.seats) index → ¬ (May a name) → EndsOne May a index false a
-one_cannot May a index name there cannot = (refl, λ other found. let same : name ≡ other = cc (there, found) in subst (λ x. ¬ (May a x)) same cannot)
 
 -- the session of this name was answered
 module _ (a : NodeView) (name : Bytes) (may : MayAnswerAt a name) (r : RegionView) (is : r ≡ with_event a.site.region a.site.region.state (Answer (number_of a) name)) where

@@ -1,9 +1,6 @@
-ghost use Rattle.std.specs.Prelude.{◌≡◌, ◌<◌, ◌≤◌, ◌+◌, [], List, IfOk, IsTrue, OnOk, Some, length, option_and_then, slice_get};
-ghost use Rattle.std.specs.Option.{option_copied};
+ghost use Rattle.std.specs.Prelude.{◌≡◌, ◌<◌, ◌+◌, [], List, IfOk, IsTrue, OnOk, Some, length, slice_get};
 ghost use Rattle.dt_access.specs.Clash.{Bytes};
 ghost use Rattle.dt_proc.specs.Tree.{ProcTree};
-ghost use Rattle.dt_region.specs.Region.{outcome_of};
-ghost use Rattle.dt_session.specs.Sessions.{waits_of};
 ghost use Rattle.dt_node.specs.Measure.{left_for};
 ghost use Rattle.dt_node.specs.Beginning.{IsPlacingOwn, MakesNext};
 ghost use Rattle.dt_node.specs.Steps.{AllWhoMight, IsNextAt};
@@ -13,12 +10,10 @@ ghost use Rattle.dt_node.specs.TurnInner.{CanGo, CanTake, EndsAll, EndsOne, Ends
 
 use crate::node::Node;
 use dt_proc::Procs;
-use dt_region::Region;
 use dt_sched::Scheduler;
-use dt_session::Sessions;
-use dt_site::Origin;
+use dt_site::{Origin, last_outcome};
 use dt_text::{Name, NoMemory};
-use dt_txn::{Body, Outcome};
+use dt_txn::Body;
 use std::alloc::Global;
 
 impl<S: Scheduler + Drop> Node<S> {
@@ -207,15 +202,4 @@ impl<S: Scheduler + Drop> Node<S> {
         self.site.region.append_owned(alloc, me, number, txn)?;
         Ok(true)
     }
-}
-
-/// The outcome at its region of the attempt that a session waits for, if there are both.
-fn last_outcome<'a, S: Scheduler>(
-    sessions: &Sessions,
-    region: &'a Region<S>,
-    name: &Name,
-) -> Option<&'a Outcome>
-    ensures { option_copied result ≡ option_and_then (outcome_of region.now.state) (waits_of sessions.now name.now) }
-{
-    region.outcome(sessions.waits(name)?)
 }

@@ -12,7 +12,7 @@
 //! 5. It sends one packet to each other region: all that this one is not known to have, as far as a packet holds it
 //!    (`sending.rt`). The loss plan says how often it is put.
 //!
-//! Nothing is asked for again. A packet begins where the last one that is known to have arrived ended, so what a lost packet
+//! Nothing is requested again. A packet begins where the last one that is known to have arrived ended, so what a lost packet
 //! held is in the next one, and what came twice is old and changes nothing.
 //!
 //! Contracts say of a turn what it makes of every world of events in which the node stood before it (`HasGone`): the turn

@@ -2,7 +2,7 @@
 --
 -- A promise on what was read from a file has to say what stood in it, so a folder may show its files. The real disk
 -- shows none; then a promise says what the bytes were read as, whatever they are. Each folder counts the loads that
--- failed, and may give the name of the newest of them, so that a file that could not be read is not reported as another.
+-- failed, and may report the name of the most recent of them, so that a file that could not be read is not reported as another.
 -- A folder in memory is defined whole here, for tests. Read next: Sink, for what is written.
 use Rattle.std.specs.Prelude.{◌≡◌, ℕ, ◌<◌, Bool, List, [], ◌∷◌, length, ◌||◌, ◌==◌, if◌then◌else◌, Option, None, Some, is_none, IfSome, IsSomeAnd, nat_eq, String, Vec, string_bytes}
 use Rattle.std.specs.List.{list_any}
@@ -14,8 +14,8 @@ use Rattle.dt_outside.specs.Faults.{next_count}
 abbrev pub Files : Type 0
 Files = List ℕ → Option (List ℕ)
 
--- what is seen of a folder: its files, where it shows them; how many loads failed; and the name of the newest load that
--- failed, where the folder shows it
+-- what is seen of a folder: its files, where it reports them; how many loads failed; and the name of the most recent load
+-- that failed, where the folder reports it
 pub record FolderView : Type 0 where
   pub told : Option Files
   pub faults : ℕ
@@ -38,7 +38,7 @@ pub record StoredFile : Type 0 where
 abbrev pub stored_file : {A B : Type 0} → String A × Vec ℕ B → StoredFile
 stored_file (name, bytes) = record { name = string_bytes name; content = bytes.items }
 
--- the name that is kept of the newest load that failed
+-- the name that is kept of the most recent load that failed
 abbrev pub stored_name : {A : Type 0} → Option (String A) → Option (List ℕ)
 stored_name name = option_map string_bytes name
 
@@ -48,7 +48,7 @@ file_in [] name = None
 file_in (file ∷ files) name = if pointwise nat_eq file.name name then Some file.content else file_in files name
 
 -- a folder in memory: its files, the numbers of the loads that fail, how many loads and faults there were, and the name
--- of the newest load that failed, if there was memory to keep it
+-- of the most recent load that failed, if there was memory to keep it
 pub record StoredFolder : Type 0 where
   pub files : List StoredFile
   pub failing : List ℕ
@@ -61,7 +61,7 @@ abbrev pub fails_next : StoredFolder → List ℕ → Bool
 fails_next folder name =
     list_any (λ number. number == next_count folder.loads) folder.failing || is_none (file_in folder.files name)
 
--- a folder of the disk: how many loads failed, and the name of the newest of them, if there was memory to keep it
+-- a folder of the disk: how many loads failed, and the name of the most recent of them, if there was memory to keep it
 pub record Disk : Type 0 where
   pub faults : ℕ
   pub missed : Option (List ℕ)

@@ -9,7 +9,7 @@ use std::alloc::Global;
 ///
 /// A folder may show what its files hold; then a load that isn't a fault gives exactly that. Whether
 /// it shows or not, it counts its faults. The count never falls, and ends at `u64::MAX`. It may show
-/// the name of the newest load that was a fault.
+/// the name of the most recent load that was a fault.
 pub trait Folder {
     // What is seen of it.
     ghost seen: { Self → FolderView };
@@ -23,7 +23,7 @@ pub trait Folder {
         ensures capped { IfOk result (λ bytes. length bytes.items ≤ limit) }
         ensures failed { result ≡ Err LoadError.Failed → Rose (seen self.old).faults (seen self.new).faults }
 
-        // A load in vain is the newest one, by its name; no other load changes which one is the newest.
+        // A load that fails is the most recent one that did, by its name; no other load changes which one that is.
         ensures missed { result ≡ Err LoadError.Failed → MissedLast (seen self.new) name.now }
         ensures same_missed { result ≢ Err LoadError.Failed → (seen self.new).missed ≡ (seen self.old).missed }
 

@@ -9,7 +9,7 @@ use crate::folders::Folder;
 use std::alloc::Global;
 use std::marker::Model;
 
-/// A folder in memory. It says which files it has, and fails at the loads that it was told to fail at.
+/// A folder in memory. It reports which files it has, and fails at the loads whose numbers it was made with.
 #[derive(Drop)]
 pub struct MemoryFolder {
     files: Vec<(String, Vec<u8>)>,

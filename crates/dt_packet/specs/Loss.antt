@@ -12,8 +12,8 @@ use Rattle.dt_packet.specs.declared.loss.Verdict.TheVariants.{Pass, Lost, Twice}
 abbrev pub IsEvery : ℕ → ℕ → Type 0
 IsEvery step n = (0 < step) × (step ∣ n)
 
--- what a plan makes of packet n: lost is the last of every `drop` packets; of the others, twice comes the last of every
--- `repeat` packets; all else is put once
+-- what a plan makes of packet n: the last of every `drop` packets is lost; the last of every `repeat` packets comes twice, unless
+-- it is lost; all others are put once
 abbrev pub IsVerdict : LossPlan → ℕ → Verdict → Type 0
 IsVerdict plan n Lost = IsEvery plan.drop n
 IsVerdict plan n Twice = ¬ (IsEvery plan.drop n) × IsEvery plan.repeat n

@@ -1,7 +1,7 @@
 //! What regions send each other, and the links that carry it.
 //!
-//! A region tells each other region in every turn all that this one is not known to have: requests to place, entries of its
-//! log, how far it has come with theirs, and a stamp. A link may lose a packet and may bring one twice. Nothing is asked for
+//! In every turn a region sends each other region all that this one is not known to have: requests to place, entries of its
+//! log, how far it has come with theirs, and a stamp. A link may lose a packet and may bring one twice. Nothing is requested
 //! again: the next packet begins where the last one that is known to have arrived ended, so what was lost is in it, and what
 //! came twice is old.
 //!

@@ -1,4 +1,4 @@
--- What the tests that decide tell.
+-- What the tests of the scheduler decide.
 use Rattle.std.specs.Prelude.{Result, Ok, Err, IfOk}
 use Rattle.std.proofs.Common.{◌≡◌, ◌≤◌, ◌↔◌, Bool, true, false, List, length, get_or, sym, subst, inl, inr, arith, IsTrue}
 use Rattle.dt_text.specs.declared.NoMemory.{NoMemory}

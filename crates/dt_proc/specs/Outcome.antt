@@ -29,7 +29,7 @@ pub record SecondTells (text : List ℕ) (told : Checked (List ProcTree)) : Type
   pub tells : check_procs [] spelled ≡ told
 
 -- the outcome of a text: Syntax and TooMany where the first pass finds a fault, and else what the second pass reports, which
--- is the procedures, or Twice, Unknown or Kind. Want of memory is the outcome of no text
+-- is the procedures, or Twice, Unknown or Kind. Running out of memory is the outcome of no text
 abbrev pub Outcome : List ℕ → Checked (List ProcTree) → Type 0
 Outcome text (Err (fault.Syntax place)) = IsSyntaxFault text place
 Outcome text (Err (fault.TooMany place)) = IsTooMany text place

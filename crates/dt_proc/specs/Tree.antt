@@ -1,5 +1,5 @@
 -- What procedures are: trees of statements and expressions, without a word on where they lie in memory. Names are gone: a
--- variable, a key and a procedure are numbers. What a tree means when it runs is said by dt_eval, in its Cases. Read
+-- variable, a key and a procedure are numbers. What a tree means when it runs is stated in Cases of dt_eval. Read
 -- next: Sound, for what holds of every tree; then SecondPass, for how a text gives one.
 use Rattle.std.specs.Prelude.{ℕ, ℤ, Bool, List}
 use Rattle.dt_syntax.specs.declared.kinds.Kind.{Kind}

@@ -4,7 +4,7 @@
 //! kinds are tested, and the trees are made.
 //!
 //! Read next: `specs/Tree.antt`, what a procedure is; `specs/SecondPass.antt`, what a text means; `specs/Sound.antt`, what
-//! holds of every procedure. What a tree does when it runs is said in `dt_eval`.
+//! holds of every procedure. What a tree does when it runs is stated in `dt_eval`.
 #![tactic(auto)]
 
 mod builtin;

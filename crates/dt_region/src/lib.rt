@@ -1,6 +1,6 @@
 //! One region of a cluster, stepped by itself.
 //!
-//! A region takes the submissions of its sessions, orders in its own log the parts of transactions that are homed with
+//! A region takes the submissions of its sessions, orders in its own log the parts of transactions that are at home with
 //! it, receives the logs of the other regions, and from these logs alone decides what to execute and in which order: so
 //! all regions execute alike. It knows no other region; whoever holds it carries requests and deliveries to it. Each call
 //! of [`Region`] is one of the seven rules by which a world of regions goes on:
@@ -18,7 +18,7 @@
 //! A call keeps its event where it changed something, and where it answers `NoMemory` nothing has changed. The event's stamp
 //! is one above the greatest of the region's last stamp and all stamps that it heard of (`hear`). A region is `drained` where
 //! it has inserted all that it received, and may neither execute nor resolve anything; `dt_round` brings it there. What a call
-//! does is said in `specs/Rules.antt`, when it may be made in `specs/Conditions.antt`, and what holds of every region in
+//! does is stated in `specs/Rules.antt`, when it may be made in `specs/Conditions.antt`, and what holds of every region in
 //! `specs/Sound.antt`.
 //!
 //! A region that is alone in its cluster runs a body so, where `S` is a scheduler:

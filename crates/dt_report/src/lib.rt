@@ -1,6 +1,6 @@
 //! What a replay or a run reports, and the text of it.
 //!
-//! Read next: `specs/Report.antt`, the sections and their lines. Which events, outcomes and rows are reported is said in
+//! Read next: `specs/Report.antt`, the sections and their lines. Which events, outcomes and rows are reported is stated in
 //! `dt_world`.
 #![tactic(auto)]
 

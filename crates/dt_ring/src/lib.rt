@@ -2,7 +2,7 @@
 //!
 //! A region has one end and its neighbour the other, and in a phase each may use its end in a thread of its own. Neither is
 //! shown what the other does there: what is put in a phase waits unknown, and a place that was emptied is not yet free. Both
-//! become known between phases, when the two ends are in one hand and are brought [`beside`] each other.
+//! become known between phases, when one owner holds the two ends and brings them [`beside`] each other.
 //!
 //! Read next: `specs/Rings.antt`, what is seen of the two ends; then `src/ends.rt`.
 #![tactic(auto)]

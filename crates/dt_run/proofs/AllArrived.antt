@@ -1,7 +1,7 @@
 -- Where nothing is outstanding between the nodes of a world and none of them has anything to do by itself, all is done: each log
 -- has all its requests and each region has inserted all logs, so all that was submitted is complete everywhere and executed; and
 -- then a session that still had a call left could go on.
-use Rattle.std.proofs.Common.{◌≡◌, ◌≢◌, ◌<◌, ◌≤◌, ◌⊎◌, ℕ, suc, true, eqb, List, [], ◌∷◌, length, filter, get_or, take, Option, None, Some, option_map, refl, sym, ap, subst, ◌∙◌, inl}
+use Rattle.std.proofs.Common.{◌≡◌, ◌≢◌, ◌<◌, ◌≤◌, ◌⊎◌, ℕ, true, eqb, List, [], length, filter, get_or, take, Option, None, Some, option_map, refl, sym, ap, subst, ◌∙◌, inl}
 use Rattle.std.proofs.Common.{inr, arith, eq-eqb}
 use Rattle.std.specs.Prelude.{option_and_then, slice_index}
 use Rattle.std.proofs.lemmas.List.{take_all}
@@ -10,16 +10,17 @@ use Rattle.dt_lists.proofs.Callers.{all_any, all_get, all_put, any_at, any_from_
 use Rattle.dt_access.specs.Clash.{Bytes}
 use Rattle.dt_access.specs.declared.Part.{Part}
 use Rattle.dt_access.specs.declared.TxnId.{TxnId}
-use Rattle.dt_sched.specs.Views.{HasPart, HasParts, IsClosed, IsComplete, IsPresent, View, ids_of, log_at}
+use Rattle.dt_sched.specs.Views.{HasPart, HasParts, IsClosed, IsComplete, IsPresent, ids_of, log_at}
 use Rattle.dt_sched.proofs.Callers.{done_where_closed, reach_source}
 use Rattle.dt_events.specs.declared.Event.{Event}
 use Rattle.dt_txn.specs.declared.Outcome.{Outcome}
 use Rattle.dt_txn.specs.declared.outcome.Outcome.TheVariants.{Gave, Aborted, Stale}
 use Rattle.dt_txn.specs.declared.Txn.{Txn}
-use Rattle.dt_txn.specs.Replica.{IsDrained, Replica, done_ids, fronts, taken_from}
+use Rattle.dt_txn.specs.Replica.{IsDrained, Replica, done_ids, taken_from}
 use Rattle.dt_txn.specs.Transaction.{IsValid, homes_of}
 use Rattle.dt_txn.proofs.Callers.{fronts_at}
 use Rattle.dt_region.specs.Region.{outcome_of}
+use Rattle.dt_region.proofs.Callers.{fronts_length}
 use Rattle.dt_cluster.specs.declared.Cluster.{Cluster}
 use Rattle.dt_workload.specs.declared.Session.{Session}
 use Rattle.dt_workload.specs.declared.Workload.{Workload}
@@ -41,15 +42,10 @@ use Rattle.dt_run.specs.Done.{HasDone}
 use Rattle.dt_run.specs.NodesView.{NodesView, node_in}
 use Rattle.dt_run.specs.Silence.{HasArrived}
 use Rattle.dt_run.proofs.Laws.{reached}
-use Rattle.dt_run.proofs.Phasing.{good_world, received_here}
-use Rattle.dt_run.proofs.Snapshots.{held_own}
+use Rattle.dt_run.proofs.TurnsInOrder.{good_world, received_here}
+use Rattle.dt_run.proofs.SentPackets.{held_own}
 use Rattle.dt_run.proofs.SomeHome.{some_home}
-use Rattle.dt_run.proofs.Submitting.{no_outcome}
-
-fronts_long : (lengths : List ℕ) (logs : View) → length (fronts lengths logs) ≡ length logs
-fronts_long lengths [] = refl
-fronts_long [] (log ∷ logs) = ap suc (fronts_long [] logs)
-fronts_long (n ∷ lengths) (log ∷ logs) = ap suc (fronts_long lengths logs)
+use Rattle.dt_run.proofs.DoneSubmissions.{no_outcome}
 
 module _ {cluster : Cluster} {workload : Workload} {events : List Event} (some : 0 < cluster.regions) (v : NodesView)
     (number : (region : ℕ) → region < cluster.regions → number_of (node_in v region) ≡ region)
@@ -117,7 +113,7 @@ module _ {cluster : Cluster} {workload : Workload} {events : List Event} (some :
       ∙ take_all (slice_index (node_at w region).here.inserted home) (log_of w home) (omega (arith, a))
 
   view_long : (region : ℕ) → length (view_at w region) ≡ cluster.regions
-  view_long region = fronts_long (node_at w region).here.inserted (received_logs w region) ∙ fronts_long _ (logs_of w) ∙ logs_length w ∙ good.inv.nodes
+  view_long region = fronts_length (node_at w region).here.inserted (received_logs w region) ∙ fronts_length _ (logs_of w) ∙ logs_length w ∙ good.inv.nodes
 
   -- what was submitted has a part in the log of each of its homes
   has_part : (source home : ℕ) → source < cluster.regions → home < cluster.regions → (s : Submission) → Has (node_at w source).submitted s → Has (homes_of s.txn) home → HasPart (log_of w home) s.txn.id

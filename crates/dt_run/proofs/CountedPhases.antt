@@ -15,23 +15,8 @@ use Rattle.dt_run.specs.NodesStand.{AreInStep}
 use Rattle.dt_run.specs.NodesView.{NodesView, marks_at, node_in}
 use Rattle.dt_run.specs.Phase.{EndsInStep, IsPhase}
 use Rattle.dt_run.specs.Silence.{PhaseIsCounted, IsSilent, all_kept_after, all_kept_in, made_in, quiet_after, quiet_in}
-use Rattle.dt_run.proofs.Planning.{marks_now, old_mark}
-
--- sums
-
-pub sum_same : (f g : ℕ → ℕ) (n : ℕ) → ((k : ℕ) → k < n → f k ≡ g k) → sum_below f n ≡ sum_below g n
-sum_same f g zero e = refl
-sum_same f g (suc n) e =
-    let a : sum_below f n ≡ sum_below g n = sum_same f g n (λ k lt. e k (omega (arith, lt))) in
-    let b : f n ≡ g n = e n (omega arith) in
-    omega (arith, a, b)
-
-sum_up : (f g : ℕ → ℕ) (n : ℕ) → ((k : ℕ) → k < n → f k ≤ g k) → sum_below f n ≤ sum_below g n
-sum_up f g zero e = omega arith
-sum_up f g (suc n) e =
-    let a : sum_below f n ≤ sum_below g n = sum_up f g n (λ k lt. e k (omega (arith, lt))) in
-    let b : f n ≤ g n = e n (omega arith) in
-    omega (arith, a, b)
+use Rattle.dt_run.proofs.Laws.{sum_below_added, sum_below_le, sum_below_same}
+use Rattle.dt_run.proofs.PlannedPackets.{marks_now, old_mark}
 
 -- where no summand falls and the sum stays, each stays
 sum_stays : (f g : ℕ → ℕ) (n : ℕ) → ((k : ℕ) → k < n → f k ≤ g k) → sum_below f n ≡ sum_below g n → (k : ℕ) → k < n → f k ≡ g k
@@ -39,7 +24,7 @@ sum_stays f g zero e same k lt = absurd (omega (arith, lt))
 sum_stays f g (suc n) e same k lt = by (either_nat k n) (λ s below. sum_stays f g n (λ j l. e j (omega (arith, l))) s k below)
   where
     front : sum_below f n ≤ sum_below g n
-    front = sum_up f g n (λ j l. e j (omega (arith, l)))
+    front = sum_below_le f g n (λ j l. e j (omega (arith, l)))
 
     last : f n ≤ g n
     last = e n (omega arith)
@@ -82,10 +67,6 @@ one_at_most r n = elim (one_in r n) [
   | inr b ↦ let e : sum_below (one_if r) n ≡ 1 = b.1 in omega (arith, e)
 ]
 
-sum_of_two : (f g : ℕ → ℕ) (n : ℕ) → sum_below (λ k. f k + g k) n ≡ sum_below f n + sum_below g n
-sum_of_two f g zero = refl
-sum_of_two f g (suc n) = let a : sum_below (λ k. f k + g k) n ≡ sum_below f n + sum_below g n = sum_of_two f g n in omega (arith, a)
-
 one_more : (q : ℕ) (x : Stamped) (items : List Stamped) → length (those_at q (x ∷ items)) ≡ one_if (region_at x) q + length (those_at q items)
 one_more q x items = go (eqb (region_at x) q)
   where
@@ -100,9 +81,9 @@ all_of_all [] n = none n
     none zero = omega arith
     none (suc n) = let a : sum_below (λ q. 0) n ≤ 0 = none n in omega (arith, a)
 all_of_all (x ∷ items) n =
-    let a : sum_below (λ q. length (those_at q (x ∷ items))) n ≡ sum_below (λ q. one_if (region_at x) q + length (those_at q items)) n = sum_same _ _ n (λ q lt. one_more q x items) in
+    let a : sum_below (λ q. length (those_at q (x ∷ items))) n ≡ sum_below (λ q. one_if (region_at x) q + length (those_at q items)) n = sum_below_same _ _ n (λ q lt. one_more q x items) in
     let b : sum_below (λ q. one_if (region_at x) q + length (those_at q items)) n
-    ≡ sum_below (one_if (region_at x)) n + sum_below (λ q. length (those_at q items)) n = sum_of_two (one_if (region_at x)) (λ q. length (those_at q items)) n in
+    ≡ sum_below (one_if (region_at x)) n + sum_below (λ q. length (those_at q items)) n = sum_below_added (one_if (region_at x)) (λ q. length (those_at q items)) n in
     let c : sum_below (one_if (region_at x)) n ≤ 1 = one_at_most (region_at x) n in
     let d : sum_below (λ q. length (those_at q items)) n ≤ length items = all_of_all items n in
     omega (arith, a, b, c, d)
@@ -131,7 +112,7 @@ module _ {before after : NodesView} (step : AreInStep before) (phase : IsPhase b
   -- numbers of earlier phases stay
 
   kept_old : (p : ℕ) → p ≤ step.made → all_kept_after after p ≡ all_kept_after before p
-  kept_old p le = ap (sum_below (λ region. mark_at after region p)) regions_same ∙ sum_same _ _ before.cluster.regions (λ region lr. old_mark step phase ends up down region lr p le)
+  kept_old p le = ap (sum_below (λ region. mark_at after region p)) regions_same ∙ sum_below_same _ _ before.cluster.regions (λ region lr. old_mark step phase ends up down region lr p le)
 
   quiet_old : (p : ℕ) → p ≤ step.made → quiet_after after p ≡ quiet_after before p
   quiet_old zero le = refl
@@ -142,12 +123,12 @@ module _ {before after : NodesView} (step : AreInStep before) (phase : IsPhase b
       λ i. cond (eqb (x i) (y i)) (z i + 1) 0
 
   kept_last : all_kept_after before step.made ≡ all_kept_in before
-  kept_last = sum_same _ _ before.cluster.regions (λ region lr. (step.each region lr).marks.last)
+  kept_last = sum_below_same _ _ before.cluster.regions (λ region lr. (step.each region lr).marks.last)
 
   kept_next : all_kept_after after (suc step.made) ≡ all_kept_in after
   kept_next =
       ap (sum_below (λ region. mark_at after region (suc step.made))) regions_same
-      ∙ sum_same _ _ before.cluster.regions (λ region lr. (marks_now step phase ends up down region lr).last)
+      ∙ sum_below_same _ _ before.cluster.regions (λ region lr. (marks_now step phase ends up down region lr).last)
       ∙ ap (sum_below (λ region. length (kept_by_region after region))) (sym regions_same)
 
   quiet_now : quiet_in after ≡ cond (eqb (all_kept_in before) (all_kept_in after)) (quiet_in before + 1) 0
@@ -170,7 +151,7 @@ module _ {before after : NodesView} (step : AreInStep before) (phase : IsPhase b
 
   pub kept_up : all_kept_in before ≤ all_kept_in after
   kept_up =
-      let a : all_kept_in before ≤ sum_below (λ region. length (kept_by_region after region)) before.cluster.regions = sum_up _ _ before.cluster.regions longer in
+      let a : all_kept_in before ≤ sum_below (λ region. length (kept_by_region after region)) before.cluster.regions = sum_below_le _ _ before.cluster.regions longer in
       let e = kept_there in omega (arith, a, e)
 
   pub is_counted : PhaseIsCounted before after

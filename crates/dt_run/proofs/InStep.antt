@@ -26,8 +26,8 @@ use Rattle.dt_node.specs.Turn.{BringsEntries, BringsRequest}
 use Rattle.dt_run.specs.Marks.{IsToldIn, WasAskedBefore, WerePlacedBefore, kept_before, placings_in, plan_of, submissions_in}
 use Rattle.dt_run.specs.NodesStand.{LinkTells}
 use Rattle.dt_run.specs.NodesView.{NodesView, node_in, waiting_between}
-use Rattle.dt_run.proofs.Counting.{IsCounted, all_counted}
-use Rattle.dt_run.proofs.Phasing.{good_world}
+use Rattle.dt_run.proofs.CountedSubmissions.{RegionIsCounted, all_counted}
+use Rattle.dt_run.proofs.TurnsInOrder.{good_world}
 
 -- where something waits on a link, its packets were not lost
 pub not_lost : (v : NodesView) (made source target : ℕ) → LinkTells v made source target → (p : Packet) → Has (waiting_between v source target) p → IsToldIn v.cluster (suc made)
@@ -51,7 +51,7 @@ module _ {cluster : Cluster} {workload : Workload} (all : List Stamped) {n : Nod
   good : HasInvariant cluster workload w
   good = good_world f
 
-  counted : IsCounted cluster workload all (number_of n)
+  counted : RegionIsCounted cluster workload all (number_of n)
   counted = all_counted f.run.sound f.run.fits (number_of n) f.number all f.run.legal f.changing
 
   pub asked_early : (home number : ℕ) → home < cluster.regions → number < length (asked_of w (number_of n) home)

@@ -9,11 +9,11 @@ use Rattle.dt_run.specs.LinksInner.{BesideSoFar}
 use Rattle.dt_run.specs.NodesView.{NodesView}
 use Rattle.dt_run.specs.Phase.{EndsInStep, IsPhase}
 use Rattle.dt_run.specs.SeatsInner.{EndsAreApart, AreLinkedBy, AreSeated, EachGoes, SeatCan, SeatTurned, SeatView, no_seat, nodes_view, seat_at}
-use Rattle.dt_run.proofs.Assembled.{phase_seated}
-use Rattle.dt_run.proofs.Finishing.{each_seat}
-use Rattle.dt_run.proofs.Keeping.{broken_seated, phase_is, turns_of}
-use Rattle.dt_run.proofs.Together.{apart_now, ends_in_step, turns_now}
-use Rattle.dt_run.proofs.Waiting as waiting
+use Rattle.dt_run.proofs.NodesAfterPhase.{phase_seated}
+use Rattle.dt_run.proofs.FinishedRun.{each_seat}
+use Rattle.dt_run.proofs.NodesAfterTurns.{broken_seated, phase_is, turns_of}
+use Rattle.dt_run.proofs.PhaseInStep.{apart_now, ends_in_step, turns_now}
+use Rattle.dt_run.proofs.WaitingPackets as waiting
 
 module _ {cluster : Cluster} {workload : Workload} {seats : List SeatView} {broken : Bool} (a : AreSeated cluster workload seats broken) (sound : broken ≡ false) where
   -- a turn may be made at each seat

@@ -16,21 +16,6 @@ any_default [] i d e lt = absurd (omega (arith, lt))
 any_default (x ∷ xs) zero d e lt = refl
 any_default (x ∷ xs) (suc i) d e lt = any_default xs i d e (omega (arith, lt))
 
-same_seat : (s : SeatView) → SameButIns s s
-same_seat s = record { node = refl; marks = refl; failed = refl; outs = refl; ins = refl }
-
--- nothing has happened
-pub row_starts : (source : ℕ) (row : List RingOutView) (seats : List SeatView) → RowSoFar source 0 row seats row seats
-row_starts source row seats = record {
-  many = refl;
-  many_outs = refl;
-  same = λ region lt. same_seat (seat_at seats region);
-  gone = λ target d e below lt n. absurd (omega (arith, below));
-  row_left = λ link d le. refl;
-  ins_left = λ target e le lt n. refl;
-  others = λ region place e lt o. refl;
-}
-
 -- one outlet more
 module _ {source link : ℕ} {row row1 : List RingOutView} {seats seats1 : List SeatView} (r : RowSoFar source link row seats row1 seats1) (a : RowApart source row seats) (below : link < length row)
     (target : ℕ) (target_is : target ≡ other_at source link) (within : target < length seats) (apart : source ≢ target) (place_is : link_to source target ≡ link)
@@ -334,15 +319,6 @@ module _ {source : ℕ} {seats : List SeatView} (a : RowApart source (seat_at se
       subst (λ q. LinksGo source seats (set seats' source q)) (sym (full_is ∙ same)) (links_go a r1)
 
 -- one seat after another
-
-pub beside_starts : (seats : List SeatView) → BesideSoFar 0 seats seats
-beside_starts seats = record {
-  many = refl;
-  same = λ region lt. record { node = refl; marks = refl; failed = refl; ins = refl; outs = refl };
-  gone = λ source target d e lt ls lt' n. absurd (omega (arith, lt));
-  outs_left = λ source target d le ls lt n. refl;
-  ins_left = λ source target e le ls lt n. refl;
-}
 
 module _ {source : ℕ} {before now : List SeatView} (b : BesideSoFar source before now) (here : source < length before) where
   pub row_here : AreLinkedBy EndsAreApart before → RowApart source (seat_at now source).outs now

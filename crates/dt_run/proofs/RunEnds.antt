@@ -21,8 +21,8 @@ use Rattle.dt_run.specs.NodesStand.{AreInStep, AreNodes}
 use Rattle.dt_run.specs.NodesView.{NodesView, no_running_node, node_in, opening_nodes, waiting_at}
 use Rattle.dt_run.specs.Phase.{EndsInStep, IsPhase}
 use Rattle.dt_run.specs.Silence.{ComesToAnEnd, IsExact, IsSilent, PacketsWait, counts_in, all_kept_in, made_in, most_phases, quiet_after, quiet_in}
-use Rattle.dt_run.proofs.CountedPhases.{all_of_all, kept_up, made_now, quiet_more, quiet_none, silent_of, sum_same}
-use Rattle.dt_run.proofs.Laws.{events_few}
+use Rattle.dt_run.proofs.CountedPhases.{all_of_all, kept_up, made_now, quiet_more, quiet_none, silent_of}
+use Rattle.dt_run.proofs.Laws.{events_few, sum_below_same}
 use Rattle.dt_run.proofs.QuietPhases.{done_now, exact_and_put, exact_now, exact_or_put}
 use Rattle.dt_run.proofs.StaysDone.{stays_done}
 
@@ -30,7 +30,7 @@ use Rattle.dt_run.proofs.StaysDone.{stays_done}
 pub kept_few : {v : NodesView} → AreNodes v → all_kept_in v ≤ most_events v.cluster v.workload
 kept_few {v} n =
     let a : all_kept_in v ≡ sum_below (λ q. length (those_at q n.all)) v.cluster.regions =
-    sum_same _ _ v.cluster.regions (λ q lq. ap length (sym (get_of_map (λ (m : NodeView). m.site.region.events) v.nodes q no_running_node) ∙ n.chronicle.lists q)) in
+    sum_below_same _ _ v.cluster.regions (λ q lq. ap length (sym (get_of_map (λ (m : NodeView). m.site.region.events) v.nodes q no_running_node) ∙ n.chronicle.lists q)) in
     let b : sum_below (λ q. length (those_at q n.all)) v.cluster.regions ≤ length n.all = all_of_all n.all v.cluster.regions in
     let c : length (events_of n.all) ≡ length n.all = length-map n.all (λ (x : Stamped). x.event) in
     let opening : HasInvariant v.cluster v.workload (opening_world v.cluster v.workload) = record { order = []; inv = legal_keeps v.cluster n.cluster v.workload n.workload [] tt } in

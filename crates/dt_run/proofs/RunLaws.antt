@@ -34,7 +34,7 @@ use Rattle.dt_run.specs.NodesStand.{AreInStep, AreNodes, BeganEagerly, StandsAmo
 use Rattle.dt_run.specs.NodesView.{NodesView, kept_by, marks_at, no_running_node, node_in}
 use Rattle.dt_run.specs.Run.{AreMerged, IsRun, IsRunReport, IsRunText}
 use Rattle.dt_run.proofs.Laws.{are_kept, merge_changes, merge_keeps, merge_legal, merge_world}
-use Rattle.dt_run.proofs.Phasing.{good_world}
+use Rattle.dt_run.proofs.TurnsInOrder.{good_world}
 use Rattle.dt_run.proofs.SitesAfter.{sites_stand}
 
 -- the events of a region, with or without their stamps

@@ -8,7 +8,6 @@ use Rattle.dt_events.specs.Stamps.{events_of}
 use Rattle.dt_cluster.specs.declared.Cluster.{Cluster}
 use Rattle.dt_workload.specs.declared.Workload.{Workload}
 use Rattle.dt_merge.specs.Weight.{most_events, sum_below}
-use Rattle.dt_merge.proofs.Callers.{most_few}
 use Rattle.dt_node.specs.NodeView.{NodeView}
 use Rattle.dt_node.specs.Standing.{AreTold}
 use Rattle.dt_run.specs.Marks.{kept_by_region}
@@ -17,10 +16,11 @@ use Rattle.dt_run.specs.Phase.{EndsInStep, IsPhase}
 use Rattle.dt_run.specs.SeatsInner.{HasCounts, AreSeated, SeatView, events_at, no_seat, nodes_view, seat_at}
 use Rattle.dt_run.specs.Silence.{ComesToAnEnd, PhaseIsCounted, counts_in, all_kept_after, all_kept_in, made_in, quiet_after, quiet_in}
 use Rattle.dt_run.specs.declared.counts.Counts.{Counts}
-use Rattle.dt_run.proofs.CountedPhases.{is_counted, sum_same}
+use Rattle.dt_run.proofs.CountedPhases.{is_counted}
+use Rattle.dt_run.proofs.Laws.{most_few, sum_below_first, sum_below_same}
 use Rattle.dt_run.proofs.RunEnds.{ends_on, kept_few, opening_counts, opening_ends}
-use Rattle.dt_run.proofs.Waiting.{node_is}
-use Rattle.dt_run.proofs.Waiting as waiting
+use Rattle.dt_run.proofs.WaitingPackets.{node_is}
+use Rattle.dt_run.proofs.WaitingPackets as waiting
 
 -- a sum along a list
 pub sum_next : {A : Type 0} (f : A → ℕ) (xs : List A) (i : ℕ) (x : A) → x ≡ get_or xs i x → i < length xs → (k : ℕ) → k ≡ sum_by f (take i xs) → k + f x ≡ sum_by f (take (i + 1) xs)
@@ -32,14 +32,10 @@ sum_next f xs i x is lt k so_far =
 pub sum_within : {A : Type 0} (f : A → ℕ) (xs : List A) (i : ℕ) (x : A) → x ≡ get_or xs i x → i < length xs → (k : ℕ) → k ≡ sum_by f (take i xs) → k + f x ≤ sum_by f xs
 sum_within f xs i x is lt k so_far = subst (λ n. n ≤ sum_by f xs) (sym (sum_next f xs i x is lt k so_far)) (sum_by-take-le f xs (i + 1))
 
-sum_first : (f : ℕ → ℕ) (n : ℕ) → sum_below f (suc n) ≡ f 0 + sum_below (λ k. f (suc k)) n
-sum_first f zero = omega arith
-sum_first f (suc n) = let e : sum_below f (suc n) ≡ f 0 + sum_below (λ k. f (suc k)) n = sum_first f n in omega (arith, e)
-
 sum_along : {A : Type 0} (f : A → ℕ) (xs : List A) (d : A) → sum_below (λ k. f (get_or xs k d)) (length xs) ≡ sum_by f xs
 sum_along f [] d = refl
 sum_along f (x ∷ xs) d =
-    let a : sum_below (λ k. f (get_or (x ∷ xs) k d)) (suc (length xs)) ≡ f x + sum_below (λ k. f (get_or xs k d)) (length xs) = sum_first (λ k. f (get_or (x ∷ xs) k d)) (length xs) in
+    let a : sum_below (λ k. f (get_or (x ∷ xs) k d)) (suc (length xs)) ≡ f x + sum_below (λ k. f (get_or xs k d)) (length xs) = sum_below_first (λ k. f (get_or (x ∷ xs) k d)) (length xs) in
     let b : sum_below (λ k. f (get_or xs k d)) (length xs) ≡ sum_by f xs = sum_along f xs d in
     let c : sum_by f (x ∷ xs) ≡ f x + sum_by f xs = sum_by-cons f x xs in
     omega (arith, a, b, c)
@@ -65,7 +61,7 @@ module _ (cluster : Cluster) (workload : Workload) (seats : List SeatView) (brok
   pub kept_seen : length seats ≡ cluster.regions → sum_by events_at seats ≡ all_kept_in seen
   kept_seen many =
       sym (sum_along events_at seats no_seat)
-      ∙ sum_same _ _ (length seats) (λ r lt. ap (λ (n : NodeView). length n.site.region.events) (sym (node_is cluster workload seats broken r)))
+      ∙ sum_below_same _ _ (length seats) (λ r lt. ap (λ (n : NodeView). length n.site.region.events) (sym (node_is cluster workload seats broken r)))
       ∙ ap (sum_below (λ r. length (kept_by_region seen r))) many
 
 -- before the first phase

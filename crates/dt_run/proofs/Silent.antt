@@ -29,18 +29,15 @@ use Rattle.dt_run.specs.NodesStand.{AreNodes, IsOnLink}
 use Rattle.dt_run.specs.NodesView.{NodesView, link_to, no_running_node, node_in, waiting_at, waiting_between}
 use Rattle.dt_run.specs.Phase.{IsPhase, TurnsWhole}
 use Rattle.dt_run.specs.Silence.{HasArrived, IsSilent, KnowsExactly}
-use Rattle.dt_run.proofs.Phasing.{goes, received_here, taken_here}
-use Rattle.dt_run.proofs.Snapshots.{asked_long, entries_long, first_asked, first_entry}
+use Rattle.dt_run.proofs.Laws.{above_greatest}
+use Rattle.dt_run.proofs.TurnsInOrder.{goes, received_here, taken_here}
+use Rattle.dt_run.proofs.SentPackets.{asked_long, entries_long, first_asked, first_entry}
 
 -- the greatest of numbers is above each of them
 
-above_first : (n : ℕ) (ms : List ℕ) → n ≤ greatest n ms
-above_first n [] = omega arith
-above_first n (m ∷ ms) = let later : max n m ≤ greatest (max n m) ms = above_first (max n m) ms in omega (arith, later)
-
 above_each : (n : ℕ) (ms : List ℕ) (m : ℕ) → Has ms m → m ≤ greatest n ms
 above_each n [] m h = absurd h
-above_each n (x ∷ ms) m (inl e) = let later : max n x ≤ greatest (max n x) ms = above_first (max n x) ms in omega (arith, later, e)
+above_each n (x ∷ ms) m (inl e) = let later : max n x ≤ greatest (max n x) ms = above_greatest (max n x) ms in omega (arith, later, e)
 above_each n (x ∷ ms) m (inr h) = above_each (max n x) ms m h
 
 -- what waits on a link waits for its target
@@ -136,9 +133,9 @@ module _ {before after : NodesView} (n : AreNodes before)
       still_exact k =
           let t : get_or (a region).took other 0 ≡ greatest (get_or (b region).took other 0) (map (λ (p : Packet). p.took) from_other) = heard.took in
           let r : get_or (a region).received other 0 ≡ greatest (get_or (b region).received other 0) (map (λ (p : Packet). p.received) from_other) = heard.received in
-          let u : get_or (b region).took other 0 ≤ greatest (get_or (b region).took other 0) (map (λ (p : Packet). p.took) from_other) = above_first (get_or (b region).took other 0) (map (λ (p : Packet). p.took) from_other) in
+          let u : get_or (b region).took other 0 ≤ greatest (get_or (b region).took other 0) (map (λ (p : Packet). p.took) from_other) = above_greatest (get_or (b region).took other 0) (map (λ (p : Packet). p.took) from_other) in
           let v : get_or (b region).received other 0 ≤ greatest (get_or (b region).received other 0) (map (λ (p : Packet). p.received) from_other) =
-          above_first (get_or (b region).received other 0) (map (λ (p : Packet). p.received) from_other) in
+          above_greatest (get_or (b region).received other 0) (map (λ (p : Packet). p.received) from_other) in
           let x = k.took in let y = k.received in
           let p : taken_from (a other).site.region.state.here region ≡ taken_from (b other).site.region.state.here region = ap (λ (s : Replica). taken_from s region) (here_same other lo) in
           let q : length (log_at (a other).site.region.state.logs region) ≡ length (log_at (b other).site.region.state.logs region) = log_same other region lo lr in

@@ -10,7 +10,7 @@ use Rattle.dt_session.specs.World.{World, node_at}
 use Rattle.dt_session.specs.Run.{AreLegal, world_after}
 use Rattle.dt_site.specs.Site.{SiteView, no_site}
 use Rattle.dt_site.specs.StandsIn.{StandsIn}
-use Rattle.dt_site.proofs.Callers.{IsShort, legal_short, many_here}
+use Rattle.dt_site.proofs.Callers.{HasShortLists, legal_short, many_here}
 use Rattle.dt_world.specs.Telling.{AreSitesAfter}
 use Rattle.dt_node.specs.NodeView.{NodeView, number_of}
 use Rattle.dt_node.specs.Standing.{NodeFits}
@@ -21,7 +21,7 @@ use Rattle.dt_run.proofs.Laws.{few_events, reached}
 -- what a node submitted is counted by 32 bits
 submitted_few : {cluster : Cluster} {workload : Workload} {events : List Event} {n : NodeView} → NodeFits cluster workload events n → length n.site.region.state.submitted < 4294967296
 submitted_few {cluster} {workload} {events} {n} f =
-    let short : IsShort (world_after cluster workload events) (length events) = legal_short cluster f.run.sound workload f.run.fits events f.run.legal in
+    let short : HasShortLists (world_after cluster workload events) (length events) = legal_short cluster f.run.sound workload f.run.fits events f.run.legal in
     let s : length (node_at (world_after cluster workload events) (number_of n)).submitted ≤ length events = short.submitted (number_of n) in
     let e : length (node_at (world_after cluster workload events) (number_of n)).submitted ≡ length n.site.region.state.submitted = many_here (reached f) f.site in
     let l : length events ≤ 24640000 = few_events f in

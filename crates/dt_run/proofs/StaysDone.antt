@@ -39,7 +39,7 @@ use Rattle.dt_run.specs.Done.{IsAllDone}
 use Rattle.dt_run.specs.NodesStand.{AreNodes}
 use Rattle.dt_run.specs.NodesView.{NodesView, node_in, waiting_at}
 use Rattle.dt_run.specs.Phase.{IsPhase, TurnsOnce}
-use Rattle.dt_run.proofs.Phasing.{goes, good_world, own_events}
+use Rattle.dt_run.proofs.TurnsInOrder.{goes, good_world, own_events}
 
 -- every call of each session of a region is answered
 abbrev AreAnsweredAt : Workload → World → ℕ → Type 0

@@ -1,5 +1,5 @@
 -- Scaffolding: how links are made, and how the ends of all of them are brought beside each other, one source after another.
--- Read `SeatsInner` before.
+-- Read `SeatsInner` before. Read next: src/links.rt, whose calls do this.
 use Rattle.std.specs.Prelude.{◌≡◌, ◌≢◌, ◌<◌, ◌≤◌, ◌+◌, ◌-◌, ◌⊎◌, ◌++◌, ◌∷◌, ℕ, List, [], get_or, length, map, set}
 use Rattle.dt_ring.specs.Rings.{RingInView, RingOutView}
 use Rattle.dt_run.specs.NodesView.{link_to}

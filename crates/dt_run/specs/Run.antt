@@ -1,6 +1,6 @@
 -- What a run gives: the report of the events that the nodes have kept, as one list in the order of stamps. One learns here
 -- that this list is a legal run of the cluster and its workload, eager and finished (`IsRun`). Read next: src/lib.rt.
-use Rattle.std.specs.Prelude.{◌≡◌, List}
+use Rattle.std.specs.Prelude.{◌≡◌, ℕ, List}
 use Rattle.dt_events.specs.declared.Event.{Event}
 use Rattle.dt_events.specs.declared.Stamped.{Stamped}
 use Rattle.dt_events.specs.Stamps.{events_of}
@@ -12,6 +12,7 @@ use Rattle.dt_text.specs.Texts.{Bytes}
 use Rattle.dt_report.specs.declared.Report.{Report}
 use Rattle.dt_report.specs.Report.{report_text}
 use Rattle.dt_world.specs.WorldReport.{report_of}
+use Rattle.dt_sum.specs.Summary.{summary_of}
 use Rattle.dt_run.specs.NodesView.{NodesView, kept_by}
 
 -- these are the events that lists of kept events have, in the order of a merge
@@ -37,3 +38,9 @@ pub record IsRunText (v : NodesView) (text : Bytes) : Type 0 where
   pub report : Report
   pub told : IsRunReport v report
   pub text_is : text ≡ report_text report
+
+-- the text is the summary of such a report, for a workload of n calls
+pub record IsRunSummary (v : NodesView) (calls : ℕ) (text : Bytes) : Type 0 where
+  pub report : Report
+  pub told : IsRunReport v report
+  pub text_is : text ≡ summary_of calls report

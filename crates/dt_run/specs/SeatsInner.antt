@@ -13,6 +13,7 @@ use Rattle.dt_node.specs.Sending.{HasSent, LeavesNothingOut}
 use Rattle.dt_node.specs.Standing.{NodeStands}
 use Rattle.dt_node.specs.Steps.{HasTurned}
 use Rattle.dt_node.specs.Turn.{BeginsEagerly, HasTaken, IsSettled}
+use Rattle.dt_sum.specs.Summary.{kept_answers}
 use Rattle.dt_run.specs.NodesStand.{AreNodes}
 use Rattle.dt_run.specs.NodesView.{NodesView, link_to, no_running_node}
 use Rattle.dt_run.specs.Phase.{TurnsOnce}
@@ -126,6 +127,10 @@ nodes_view cluster workload seats broken = record {
 -- how many events the region of a seat has kept
 abbrev pub events_at : SeatView → ℕ
 events_at s = length s.node.site.region.events
+
+-- how many answers it has kept
+abbrev pub answers_at : SeatView → ℕ
+answers_at s = kept_answers s.node.site.region.events
 
 -- what the type of the nodes keeps of its counts: they are those of the nodes, and a run comes to an end
 pub record HasCounts (v : NodesView) (counts : Counts) : Type 0 where

@@ -1,9 +1,10 @@
-//! How many phases were made and how many events were kept, as the nodes count them.
+//! How many phases were made, and how many events and answers were kept, as the nodes count them.
 ghost use Rattle.std.specs.Prelude.{◌≡◌, ◌<◌, ◌+◌, ◌==◌, ◌^◌, length, sum_by, if◌then◌else◌};
-ghost use Rattle.dt_run.specs.SeatsInner.{events_at, seat_at};
+ghost use Rattle.dt_run.specs.SeatsInner.{answers_at, events_at, seat_at};
 
 use crate::seat::Seat;
 use dt_sched::Scheduler;
+use dt_sum::kept_answers;
 
 /// How far all nodes have come.
 #[derive(Clone, Copy)]
@@ -63,4 +64,16 @@ fn kept_by<S: Scheduler + Drop>(seats: &[Seat<S>]) -> u64
         kept += seat.node.region().events().len() as u64;
     }
     kept
+}
+
+/// How many answers the regions of all seats have kept.
+pub fn answers_by<S: Scheduler + Drop>(seats: &[Seat<S>]) -> u64
+    requires { sum_by events_at seats.now < 2 ^ 64 }
+    ensures { result ≡ sum_by answers_at seats.now }
+{
+    let mut answers = 0;
+    for seat in seats {
+        answers += kept_answers(seat.node.region().events()) as u64;
+    }
+    answers
 }

@@ -1,5 +1,5 @@
 //! The links between all regions: how they are made, and how their ends are brought beside each other.
-ghost use Rattle.std.specs.Prelude.{◌≡◌, ◌≢◌, ◌<◌, ◌+◌, ◌^◌, ℕ, [], get_or, length, map, OnOk};
+ghost use Rattle.std.specs.Prelude.{◌≡◌, ◌≢◌, ◌<◌, ◌+◌, ◌^◌, [], get_or, length, map, OnOk};
 ghost use Rattle.dt_lists.specs.Lists.{AllIn};
 ghost use Rattle.dt_node.specs.NodeView.{other_at};
 ghost use Rattle.dt_ring.specs.Rings.{RingInView};
@@ -12,7 +12,6 @@ use dt_ring::{RingIn, RingOut, beside, ring};
 use dt_sched::Scheduler;
 use dt_text::NoMemory;
 use std::alloc::Global;
-use std::mem;
 
 /// How many places a link has. At most two packets wait on one.
 const PLACES: u32 = 8;

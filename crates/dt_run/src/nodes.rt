@@ -3,6 +3,7 @@ ghost use Rattle.std.specs.Prelude.{◌≡◌, ◌↔◌, ◌<◌, ◌≤◌, le
 ghost use Rattle.dt_lists.specs.Lists.{AllIn};
 ghost use Rattle.dt_region.specs.Sound.{IsSoundRegion};
 ghost use Rattle.dt_round.specs.Rounds.{CanRound, Continues};
+ghost use Rattle.dt_table.specs.Table.{shown};
 ghost use Rattle.dt_txn.specs.Replica.{IsDrained};
 ghost use Rattle.dt_node.specs.NodeView.{opening_node_of};
 ghost use Rattle.dt_cluster.specs.Valid.{IsValidCluster};
@@ -11,11 +12,11 @@ ghost use Rattle.dt_run.specs.Done.{IsAllDone};
 ghost use Rattle.dt_run.specs.NodesStand.{AreNodes};
 ghost use Rattle.dt_run.specs.NodesView.{kept_by, marks_at, opening_nodes};
 ghost use Rattle.dt_run.specs.Phase.{EndsInStep, IsPhase};
-ghost use Rattle.dt_run.specs.Run.{AreMerged, IsRunReport, IsRunText};
-ghost use Rattle.dt_run.specs.SeatsInner.{EachGoes, SeatCan, SeatGoes, new_seat};
+ghost use Rattle.dt_run.specs.Run.{AreMerged, IsRunReport, IsRunSummary, IsRunText};
+ghost use Rattle.dt_run.specs.SeatsInner.{EachGoes, SeatCan, SeatGoes, new_seat, seat_at};
 ghost use Rattle.dt_run.specs.Silence.{ComesToAnEnd, PhaseIsCounted, counts_in};
 
-use crate::counts::Counts;
+use crate::counts::{Counts, answers_by};
 use crate::doing::{are_answered, have_done_all};
 use crate::links::{beside_all, link_all};
 use crate::merging::merged;
@@ -30,6 +31,8 @@ use dt_region::Region;
 use dt_report::Report;
 use dt_sched::Scheduler;
 use dt_site::opening_of;
+use dt_sum::summary_text;
+use dt_table::ShownList;
 use dt_text::NoMemory;
 use dt_workload::Workload;
 use dt_world::{report_of_sites, text_of_sites};
@@ -161,6 +164,18 @@ impl<S: Scheduler + Drop> Nodes<S> {
         )
     }
 
+    /// What that report comes to in three lines, for a workload of n calls. It is read off the nodes, and the report is not made.
+    pub fn summary(&self, alloc: Global, calls: u32) -> Result<Vec<u8>, NoMemory>
+        requires phases { 1 ≤ length (marks_at self.now 0) }
+        requires sound { self.now.broken ≡ false }
+        requires done { IsAllDone self.now }
+        ensures { IfOk result (λ text. IsRunSummary self.now calls text.items) }
+    {
+        let answers = answers_by(self.seats.as_slice());
+        let rows = first_rows(alloc, self.seats.as_slice())?;
+        summary_text(alloc, calls, answers, rows.as_slice())
+    }
+
     /// The events that all nodes have kept, in ascending order of their stamps, and of their regions where these are equal.
     fn merged(&self, alloc: Global) -> Result<Vec<Event>, NoMemory>
         ensures { IfOk result (λ events. AreMerged (kept_by self.now.nodes) events.items) }
@@ -216,8 +231,8 @@ impl<S: Scheduler + Drop + Send> Nodes<S> {
 /// From this many events on, the turns of a phase take longer than threads for them take to start and to end.
 const MANY: u64 = 1024;
 
-/// In how many threads the turns of a phase are made, if it keeps about n events: in two where it is short, as far as
-/// events tell, else in one for each region that there can be.
+/// In how many threads the turns of a phase are made that is expected to keep n events: in two where these are few, else in one
+/// for each region that there can be.
 fn threads_for(events: u64) -> usize
     ensures { 0 < result }
 {
@@ -283,6 +298,15 @@ fn some_failed<S: Scheduler>(seats: &[Seat<S>]) -> bool
         }
     }
     false
+}
+
+/// The rows that the region of the first seat shows.
+fn first_rows<S: Scheduler + Drop>(alloc: Global, seats: &[Seat<S>]) -> Result<ShownList, NoMemory>
+    requires { 0 < length seats.now }
+    ensures { IfOk result (λ rows. rows ≡ shown (seat_at seats.now 0).node.site.region.state.here.table) }
+{
+    let first = &seats[0];
+    first.node.region().table().shown(alloc)
 }
 
 /// A seat for the node of each region of a cluster, by its number, before anything happens.

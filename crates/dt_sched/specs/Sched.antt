@@ -1,6 +1,6 @@
 -- A scheduler as its callers see it: what was inserted, resolved and done, and nothing of how it finds its answers. So a
 -- plain one, which gathers the graph anew each time, and a quicker one have the same contracts (trait `Scheduler`). What
--- may be executed and resolved is said in Decide.antt, over these three things alone. Read next: src/scheduler.rt, the
+-- may be executed and resolved is stated in Decide.antt, over these three things alone. Read next: src/scheduler.rt, the
 -- trait.
 use Rattle.std.specs.Prelude.{◌≡◌, ◌<◌, ℕ, List, [], ◌∷◌, ◌++◌, Option, Some, None, length, sum_by, set, replicate}
 use Rattle.dt_lists.specs.Lists.{AllIn, Has}

@@ -1,4 +1,4 @@
--- What one transaction sees and does: whether it is stale hangs on the next movers alone, its result on the values, and
+-- What one transaction sees and does: whether it is stale depends on the next movers alone, its result on the values, and
 -- only a live one changes anything.
 use Rattle.std.proofs.Common.{◌≡◌, ◌≤◌, ◌⊎◌, ℕ, zero, suc, true, false, cond, List, [], ◌∷◌, length, map, slice_get, Some, None, refl, sym, ap, ap₂, subst, ◌∙◌, inl, inr, arith}
 use Rattle.std.specs.Prelude.{Option, option_map}

@@ -1,5 +1,5 @@
 -- What an effect does to a table, at one key and at one unit.
-use Rattle.std.proofs.Common.{◌≡◌, ◌≢◌, ℕ, true, false, cond, List, [], ◌∷◌, ◌++◌, Some, None, IsSomeAnd, refl, sym, ap, subst, ◌∙◌, inl, inr}
+use Rattle.std.proofs.Common.{◌≡◌, ◌≢◌, ℕ, true, false, cond, List, [], ◌∷◌, ◌++◌, Some, None, IsSomeAnd, refl, sym, ap, ◌∙◌, inl, inr}
 use Rattle.std.specs.Prelude.{Option, unwrap_or}
 use Rattle.std.specs.Cmp.Lexicographic.{bytes_decides}
 use Rattle.std.specs.FinMap.{get}
@@ -16,8 +16,9 @@ use Rattle.dt_table.proofs.Callers.{all_written-keeps, get-put, homes-apply, reg
 use Rattle.dt_serial.specs.Order.{Changes}
 use Rattle.dt_text.proofs.Callers.{either_bytes}
 
-key_same : (a b : Bytes) → a ≡ b → same_key a b ≡ true
-key_same a b e = (bytes_decides a b).1 e
+-- equal keys pass the test
+pub test_of_key : (a b : Bytes) → a ≡ b → same_key a b ≡ true
+test_of_key a b e = (bytes_decides a b).1 e
 
 key_other : (a b : Bytes) → a ≢ b → same_key a b ≡ false
 key_other a b n = false_from_ne_true _ (λ e. n ((bytes_decides a b).0 e))
@@ -40,14 +41,14 @@ written_other : (t : Table) (key : Bytes) (v : Option Value) (q : Bytes) → q �
 written_other t key v q n = get-put t.values key v q ∙ ap (λ b. cond b (Some v) (get t.values q)) (key_other q key n)
 
 written_same : (t : Table) (key : Bytes) (v : Option Value) (q : Bytes) → q ≡ key → get (written t key v).values q ≡ Some v
-written_same t key v q e = get-put t.values key v q ∙ ap (λ b. cond b (Some v) (get t.values q)) (key_same q key e)
+written_same t key v q e = get-put t.values key v q ∙ ap (λ b. cond b (Some v) (get t.values q)) (test_of_key q key e)
 
 -- writes leave the values of other keys
 all_written_keeps : (ws : List (Bytes × Option Value)) (t : Table) (q : Bytes) → ¬ (AnyIn (λ w. w.0 ≡ q) ws) → get (all_written ws t).values q ≡ get t.values q
 all_written_keeps [] t q n = refl
 all_written_keeps (w ∷ ws) t q n = all_written_keeps ws (written t w.0 w.1) q (λ a. n (inr a)) ∙ written_other t w.0 w.1 q (λ e. n (inl (sym e)))
 
--- and what they make of a value hangs on that value alone
+-- and what they make of a value depends on that value alone
 written_alike : (t u : Table) (key : Bytes) (v : Option Value) (q : Bytes) → get t.values q ≡ get u.values q → get (written t key v).values q ≡ get (written u key v).values q
 written_alike t u key v q e = at (either_bytes q key)
   where
@@ -93,7 +94,7 @@ moves_kept e t version w is n = moves_at e t w ∙ by e.moved n
         ap (λ b. cond b (Some (moves_of t m.0 ++ record { target = m.1; by = m.2 } ∷ [])) (get t.moves w))
         (key_other w (unit_of t.version m.0) (λ s. n (sym (s ∙ ap (λ v. unit_of v m.0) is))))
 
--- and what it makes of the moves of a unit hangs on these moves alone
+-- and what it makes of the moves of a unit depends on these moves alone
 moves_alike : (f : Effect) (t u : Table) (w : Bytes) → t.version ≡ u.version → get t.moves w ≡ get u.moves w → get (apply f t).moves w ≡ get (apply f u).moves w
 moves_alike f t u w is e = moves_at f t w ∙ by f.moved ∙ sym (moves_at f u w)
   where
@@ -108,11 +109,11 @@ moves_alike f t u w is e = moves_at f t w ∙ by f.moved ∙ sym (moves_at f u w
             → cond (same_key w (unit_of t.version m.0)) (Some (moves_of t m.0 ++ made)) (get t.moves w) ≡ cond (same_key w (unit_of u.version m.0)) (Some (moves_of u m.0 ++ made)) (get u.moves w)
         at (inl s) =
             let there : w ≡ unit_of u.version m.0 = s ∙ ap (λ v. unit_of v m.0) is in
-            ap (λ b. cond b (Some (moves_of t m.0 ++ made)) (get t.moves w)) (key_same w (unit_of t.version m.0) s)
+            ap (λ b. cond b (Some (moves_of t m.0 ++ made)) (get t.moves w)) (test_of_key w (unit_of t.version m.0) s)
             ∙ ap (λ k. Some (unwrap_or (get t.moves k) [] ++ made)) (sym s)
             ∙ ap (λ o. Some (unwrap_or o [] ++ made)) e
             ∙ ap (λ k. Some (unwrap_or (get u.moves k) [] ++ made)) there
-            ∙ sym (ap (λ b. cond b (Some (moves_of u m.0 ++ made)) (get u.moves w)) (key_same w (unit_of u.version m.0) there))
+            ∙ sym (ap (λ b. cond b (Some (moves_of u m.0 ++ made)) (get u.moves w)) (test_of_key w (unit_of u.version m.0) there))
         at (inr n) =
             ap (λ b. cond b (Some (moves_of t m.0 ++ made)) (get t.moves w)) (key_other w (unit_of t.version m.0) n)
             ∙ e

@@ -1,22 +1,20 @@
 -- A transaction that does not clash with another changes nothing of what the other sees.
-use Rattle.std.proofs.Common.{◌≡◌, ℕ, true, false, cond, List, [], ◌∷◌, ◌++◌, length, map, slice_get, Some, None, IsSomeAnd, refl, sym, ap, ap₂, subst, ◌∙◌, inl, inr}
+use Rattle.std.proofs.Common.{◌≡◌, ℕ, true, false, cond, List, [], ◌∷◌, ◌++◌, length, map, slice_get, Some, None, IsSomeAnd, refl, sym, ap, ap₂, ◌∙◌, inl, inr}
 use Rattle.std.specs.Prelude.{Option, option_map}
 use Rattle.std.proofs.lemmas.Bool.{false≢true}
 use Rattle.std.proofs.lemmas.List.{append-nil}
 use Rattle.dt_lists.specs.Lists.{AllIn, Has}
 use Rattle.dt_lists.proofs.Callers.{all_put, any_get, any_put, has_map}
-use Rattle.dt_access.specs.Clash.{Bytes, clash, same_key, uses_clash}
+use Rattle.dt_access.specs.Clash.{Bytes, clash, uses_clash}
 use Rattle.dt_access.specs.Granules.{unit_of}
 use Rattle.dt_access.specs.declared.Access.{Access}
 use Rattle.dt_access.specs.declared.TxnId.{TxnId}
 use Rattle.dt_access.proofs.Callers.{clash_of_uses, same_key_other}
-use Rattle.dt_text.specs.declared.Value.{Value}
 use Rattle.dt_proc.specs.Tree.{ProcTree}
 use Rattle.dt_table.specs.declared.Effect.{Effect}
 use Rattle.dt_table.specs.Table.{Table, Moved, apply, moves_of, value_of}
 use Rattle.dt_table.proofs.Callers.{move_at, moves_of-apply, version-apply}
 use Rattle.dt_txn.specs.declared.txn.Txn.{Txn}
-use Rattle.dt_txn.specs.declared.outcome.Seen.{Seen}
 use Rattle.dt_txn.specs.Transaction.{IsValid, used_of}
 use Rattle.dt_txn.specs.Execution.{one, see, seen_of}
 use Rattle.dt_txn.specs.Serial.{after}

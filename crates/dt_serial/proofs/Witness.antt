@@ -21,21 +21,21 @@ use Rattle.dt_serial.proofs.One.{one_live}
 use Rattle.dt_serial.proofs.Valid.{move_narrow}
 use Rattle.dt_serial.proofs.Runs.{after_moves, moves_grow}
 
-abbrev use_of : ℕ → Bytes → ℕ → Access
-use_of version key counter = record { key = key; mode = mode_of_move version; home = counter; counter = counter }
+abbrev move_use : ℕ → Bytes → ℕ → Access
+move_use version key counter = record { key = key; mode = mode_of_move version; home = counter; counter = counter }
 
 abbrev mover : ℕ → Bytes → Txn
-mover version key = record { id = record { seq = 1; region = 0 }; rank = 5; body = Move key 1; access = use_of version key 0 ∷ [] }
+mover version key = record { id = record { seq = 1; region = 0 }; rank = 5; body = Move key 1; access = move_use version key 0 ∷ [] }
 
 abbrev later : ℕ → Bytes → Txn
-later version key = record { id = record { seq = 2; region = 0 }; rank = 5; body = Move key 0; access = use_of version key 1 ∷ [] }
+later version key = record { id = record { seq = 2; region = 0 }; rank = 5; body = Move key 0; access = move_use version key 1 ∷ [] }
 
 abbrev stale : ℕ → Bytes → Txn
-stale version key = record { id = record { seq = 1; region = 1 }; rank = 5; body = Move key 2; access = use_of version key 0 ∷ [] }
+stale version key = record { id = record { seq = 1; region = 1 }; rank = 5; body = Move key 2; access = move_use version key 0 ∷ [] }
 
 -- the three of them in the order in which they run
-abbrev run : ℕ → Bytes → List Txn
-run version key = mover version key ∷ later version key ∷ stale version key ∷ []
+abbrev three_txns : ℕ → Bytes → List Txn
+three_txns version key = mover version key ∷ later version key ∷ stale version key ∷ []
 
 -- the first move precedes the two others
 abbrev First : TxnId → TxnId → Type 0
@@ -46,7 +46,7 @@ no_later t e (inl f) = let s : ◌≡◌ {A = ℕ} 1 2 = ap (λ i. i.seq) (sym e
 no_later t e (inr f) = let s : ◌≡◌ {A = ℕ} 0 1 = ap (λ i. i.region) (sym e ∙ f) in omega arith
 
 move_keeps : (procs : List ProcTree) (version : ℕ) (key : Bytes) (id : TxnId) (target counter : ℕ) → IsUnit version key
-    → KeepsToKeys procs version (record { id = id; rank = 5; body = Move key target; access = use_of version key counter ∷ [] })
+    → KeepsToKeys procs version (record { id = id; rank = 5; body = Move key target; access = move_use version key counter ∷ [] })
 move_keeps procs version key id target counter unit = record {
   changes = λ reads q c. elim c [ inl e ↦ absurd e | inr e ↦ inl (inr (e, refl)) ];
   moves = λ k t is. let same : key ≡ k = cc in subst (IsUnit version) same unit;
@@ -77,12 +77,12 @@ stale_first = record {
 abbrev CanBeShared : Txn → Txn → Type 0
 CanBeShared x y = x.id ≢ y.id → (a b : Access) → Has x.access a → Has y.access b → a.counter ≡ b.counter → uses_clash (a.key, a.mode) (b.key, b.mode) ≡ true → Ordered First x.id y.id
 
-differ : (version : ℕ) (key : Bytes) (a b : Access) → Has (use_of version key 1 ∷ []) a → Has (use_of version key 0 ∷ []) b → ¬ (a.counter ≡ b.counter)
+differ : (version : ℕ) (key : Bytes) (a b : Access) → Has (move_use version key 1 ∷ []) a → Has (move_use version key 0 ∷ []) b → ¬ (a.counter ≡ b.counter)
 differ version key a b (inl e) (inl f) s = let r : ◌≡◌ {A = ℕ} 1 0 = ap (λ c. c.counter) e ∙ s ∙ sym (ap (λ c. c.counter) f) in omega arith
 differ version key a b (inl e) (inr f) s = f
 differ version key a b (inr e) f s = e
 
-pairs : (version : ℕ) (key : Bytes) → AllIn (λ x. AllIn (CanBeShared x) (run version key)) (run version key)
+pairs : (version : ℕ) (key : Bytes) → AllIn (λ x. AllIn (CanBeShared x) (three_txns version key)) (three_txns version key)
 pairs version key = (
   (λ ne a b ha hb e c. absurd (ne refl), (λ ne a b ha hb e c. inl (refl, inl refl), (λ ne a b ha hb e c. inl (refl, inr refl), tt))),
   (
@@ -116,7 +116,7 @@ module _ (procs : List ProcTree) (start : Table) (unmoved : (key : Bytes) → mo
   anchored_later : (txns : List Txn) → AllIn (λ a. FollowsMove First (moves_of (table_after procs txns (after procs (mover start.version key) start)) a.key) a.counter (later start.version key).id) (later start.version key).access
   anchored_later txns = (first_move txns, tt)
 
-  pub history : IsHistory procs First start (run start.version key)
+  pub history : IsHistory procs First start (three_txns start.version key)
   history = record {
     transitive = λ u v t r s. absurd (no_later v s.0 r.1);
     unmoved = unmoved;
@@ -130,15 +130,15 @@ module _ (procs : List ProcTree) (start : Table) (unmoved : (key : Bytes) → mo
     down = later_first;
     anchored = ((tt, tt), (anchored_later (later start.version key ∷ stale start.version key ∷ []), ((tt, tt), tt)));
     shared = λ x y hx hy.
-        let of_x : AllIn (CanBeShared x) (run start.version key) = all_get (λ z. AllIn (CanBeShared z) (run start.version key)) (run start.version key) (pairs start.version key) x hx in
-        all_get (CanBeShared x) (run start.version key) of_x y hy;
+        let of_x : AllIn (CanBeShared x) (three_txns start.version key) = all_get (λ z. AllIn (CanBeShared z) (three_txns start.version key)) (three_txns start.version key) (pairs start.version key) x hx in
+        all_get (CanBeShared x) (three_txns start.version key) of_x y hy;
   }
 
   -- both orders of the last two are parts of it
   abbrev IsPartOfRun : List Txn → Type 0
-  IsPartOfRun = IsPart procs First start (run start.version key)
+  IsPartOfRun = IsPart procs First start (three_txns start.version key)
 
-  pub either_way : IsPartOfRun (run start.version key) × IsPartOfRun (mover start.version key ∷ stale start.version key ∷ later start.version key ∷ [])
+  pub either_way : IsPartOfRun (three_txns start.version key) × IsPartOfRun (mover start.version key ∷ stale start.version key ∷ later start.version key ∷ [])
   either_way = (
     record { fits = history; members = (inl refl, (inr (inl refl), (inr (inr (inl refl)), tt))); down = later_first },
     record { fits = history; members = (inl refl, (inr (inr (inl refl)), (inr (inl refl), tt))); down = stale_first },

@@ -41,20 +41,20 @@ same_name a b e = (bytes_decides a b).0 (texts_ties a b ∙ e)
 
 -- what holds of all sessions holds of those of a region
 
-with_all : (P : Session → Type 0) (s : Session) (sessions : List Session) → P s → AllIn P sessions → AllIn P (with_session s sessions)
-with_all P s [] p a = (p, tt)
-with_all P s (t ∷ sessions) p a = go (cases_Bool (is_lt (slice_cmp nat_cmp s.name t.name))) (with_all P s sessions p a.1)
+pub with_session_all : (P : Session → Type 0) (s : Session) (sessions : List Session) → P s → AllIn P sessions → AllIn P (with_session s sessions)
+with_session_all P s [] p a = (p, tt)
+with_session_all P s (t ∷ sessions) p a = go (cases_Bool (is_lt (slice_cmp nat_cmp s.name t.name))) (with_session_all P s sessions p a.1)
   where
     go : (is_lt (slice_cmp nat_cmp s.name t.name) ≡ true) ⊎ (is_lt (slice_cmp nat_cmp s.name t.name) ≡ false) → AllIn P (with_session s sessions) → AllIn P (with_session s (t ∷ sessions))
     go (inl y) rest = rw y (p, a)
     go (inr n) rest = rw n (a.0, rest)
 
-region_all : (P : Session → Type 0) (region : ℕ) (sessions : List Session) → AllIn P sessions → AllIn P (sessions_at region sessions)
-region_all P region [] a = tt
-region_all P region (s ∷ sessions) a = go (cases_Bool (s.region == region)) (region_all P region sessions a.1)
+pub sessions_at_all : (P : Session → Type 0) (region : ℕ) (sessions : List Session) → AllIn P sessions → AllIn P (sessions_at region sessions)
+sessions_at_all P region [] a = tt
+sessions_at_all P region (s ∷ sessions) a = go (cases_Bool (s.region == region)) (sessions_at_all P region sessions a.1)
   where
     go : ((s.region == region) ≡ true) ⊎ ((s.region == region) ≡ false) → AllIn P (sessions_at region sessions) → AllIn P (sessions_at region (s ∷ sessions))
-    go (inl y) rest = rw y (with_all P s (sessions_at region sessions) a.0 rest)
+    go (inl y) rest = rw y (with_session_all P s (sessions_at region sessions) a.0 rest)
     go (inr n) rest = rw n rest
 
 -- an idle session stands soundly, where it has not too many calls
@@ -70,7 +70,7 @@ map_all [] a = tt
 map_all (s ∷ sessions) a = (record { few = omega (arith, a.0); within = omega arith }, map_all sessions a.1)
 
 pub idle_sound : (region : ℕ) (sessions : List Session) → calls_in sessions ≤ 20000 → AllIn (λ p. IsSoundSeat p.1) (map idle_seat (sessions_at region sessions))
-idle_sound region sessions few = map_all (sessions_at region sessions) (region_all (λ s. length s.calls ≤ 20000) region sessions (short_calls sessions 20000 few))
+idle_sound region sessions few = map_all (sessions_at region sessions) (sessions_at_all (λ s. length s.calls ≤ 20000) region sessions (short_calls sessions 20000 few))
 
 -- one session more is put among those of a region
 
@@ -113,7 +113,7 @@ module _ (region : ℕ) (sessions : List Session) (once : Distinct (session_name
       let new : AllIn (λ t. s.name ≢ t.name) (drop (length sessions - behind) sessions) =
       subst (λ k. AllIn (λ t. s.name ≢ t.name) (drop k sessions)) after
       (subst (λ x. AllIn (λ t. x.name ≢ t.name) (drop (suc n) sessions)) (sym is) (names_after sessions n s once within)) in
-      inserted s (sessions_at region (drop (length sessions - behind) sessions)) (region_all (λ t. s.name ≢ t.name) region (drop (length sessions - behind) sessions) new)
+      inserted s (sessions_at region (drop (length sessions - behind) sessions)) (sessions_at_all (λ t. s.name ≢ t.name) region (drop (length sessions - behind) sessions) new)
       ∙ sym (ap (λ l. map idle_seat (sessions_at region l)) parts ∙ rw (eq-eqb s.region region here) refl)
 
   -- it is not
@@ -170,14 +170,15 @@ put_ascends entries name seat a =
 pub put_sound_seat : (entries : List (Bytes × Seat)) (name : Bytes) (seat : Seat) → AreSoundSeats entries → IsSoundSeat seat → AreSoundSeats (set_value (is_named name) entries seat)
 put_sound_seat entries name seat a sound = record { ascending = put_ascends entries name seat a.ascending; each = put_sound entries name seat a.each sound }
 
-pub finds_own : (entries : List (Bytes × Seat)) (p : Bytes × Seat) → HasAscendingKeys entries → Has entries p → lookup (is_named p.0) entries ≡ Some p.1
-finds_own [] p a h = absurd h
-finds_own (q ∷ entries) p a (inl e) =
+-- a session is found by its name
+pub seat_found : (entries : List (Bytes × Seat)) (p : Bytes × Seat) → HasAscendingKeys entries → Has entries p → lookup (is_named p.0) entries ≡ Some p.1
+seat_found [] p a h = absurd h
+seat_found (q ∷ entries) p a (inl e) =
     let own : is_named p.0 q.0 ≡ true = ap (λ x. is_named p.0 x.0) e ∙ sym (texts_ties p.0 p.0) ∙ same_key_self p.0 in
     rw own (ap (λ x. Some x.1) e)
-finds_own (q ∷ entries) p a (inr h) =
+seat_found (q ∷ entries) p a (inr h) =
     let other : is_named p.0 q.0 ≡ false = sym (texts_ties p.0 q.0) ∙ same_key_after p.0 q.0 (all_get (λ x. KeyBefore q.0 x.0) entries a.0 p h) in
-    rw other (finds_own entries p a.1 h)
+    rw other (seat_found entries p a.1 h)
 
 -- a place of the list has its name
 pub get_name : (entries : List (Bytes × Seat)) (i : ℕ) → slice_get (map (λ p. p.0) entries) i ≡ option_map (λ p. p.0) (slice_get entries i)
@@ -188,7 +189,7 @@ get_name (p ∷ entries) (suc i) = get_name entries i
 -- the session of the name at a place is the one that stands there
 
 pub stands_at : (s : SessionsView) (index : ℕ) (p : Bytes × Seat) → HasAscendingKeys s.seats → slice_get s.seats index ≡ Some p → seat_of s p.0 ≡ Some p.1
-stands_at s index p a e = finds_own s.seats p a (has_place s.seats index p e)
+stands_at s index p a e = seat_found s.seats p a (has_place s.seats index p e)
 
 pub waits_there : (s : SessionsView) (index : ℕ) (p : Bytes × Seat) → HasAscendingKeys s.seats → slice_get s.seats index ≡ Some p
     → option_and_then (waits_of s) (slice_get (map (λ q. q.0) s.seats) index) ≡ option_map (λ (w : Waiting). w.id) p.1.waits
@@ -238,12 +239,9 @@ pub names_answered : (s : SessionsView) → AreAllAnswered s → EachNameIsAnswe
 names_answered s a name seat found = found_answered s.seats name seat a found
 
 pub answered_of_names : (s : SessionsView) → HasAscendingKeys s.seats → EachNameIsAnswered s → AreAllAnswered s
-answered_of_names s a each = all_put _ s.seats (λ p h. each p.0 p.1 (finds_own s.seats p a h))
+answered_of_names s a each = all_put _ s.seats (λ p h. each p.0 p.1 (seat_found s.seats p a h))
 
 -- where a session stands, by what it waits for
-
-pub idle_within : (seat : Seat) → IsSoundSeat seat → seat.waits ≡ None → seat.answered ≤ length seat.calls
-idle_within seat sound e = subst (StandsWithin (length seat.calls) seat.answered) e sound.within
 
 pub waiting_within : (seat : Seat) (w : Waiting) → IsSoundSeat seat → seat.waits ≡ Some w → seat.answered < length seat.calls
 waiting_within seat w sound e = subst (StandsWithin (length seat.calls) seat.answered) e sound.within
@@ -318,7 +316,7 @@ idle_found region name [] once = refl
 idle_found region name (s ∷ sessions) once = go (cases_Bool (s.region == region)) (cases_Bool (same_key s.name name)) (idle_found region name sessions once.1)
   where
     away : AllIn (λ t. s.name ≢ t.name) (sessions_at region sessions)
-    away = region_all (λ t. s.name ≢ t.name) region sessions (names_of s sessions once.0)
+    away = sessions_at_all (λ t. s.name ≢ t.name) region sessions (names_of s sessions once.0)
 
     named : same_key s.name name ≡ true → is_named name s.name ≡ true
     named e = sym (texts_ties name s.name) ∙ (bytes_decides name s.name).1 (sym ((bytes_decides s.name name).0 e))

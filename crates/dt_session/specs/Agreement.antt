@@ -1,7 +1,7 @@
--- What all regions agree on after a list of events: outcomes, tables, the order of what was answered before it was asked
--- for, the causes of failures, and, once they are drained of the same logs, all rows. `Agree` is what the program
--- promises of each list that it reports; that each legal list has it is the law `agreement`. Read next: src/laws.rt of
--- dt_agreement; docs/PROOF.md says why it is so.
+-- What all regions agree on after a list of events: outcomes, tables, the order of an attempt that was answered before
+-- another was submitted, the causes of failures, and, once they are drained of the same logs, all rows. `Agree` is what the
+-- program promises of each list that it reports; that each legal list has it is the law `agreement`. Read next: src/laws.rt
+-- of dt_agreement; docs/PROOF.md says why it is so.
 use Rattle.std.specs.Prelude.{◌≡◌, ◌<◌, ℕ, List, [], ◌∷◌, ◌++◌, Option, Some, None}
 use Rattle.dt_lists.specs.Lists.{AnyIn, Has}
 use Rattle.dt_access.specs.Clash.{Bytes}
@@ -34,9 +34,9 @@ abbrev pub IsAwaited : Cluster → Workload → List Event → ℕ → Bytes →
 IsAwaited cluster workload events region session id =
     WaitsFor (session_at workload.sessions (world_after cluster workload events).places region session) id
 
--- what an attempt that failed failed by: its procedure, run at its place in the serial order; or a named move: the unit that
--- is told is that of a key of the attempt, and the move stands earlier, is of that unit, gave, and follows the moves of the
--- unit that the attempt was annotated with
+-- why an attempt that failed did so: by its procedure, run at its place in the serial order; or by a named move: the unit
+-- that the outcome names is that of a key of the attempt, and the move stands earlier, is of that unit, succeeded, and follows
+-- the moves of the unit that the attempt was annotated with
 abbrev pub HasCause : Cluster → Workload → List Event → TxnId → Outcome → Type 0
 HasCause cluster workload events id (Gave values) = Unit {0}
 HasCause cluster workload events id (Aborted cause) =

@@ -1,6 +1,6 @@
 -- When a session may go on. A session makes its calls one after another; a call that was stale at its region it may try
 -- again, while it has had fewer attempts than the cluster allows. One learns here the two questions that are asked of a
--- session: whether it may submit an attempt (`MayTry`), and whether it may be answered (`MayEnd`). Both are said over
+-- session: whether it may submit an attempt (`MayTry`), and whether it may be answered (`MayEnd`). Both are stated over
 -- plain numbers and the attempt that it waits for, so that rules 1 and 7 of a world (`Step`) and the sessions of one
 -- region (`Sessions`) say the same. Read next: `Step`.
 use Rattle.std.specs.Prelude.{◌≡◌, ◌<◌, ◌+◌, ℕ, Option, Some, None}

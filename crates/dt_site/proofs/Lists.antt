@@ -38,19 +38,6 @@ parts_set (l ∷ logs) zero part = let a : length (l ++ part ∷ []) ≡ length 
 parts_set (l ∷ logs) (suc home) part = let a : parts_in (set logs home (log_at logs home ++ part ∷ [])) ≤ parts_in logs + 1 =
     parts_set logs home part in let b : parts_in (l ∷ set logs home (log_at logs home ++ part ∷ [])) ≤ parts_in (l ∷ logs) + 1 = omega (arith, parts_cons l (set logs home (log_at logs home ++ part ∷ [])), parts_cons l logs) in b
 
--- transactions among one more
-
-pub find_among : (txns : List Txn) (id : TxnId) (u : Txn) → find_txn txns id ≡ Some u → Has txns u × (u.id ≡ id)
-find_among [] id u e = cc
-find_among (x ∷ txns) id u e = go (cases_Bool (same_id x.id id)) (find_among txns id u)
-  where
-    go : (same_id x.id id ≡ true) ⊎ (same_id x.id id ≡ false) → (find_txn txns id ≡ Some u → Has txns u × (u.id ≡ id)) → Has (x ∷ txns) u × (u.id ≡ id)
-    go (inl y) f =
-        let is : Some x ≡ Some u = rw y at e in
-        let same : x ≡ u = cc in
-        (inl same, ap (λ t. t.id) (sym same) ∙ id_of_test x.id id y)
-    go (inr n) f = let r : Has txns u × (u.id ≡ id) = f (rw n at e) in (inr r.0, r.1)
-
 -- what is found with one more transaction between two lists is found without it, or is that one
 pub find_more : (xs ys : List Txn) (t : Txn) (id : TxnId) (u : Txn) → find_txn (xs ++ t ∷ ys) id ≡ Some u → (find_txn (xs ++ ys) id ≡ Some u) ⊎ ((t ≡ u) × (t.id ≡ id))
 find_more [] ys t id u e = go (cases_Bool (same_id t.id id))

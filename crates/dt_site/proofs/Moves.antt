@@ -25,7 +25,7 @@ use Rattle.dt_session.specs.Run.{txns_of}
 use Rattle.dt_agreement.proofs.Callers.{unmoved_at_first, version_stays}
 use Rattle.dt_site.specs.Site.{SiteView}
 use Rattle.dt_site.specs.StandsIn.{IsReached, StandsIn}
-use Rattle.dt_site.proofs.Short.{IsShort, legal_short}
+use Rattle.dt_site.proofs.Short.{HasShortLists, legal_short}
 use Rattle.dt_site.proofs.Standing.{here_is, inv, valid_txn}
 
 -- each of the transactions that ran moved a unit at most once
@@ -67,7 +67,7 @@ module _ {cluster : Cluster} {workload : Workload} {w : World} (k : IsReached cl
   -- no unit was moved more often than there are events
   pub counter_few : (key : Bytes) → counter_of p.region.state.here.table key ≤ length k.events
   counter_few key =
-      let short : IsShort w (length k.events) = subst (λ v. IsShort v (length k.events)) (sym k.after) (legal_short cluster k.run.sound workload k.run.fits k.events k.run.legal) in
+      let short : HasShortLists w (length k.events) = subst (λ v. HasShortLists v (length k.events)) (sym k.after) (legal_short cluster k.run.sound workload k.run.fits k.events k.run.legal) in
       let done : length (node_at w region).here.done ≤ length k.events = all_at (λ (x : Node). length x.here.done ≤ length k.events) no_node w.nodes region (omega arith) short.done in
       let ids : length (done_ids (node_at w region).here) ≡ length (node_at w region).here.done = length-map (node_at w region).here.done (λ d. d.0) in
       let txns : length ran ≤ length (done_ids (node_at w region).here) = few_given (txn_of w) (done_ids (node_at w region).here) in

@@ -46,8 +46,8 @@ abbrev pub last_in : World → ℕ → Option TxnId → Option Outcome
 last_in w region waits = option_and_then (outcome_at w region) waits
 
 -- what a seat waits for, if it is there
-abbrev waits_in : Option Seat → Option TxnId
-waits_in o = option_and_then (λ (seat : Seat). option_map (λ (x : Waiting). x.id) seat.waits) o
+abbrev awaited_id : Option Seat → Option TxnId
+awaited_id o = option_and_then (λ (seat : Seat). option_map (λ (x : Waiting). x.id) seat.waits) o
 
 -- what is allowed
 
@@ -56,10 +56,10 @@ module _ {cluster : Cluster} {workload : Workload} {w : World} {region : ℕ} {s
   here = session_at workload.sessions w.places region name
 
   abbrev tries_at : ℕ → Option Seat → Type 0
-  tries_at tries o = MaySeatTry tries o (last_in w region (waits_in o))
+  tries_at tries o = MaySeatTry tries o (last_in w region (awaited_id o))
 
   abbrev ends_at : ℕ → Option Seat → Type 0
-  ends_at tries o = MaySeatEnd tries o (last_in w region (waits_in o))
+  ends_at tries o = MaySeatEnd tries o (last_in w region (awaited_id o))
 
   try_of : (o : Option (Session × Place)) → tries_at cluster.tries (option_map (seat_in w) o) → MaySubmit cluster w region o
   try_of None m = m

@@ -29,7 +29,7 @@ use Rattle.dt_agreement.proofs.Callers.{append_cases, logs_placed, legal_keeps, 
 use Rattle.dt_site.proofs.Lists.{parts_set}
 
 -- a world whose lists are that short
-pub record IsShort (w : World) (n : ℕ) : Type 0 where
+pub record HasShortLists (w : World) (n : ℕ) : Type 0 where
   pub submitted : (region : ℕ) → length (node_at w region).submitted ≤ n
   pub parts : parts_in (logs_of w) ≤ n
   pub done : AllIn (λ x. length x.here.done ≤ n) w.nodes
@@ -64,7 +64,7 @@ all_set P [] i x a p = tt
 all_set P (y ∷ xs) zero x a p = (p, a.1)
 all_set P (y ∷ xs) (suc i) x a p = (a.0, all_set P xs i x a.1 p)
 
-done_longer : (w : World) (n : ℕ) → IsShort w n → AllIn (λ x. length x.here.done ≤ n + 1) w.nodes
+done_longer : (w : World) (n : ℕ) → HasShortLists w n → AllIn (λ x. length x.here.done ≤ n + 1) w.nodes
 done_longer w n s = all_map _ _ w.nodes (λ x a. omega arith) s.done
 
 -- what a region executed is longer by at most one after a step of its own
@@ -81,7 +81,7 @@ done_stepped procs txn_of here n (Execute region id) few = go (txn_of id)
     go None = omega arith
     go (Some txn) = let more = length_push here.done (txn.id, (one procs txn here.table).0) in omega (arith, more, few)
 
-still_short : (w : World) (n : ℕ) → IsShort w n → IsShort w (n + 1)
+still_short : (w : World) (n : ℕ) → HasShortLists w n → HasShortLists w (n + 1)
 still_short w n s = record {
   submitted = λ r. let a : length (node_at w r).submitted ≤ n = s.submitted r in omega arith;
   parts = let a : parts_in (logs_of w) ≤ n = s.parts in omega arith;
@@ -92,7 +92,7 @@ still_short w n s = record {
 
 -- where a node keeps its submissions and its log, has executed few, and the places are short
 node_short : (w : World) (n region : ℕ) (x : Node) (places : List Place) → x.submitted ≡ (node_at w region).submitted → x.log ≡ (node_at w region).log → length x.here.done ≤ n + 1
-    → AllIn (λ p. p.answered ≤ n + 1) places → IsShort w n → IsShort (record { nodes = set w.nodes region x; places = places }) (n + 1)
+    → AllIn (λ p. p.answered ≤ n + 1) places → HasShortLists w n → HasShortLists (record { nodes = set w.nodes region x; places = places }) (n + 1)
 node_short w n region x places es el few a s = record {
   submitted = λ r. let same : (get_or (set w.nodes region x) r no_node).submitted ≡ (node_at w r).submitted = field_of_set (λ y. y.submitted) w.nodes region x no_node es r in
       let few : length (node_at w r).submitted ≤ n = s.submitted r in subst (λ l. length l ≤ n + 1) (sym same) (omega arith);
@@ -102,20 +102,20 @@ node_short w n region x places es el few a s = record {
 }
 
 -- a region of the world executed few
-done_at : (w : World) (n : ℕ) → IsShort w n → (region : ℕ) → length (node_at w region).here.done ≤ n
+done_at : (w : World) (n : ℕ) → HasShortLists w n → (region : ℕ) → length (node_at w region).here.done ≤ n
 done_at w n s region = all_at (λ (x : Node). length x.here.done ≤ n) no_node w.nodes region (omega arith) s.done
 
-places_short : (w : World) (n : ℕ) → IsShort w n → AllIn (λ p. p.answered ≤ n + 1) w.places
+places_short : (w : World) (n : ℕ) → HasShortLists w n → AllIn (λ p. p.answered ≤ n + 1) w.places
 places_short w n s = all_map _ _ w.places (λ p a. omega arith) s.answered
 
 none_long : {A : Type 0} (xs : List A) → xs ≡ [] → length xs ≤ 0
 none_long xs e = subst (λ l. length l ≤ 0) (sym e) (omega arith)
 
 module _ (cluster : Cluster) (ok : IsValidCluster cluster) (workload : Workload) (fits : IsValidWorkload cluster workload) where
-  next_short : (w : World) (order : List TxnId) (n : ℕ) (event : Event) → IsLegal cluster workload w event → Inv cluster workload w order → IsShort w n → IsShort (next cluster workload w event) (n + 1)
+  next_short : (w : World) (order : List TxnId) (n : ℕ) (event : Event) → IsLegal cluster workload w event → Inv cluster workload w order → HasShortLists w n → HasShortLists (next cluster workload w event) (n + 1)
   next_short w order n (Submit region name) l i s =
       let r : Submits cluster workload w region name = submits cluster ok workload w order region name l.allowed i in
-      subst (λ v. IsShort v (n + 1)) (sym r.next) (record {
+      subst (λ v. HasShortLists v (n + 1)) (sym r.next) (record {
         submitted = λ q. subm r q (either_nat q region);
         parts = let few : parts_in (logs_of w) ≤ n = s.parts in subst (λ v. parts_in v ≤ n + 1)
             (sym (map_of_set (λ y. y.log) w.nodes region (node_submitted (node_at w region) (attempt_for cluster w region r.session r.place r.call)) no_node refl)) (omega arith);
@@ -136,8 +136,8 @@ module _ (cluster : Cluster) (ok : IsValidCluster cluster) (workload : Workload)
           let few : length (node_at w q).submitted ≤ n = s.submitted q in
           subst (λ x. length x.submitted ≤ n + 1) (sym (get_or-set_other w.nodes region q (node_submitted (node_at w region) (attempt_for cluster w region r.session r.place r.call)) no_node m)) (omega arith)
   next_short w order n (Append home source number) l i s = elim (append_cases cluster workload w order home source number l.regions.0 l.regions.1 l.allowed i) [
-    | inl same ↦ subst (λ v. IsShort v (n + 1)) (sym same) (still_short w n s)
-    | inr r ↦ subst (λ v. IsShort v (n + 1)) (sym r.2) (record {
+    | inl same ↦ subst (λ v. HasShortLists v (n + 1)) (sym same) (still_short w n s)
+    | inr r ↦ subst (λ v. HasShortLists v (n + 1)) (sym r.2) (record {
       submitted = λ q. let same : (node_at (placed w home source (Some r.0)) q).submitted ≡ (node_at w q).submitted = field_of_set (λ y. y.submitted) w.nodes home _ no_node refl q in
           let few : length (node_at w q).submitted ≤ n = s.submitted q in subst (λ x. length x ≤ n + 1) (sym same) (omega arith);
       parts = let few : parts_in (logs_of w) ≤ n = s.parts in subst (λ v. parts_in v ≤ n + 1) (sym (logs_placed cluster workload w order home source l.regions.0 l.regions.1 i r.0 r.1.number r.1.request r.1.found))
@@ -148,7 +148,7 @@ module _ (cluster : Cluster) (ok : IsValidCluster cluster) (workload : Workload)
   ]
   next_short w order n (Deliver region home first last) l i s = go (leb first (received_of w region home) && ltb (received_of w region home) last)
     where
-      go : (b : Bool) → IsShort (cond b (received w region home last) w) (n + 1)
+      go : (b : Bool) → HasShortLists (cond b (received w region home last) w) (n + 1)
       go true = node_short w n region (record (node_at w region) { received = set (node_at w region).received home last }) w.places refl refl
           (let few : length (node_at w region).here.done ≤ n = done_at w n s region in omega arith) (places_short w n s) s
       go false = still_short w n s
@@ -160,11 +160,11 @@ module _ (cluster : Cluster) (ok : IsValidCluster cluster) (workload : Workload)
       (done_stepped cluster.procs (txn_of w) (node_at w region).here n (Execute region id) (done_at w n s region)) (places_short w n s) s
   next_short w order n (Answer region name) l i s = go (session_at workload.sessions w.places region name) refl l.allowed
     where
-      go : (o : Option (Session × Place)) → session_at workload.sessions w.places region name ≡ o → MayAnswer cluster w region o → IsShort (answered workload w region o) (n + 1)
+      go : (o : Option (Session × Place)) → session_at workload.sessions w.places region name ≡ o → MayAnswer cluster w region o → HasShortLists (answered workload w region o) (n + 1)
       go None e m = absurd m
       go (Some (session, place)) e m =
           let few : place.answered ≤ n = place_found (λ p. p.answered ≤ n) workload.sessions w.places region name session place s.answered e in
-          let before : IsShort w (n + 1) = still_short w n s in
+          let before : HasShortLists w (n + 1) = still_short w n s in
           record {
             submitted = before.submitted;
             parts = before.parts;
@@ -191,17 +191,17 @@ module _ (cluster : Cluster) (ok : IsValidCluster cluster) (workload : Workload)
   idle_short (s ∷ sessions) = (omega arith, idle_short sessions)
 
   -- a legal world is as short as its events
-  pub legal_short : (events : List Event) → AreLegal cluster workload events → IsShort (world_after cluster workload events) (length events)
-  legal_short events legal = from_right (λ es. AreLegal cluster workload es → IsShort (world_after cluster workload es) (length es))
+  pub legal_short : (events : List Event) → AreLegal cluster workload events → HasShortLists (world_after cluster workload events) (length events)
+  legal_short events legal = from_right (λ es. AreLegal cluster workload es → HasShortLists (world_after cluster workload es) (length es))
       (λ l. opening_short)
       (λ es e keeps l.
       let r : AreLegal cluster workload es × IsLegal cluster workload (world_after cluster workload es) e = legal_more cluster workload es e l in
-      subst (λ v. IsShort v (length (es ++ e ∷ []))) (sym (world_after_more cluster workload es e))
-      (subst (λ n. IsShort (next cluster workload (world_after cluster workload es) e) n) (sym (length_push es e))
+      subst (λ v. HasShortLists v (length (es ++ e ∷ []))) (sym (world_after_more cluster workload es e))
+      (subst (λ n. HasShortLists (next cluster workload (world_after cluster workload es) e) n) (sym (length_push es e))
       (next_short (world_after cluster workload es) (order_of es) (length es) e r.1 (legal_keeps cluster ok workload fits es r.0) (keeps r.0))))
       events legal
     where
-      opening_short : IsShort (opening_world cluster workload) 0
+      opening_short : HasShortLists (opening_world cluster workload) 0
       opening_short = record {
         submitted = λ region. none_long _ (opened_at (λ x. x.submitted) cluster.regions region (opening_node cluster.regions (opening_table cluster)) no_node refl refl);
         parts = no_parts cluster.regions;

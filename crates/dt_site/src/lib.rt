@@ -12,14 +12,17 @@
 //!   unit, so that it may execute (`holds_valid`, `can_move`);
 //! - after its call answers that it was made, it stands in the world after the event, and so do all other sites.
 //!
-//! What the tables of all regions have at first, they share ([`opening_of`], [`first_table`]).
+//! What the tables of all regions have at first, they share ([`opening_of`], [`first_table`]). What became of a session's
+//! attempt, its region says ([`last_outcome`]).
 //!
-//! The proofs speak of one site and a world, not of how the others are held. So they serve a world that has all sites in
-//! one hand, as well as a node that has only its own and learns of the others by packets.
+//! The proofs speak of one site and a world, not of how the others are held. So they serve a world that holds all sites, as
+//! well as a node that has only its own and learns of the others by packets.
 #![tactic(auto)]
 
 mod opened;
+mod outcome;
 mod site;
 
 pub use opened::{first_table, opening_of};
+pub use outcome::last_outcome;
 pub use site::{Origin, Site};

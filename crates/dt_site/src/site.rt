@@ -15,7 +15,7 @@ use dt_txn::Body;
 use std::alloc::Global;
 use std::marker::Model;
 
-/// Whose a submission is.
+/// What made a submission: a session, at which of its calls, and at which attempt of that call.
 #[derive(Drop)]
 pub struct Origin {
     pub session: Name,
@@ -60,7 +60,7 @@ impl<S: Scheduler> Site<S> {
         })
     }
 
-    /// Whose the submission of this number is, counted from 1. Takes no memory.
+    /// What made the submission of this number, counted from 1. Takes no memory.
     pub fn origin(&self, number: u32) -> &Origin
         requires from { 1 ≤ number }
         requires to { number ≤ length self.now.origins }
@@ -69,7 +69,7 @@ impl<S: Scheduler> Site<S> {
         &self.origins[number as usize - 1]
     }
 
-    /// Submits a body of this rank for a session, as the region does, and keeps whose it is. After `NoMemory` nothing has changed.
+    /// Submits a body of this rank for a session, as the region does, and keeps what made it. After `NoMemory` nothing has changed.
     pub fn submit(
         &mut self,
         alloc: Global,

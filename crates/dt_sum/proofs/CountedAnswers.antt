@@ -19,7 +19,7 @@ use Rattle.dt_session.specs.World.{Place, World, asked_of, idle_place, is_sessio
 use Rattle.dt_session.specs.Step.{IsLegal, MayAnswer, answered, attempt_for, called, next, placed, received, submitted}
 use Rattle.dt_session.specs.Run.{AreLegalFrom, order_of, world_after, world_from}
 use Rattle.dt_session.specs.Finished.{AreAnswered}
-use Rattle.dt_agreement.proofs.Callers.{legal_keeps, places_parallel, session_of_test}
+use Rattle.dt_agreement.proofs.Callers.{found_is_named, legal_keeps, places_parallel}
 use Rattle.dt_gen.specs.Load.{load_cluster, load_workload}
 use Rattle.dt_gen.proofs.Callers.{load_calls_in, load_cluster_valid, load_workload_valid}
 use Rattle.dt_sum.specs.Summary.{answer_count, is_answer}
@@ -28,17 +28,6 @@ use Rattle.dt_sum.specs.Laws.{EachCallHasAReply, EachCallIsAnsweredOnce}
 -- how many calls are answered in all
 abbrev answered_in : List Place → ℕ
 answered_in places = sum_by (λ (p : Place). p.answered) places
-
--- the session that is found has the name
-found_name : (sessions : List Session) (places : List Place) (region : ℕ) (name : Bytes) (s : Session) (p : Place) → session_at sessions places region name ≡ Some (s, p) → s.name ≡ name
-found_name [] places region name s p e = cc
-found_name (t ∷ sessions) [] region name s p e = cc
-found_name (t ∷ sessions) (x ∷ places) region name s p e = by (is_session region name t) refl (found_name sessions places region name s p) e
-  where
-    by : (b : Bool) → is_session region name t ≡ b → (session_at sessions places region name ≡ Some (s, p) → s.name ≡ name)
-        → cond b (Some (t, x)) (session_at sessions places region name) ≡ Some (s, p) → s.name ≡ name
-    by true q later e = ap (λ (v : Session). v.name) (sym (some_pair_parts t s x p e).0) ∙ (session_of_test region name t q).0
-    by false q later e = later e
 
 -- where the place of a session is changed, the sum changes as that place does
 place_changes : (sessions : List Session) (places : List Place) (region : ℕ) (name : Bytes) (s : Session) (p now : Place) → session_at sessions places region name ≡ Some (s, p)
@@ -67,7 +56,7 @@ module _ (cluster : Cluster) (workload : Workload) where
       → answered_in (with_place workload.sessions w.places region s.name now) + p.answered ≡ answered_in w.places + now.answered
   changes_by w region name s p now e =
       subst (λ (key : Bytes). answered_in (with_place workload.sessions w.places region key now) + p.answered ≡ answered_in w.places + now.answered)
-      (sym (found_name workload.sessions w.places region name s p e)) (place_changes workload.sessions w.places region name s p now e)
+      (sym (found_is_named workload.sessions w.places region name s p e)) (place_changes workload.sessions w.places region name s p now e)
 
   -- one event: an answer makes one call more answered
   event_counts : (w : World) (event : Event) → IsLegal cluster workload w event → answered_in (next cluster workload w event).places ≡ answered_in w.places + cond (is_answer event) 1 0

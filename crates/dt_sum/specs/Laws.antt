@@ -37,7 +37,7 @@ EachRegionHoldsAccounts =
     (calls : ℕ) (events : List Event) (region : ℕ) → calls ≤ 20000 → AreLegal load_cluster (load_workload calls) events → region < 4 →
     HoldsAccounts 100000 (node_at (world_after load_cluster (load_workload calls) events) region).here.table
 
--- how an attempt of the load can end: with values, for want of funds, or stale. So no sum overflows, and no row lacks a number
+-- how an attempt of the load can end: with values, for lack of funds, or stale. So no sum overflows, and no row lacks a number
 abbrev pub IsLoadOutcome : Outcome → Type 0
 IsLoadOutcome (Gave values) = Unit {0}
 IsLoadOutcome (Aborted why) = why ≡ cause.Word (codes "funds")

@@ -10,6 +10,7 @@ use Rattle.dt_text.specs.declared.Value.{Value}
 use Rattle.dt_text.specs.declared.Value.TheVariants.{Int}
 use Rattle.dt_events.specs.declared.Event.{Event}
 use Rattle.dt_events.specs.declared.Event.TheVariants.{Answer}
+use Rattle.dt_events.specs.declared.Stamped.{Stamped}
 use Rattle.dt_table.specs.declared.Shown.{Shown}
 use Rattle.dt_report.specs.Report.{line_of}
 use Rattle.dt_report.specs.declared.Report.{Report}
@@ -22,6 +23,10 @@ is_answer event = false
 -- how many of the events answer a session
 abbrev pub answer_count : List Event → ℕ
 answer_count events = count_by is_answer events
+
+-- how many of the events that a region keeps answer a session
+abbrev pub kept_answers : List Stamped → ℕ
+kept_answers kept = count_by (λ x. is_answer x.event) kept
 
 -- the number that a row has, which may be negative; 0 where it has none
 abbrev pub number_of_row : Option Value → ℤ

@@ -13,7 +13,7 @@ pub fn each_region_holds_accounts()
     ensures { EachRegionHoldsAccounts }
 {}
 
-/// At each moment of a run of the load, each attempt that a region has executed gave its values, failed for want of funds, or was
+/// At each moment of a run of the load, each attempt that a region has executed gave its values, failed for lack of funds, or was
 /// stale: no sum overflows, and each account has a row with a number.
 pub fn each_attempt_ends_plainly()
     ensures { EachAttemptEndsPlainly }
@@ -34,8 +34,8 @@ pub fn each_call_is_answered_once()
     ensures { EachCallIsAnsweredOnce }
 {}
 
-/// A list that has an item for each answer of a finished run of the load, as the replies of its report do, has as many as there are
-/// calls.
+/// A list that has an item for each answer of a finished run of the load, as the replies of its report do, has as many items as
+/// there are calls.
 pub fn each_call_has_a_reply()
     ensures { EachCallHasAReply }
 {}

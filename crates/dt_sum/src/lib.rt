@@ -12,4 +12,4 @@ pub use laws::{
     each_region_holds_accounts, each_report_shows_the_total, each_summary_is_known,
     load_keeps_total, shown_sum_is_total,
 };
-pub use summaries::{answer_count, row_sum, summary};
+pub use summaries::{answer_count, kept_answers, row_sum, summary, summary_text};

@@ -1,8 +1,8 @@
 ghost use Rattle.std.specs.Prelude.{◌≡◌, ◌++◌, ◌∷◌, [], IfOk, OnOk};
 ghost use Rattle.dt_report.specs.Report.{line_of};
-ghost use Rattle.dt_sum.specs.Summary.{answer_count, first_rows, number_of_row, row_sum, summary_of};
+ghost use Rattle.dt_sum.specs.Summary.{answer_count, first_rows, kept_answers, number_of_row, row_sum, summary_of, summary_text};
 
-use dt_events::Event;
+use dt_events::{Event, Stamped};
 use dt_report::Report;
 use dt_table::Shown;
 use dt_text::{NoMemory, Value};
@@ -15,7 +15,19 @@ pub fn summary(alloc: Global, calls: u32, report: &Report) -> Result<Vec<u8>, No
     ensures { IfOk result (λ text. text.items ≡ summary_of calls report.now) }
 {
     let answers = answer_count(report.events.as_slice());
-    let sum = row_sum(first_rows(report));
+    summary_text(alloc, calls, answers as u64, first_rows(report))
+}
+
+/// The three lines for n calls, with this number of answers and the sum of these rows. The only error is running out of memory.
+pub fn summary_text(
+    alloc: Global,
+    calls: u32,
+    answers: u64,
+    rows: &[Shown],
+) -> Result<Vec<u8>, NoMemory>
+    ensures { IfOk result (λ text. text.items ≡ summary_text calls answers (row_sum rows.now)) }
+{
+    let sum = row_sum(rows);
     let mut text = Vec::new(alloc);
     put_line(&mut text, b"calls", calls)?;
     put_line(&mut text, b"answers", answers)?;
@@ -30,6 +42,19 @@ pub fn answer_count(events: &[Event]) -> usize
     let mut count = 0;
     for event in events {
         if let Event::Answer { .. } = event {
+            count += 1;
+        }
+    }
+    count
+}
+
+/// How many of the events that a region keeps answer a session. Takes no memory.
+pub fn kept_answers(kept: &[Stamped]) -> usize
+    ensures { result ≡ kept_answers kept.now }
+{
+    let mut count = 0;
+    for stamped in kept {
+        if let Event::Answer { .. } = &stamped.event {
             count += 1;
         }
     }

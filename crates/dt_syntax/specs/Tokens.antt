@@ -1,6 +1,6 @@
 -- A text of procedures is cut into tokens, and nothing else of its bytes counts: words, numbers, texts and symbols, with
 -- blanks and comments between them. Each token is the longest that begins at its place, so a text has one list of tokens.
--- That texts are written as in lines is said by TextTokens. Read next: Grammar, for what tokens spell.
+-- That texts are written as in lines is stated in TextTokens. Read next: Grammar, for what tokens spell.
 use Rattle.std.specs.Prelude.{ℕ, zero, suc, ◌+◌, ◌-◌, ◌^◌, pos, Bool, true, false, if◌then◌else◌, ◌==◌, ◌&&◌, ◌||◌, not, nat_le, nat_lt, nat_eq, List, [], ◌∷◌}
 use Rattle.std.specs.Prelude.{length, take_while, slice_index, Option, Some, None, IsTrue, codes, ◌≡◌, ◌≤◌}
 use Rattle.std.specs.Option.{option_map}

@@ -131,7 +131,7 @@ fn wide_part(alloc: Global, wide: &Wide) -> Result<Part, Fail> {
     Ok(part)
 }
 
-/// Whether both tell alike of each id, and of those that differ from it in the region, whether it is executable.
+/// Whether both answer alike, of each id and of those that differ from it in the region, whether it is executable.
 pub fn same_executable(
     alloc: Global,
     plain: &PlainSched,
@@ -165,7 +165,7 @@ fn same_class(alloc: Global, plain: &PlainSched, queue: &QueueSched) -> Result<b
     }
 }
 
-/// Whether both tell alike of some ids whether they are a class that may be resolved.
+/// Whether both answer alike whether some ids are a class that may be resolved.
 pub fn same_resolvable(
     alloc: Global,
     plain: &PlainSched,

@@ -1,6 +1,6 @@
 //! Tests of the schedulers and of their graph: what a vertex reaches, its class, queues, what is ready and what is resolved,
 //! and that the two schedulers answer alike.
-//! Each is a table of outside values with one loop and one assertion; there is no other code here.
+//! Each is a table of expected values that were worked out independently, with one loop and one assertion; there is no other code.
 #![tactic(auto)]
 
 #[cfg(test)]

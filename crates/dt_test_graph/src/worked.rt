@@ -71,7 +71,7 @@ fn all_ids(alloc: Global) -> Result<Vec<TxnId>, Fail> {
     Ok(ids)
 }
 
-/// Whether both tell alike of each two of the ids, and of each three, whether they are a class that may be resolved.
+/// Whether both answer alike, of each two of the ids and of each three, whether they are a class that may be resolved.
 fn same_classes(
     alloc: Global,
     plain: &PlainSched,
@@ -95,7 +95,7 @@ fn same_classes(
     Ok(same)
 }
 
-/// Whether both tell this, and the same of every id and of all classes of two and three.
+/// Whether both answer this, and the same of every id and of all classes of two and three.
 fn tell(
     alloc: Global,
     plain: &PlainSched,
@@ -110,7 +110,7 @@ fn tell(
     Ok(here && there && executable && resolvable)
 }
 
-/// Whether both tell what they have to after each call.
+/// Whether both answer what they have to after each call.
 fn is_told(alloc: Global, run: &Run) -> Result<bool, Fail> {
     let (regions, calls) = *run;
     let ids = all_ids(alloc)?;

@@ -91,7 +91,7 @@ fn phases_of<R: Threads + Wait + Sync>(
 pub const TWO: &[u8] =
     b"session p at 0\ncall xfer \"b\" \"a\" 3\nsession q at 1\ncall xfer \"a\" \"b\" 4\n";
 
-/// Loss plans: every n-th packet is lost, and of those that are not, every n-th comes twice.
+/// Loss plans: every n-th packet is lost, and every m-th comes twice, unless it is lost.
 const DROPS: [u32; 5] = [0, 2, 3, 4, 5];
 
 const REPEATS: [u32; 4] = [0, 1, 2, 3];

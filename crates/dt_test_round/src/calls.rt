@@ -1,15 +1,23 @@
-//! Calls of procedures, as their words say them.
+//! Procedures as their text says them, and calls of them as their words do.
 ghost use Rattle.std.specs.Prelude.{IfOk};
 ghost use Rattle.dt_eval.specs.Calls.{CallFits};
 
 use dt_eval::{Args, fits, keys_of};
-use dt_proc::Procs;
+use dt_proc::{Procs, read_procs};
 use dt_text::{Str, Value, read_i64};
 use std::alloc::Global;
 use std::test::Fail;
 
 /// A call: the name of a procedure, and the words of its arguments.
 pub type Call<'a> = (&'a [u8], &'a [&'a [u8]]);
+
+/// The procedures of a short text.
+pub fn procs_of(alloc: Global, text: &[u8]) -> Result<Procs, Fail> {
+    if text.len() > 100000 {
+        return Err(Fail::from("the text is short"));
+    }
+    Ok(read_procs(alloc, text)?)
+}
 
 /// The arguments that words stand for: a number, or else the text of its bytes.
 fn arguments(alloc: Global, words: &[&[u8]]) -> Result<Args, Fail> {

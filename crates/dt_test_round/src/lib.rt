@@ -3,6 +3,8 @@
 #![tactic(auto)]
 
 #[cfg(test)]
+mod backlog;
+#[cfg(test)]
 mod calls;
 #[cfg(test)]
 mod feeding;
@@ -10,6 +12,8 @@ mod feeding;
 mod lengths;
 #[cfg(test)]
 mod locked;
+#[cfg(test)]
+mod outcomes;
 #[cfg(test)]
 mod rounds;
 #[cfg(test)]

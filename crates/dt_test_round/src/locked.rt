@@ -2,6 +2,7 @@
 ghost use Rattle.dt_test_round.specs.Fed.{WasFed};
 
 use crate::feeding::{Row, feed_all};
+use crate::outcomes::outcomes_of;
 use crate::rounds::{PUT, PUT_H, ROUNDS, events_from};
 use dt_access::TxnId;
 use dt_graph::QueueSched;
@@ -35,7 +36,7 @@ fn go_on<R: Threads + Wait + Sync, S: Scheduler + Drop + Send, G: Gate>(
 }
 
 /// Region 3 of four, after it was fed these parts and made a round by threads.
-pub fn after<R: Threads + Wait + Sync, S: Scheduler + Drop + Send, G: Gate>(
+fn after<R: Threads + Wait + Sync, S: Scheduler + Drop + Send, G: Gate>(
     rt: &R,
     alloc: Global,
     procs: &Procs,
@@ -49,7 +50,43 @@ pub fn after<R: Threads + Wait + Sync, S: Scheduler + Drop + Send, G: Gate>(
     Ok(region)
 }
 
-/// What region 3 of four makes of these parts.
+/// What is told of a region after a round.
+#[derive(Drop)]
+pub enum Telling {
+    /// Its events, in their order, and whether it is drained.
+    Events,
+    /// What it came to, whatever the order was.
+    Outcomes,
+}
+
+/// What is told of a region that was fed these parts.
+fn tell<S: Scheduler>(
+    alloc: Global,
+    region: &Region<S>,
+    rows: &[Row],
+    telling: Telling,
+) -> Result<Vec<u8>, Fail> {
+    match telling {
+        Telling::Events => events_from(alloc, region, rows.len()),
+        Telling::Outcomes => outcomes_of(alloc, region, rows),
+    }
+}
+
+/// What region 3 of four makes of these parts, which are calls of these procedures.
+pub fn told_of<R: Threads + Wait + Sync, S: Scheduler + Drop + Send, G: Gate>(
+    rt: &R,
+    alloc: Global,
+    procs: &Procs,
+    rows: &[Row],
+    workers: u32,
+    gate: &G,
+    telling: Telling,
+) -> Result<Vec<u8>, Fail> {
+    let region: Region<S> = after(rt, alloc, procs, rows, workers, gate)?;
+    tell(alloc, &region, rows, telling)
+}
+
+/// What region 3 of four makes of these parts, which are calls of the built-in procedures.
 fn told<R: Threads + Wait + Sync, S: Scheduler + Drop + Send, G: Gate>(
     rt: &R,
     alloc: Global,
@@ -58,13 +95,12 @@ fn told<R: Threads + Wait + Sync, S: Scheduler + Drop + Send, G: Gate>(
     gate: &G,
 ) -> Result<Vec<u8>, Fail> {
     let procs = builtin_procs(alloc)?;
-    let region: Region<S> = after(rt, alloc, &procs, rows, workers, gate)?;
-    events_from(alloc, &region, rows.len())
+    told_of::<R, S, G>(rt, alloc, &procs, rows, workers, gate, Telling::Events)
 }
 
 /// A gate that lets everyone pass, but might hold them: so each claim gets a worker of its own.
 #[derive(Drop)]
-struct Open;
+pub struct Open;
 
 impl Gate for Open {
     fn between(&self, _id: TxnId) {}

@@ -1,5 +1,5 @@
 //! Tests of what one region has: its rows, its transactions, and what is reported of them, or of a generated load.
-//! Each is a table of outside values with one loop and one assertion; there is no other code here.
+//! Each is a table of expected values that were worked out independently, with one loop and one assertion; there is no other code.
 #![tactic(auto)]
 
 #[cfg(test)]

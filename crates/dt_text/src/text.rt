@@ -10,7 +10,7 @@ use std::marker::Model;
 
 /// A text: 0 to 256 bytes, each a space or a visible character of ASCII (0x20 to 0x7E).
 ///
-/// Contracts see its bytes. Strs are ordered by their bytes, a proper prefix being less.
+/// Contracts see its bytes. Texts are ordered by their bytes, a proper prefix being less.
 #[derive(Debug, PartialEq, Eq, PartialOrd, Ord, Hash, Drop)]
 pub struct Str {
     spelling: Spelling,

@@ -2,6 +2,7 @@ pub mod Accesses
 pub mod Transaction
 pub mod Asking
 pub mod Execution
+pub mod ReadingInner
 pub mod Staleness
 pub mod Serial
 pub mod Replica

@@ -2,7 +2,8 @@ ghost use Rattle.std.specs.Prelude.{◌≡◌, IfOk, length, map};
 ghost use Rattle.std.specs.Option.{option_copied};
 ghost use Rattle.dt_eval.specs.Calls.{CallFits, call_keys, call_meaning};
 ghost use Rattle.dt_txn.specs.Transaction.{CanRun, HasItsUses, keys_used};
-ghost use Rattle.dt_txn.specs.Execution.{execution, see, one, reads_of, result_of, stale_of, of_finish, no_effect};
+ghost use Rattle.dt_txn.specs.Execution.{execution, see, seen_of, one, reads_of, result_of, stale_of, of_finish, no_effect};
+ghost use Rattle.dt_txn.specs.ReadingInner.{AreReads};
 
 use crate::called::called;
 use crate::outcome::{Outcome, Seen, Seens};
@@ -54,7 +55,12 @@ pub fn execute_seen(
     requires seen { length seen.now ≡ length txn.now.access }
     ensures { IfOk result (λ r. r ≡ execution procs.now txn.now seen.now) }
 {
-    execute_owned(alloc, txn, procs, seen.copy(alloc)?)
+    let access = txn.access.as_slice();
+    if let Some(outcome) = stale(alloc, access, seen.as_slice())? {
+        return Ok((outcome, no_effect(alloc)));
+    }
+    let reads = reads(alloc, access, seen.as_slice())?;
+    result_of(alloc, txn, procs, reads)
 }
 
 /// What a transaction comes to on a table, by these procedures: its outcome, and the changes that it makes.
@@ -68,27 +74,30 @@ pub fn execute(
     requires uses { HasItsUses procs.now txn.now }
     ensures { IfOk result (λ r. r ≡ one procs.now txn.now table.now.state) }
 {
-    execute_owned(alloc, txn, procs, see(alloc, txn, table)?)
+    match read(alloc, txn.access.as_slice(), table)? {
+        Ok(reads) => result_of(alloc, txn, procs, reads),
+        Err(outcome) => Ok((outcome, no_effect(alloc))),
+    }
 }
 
-/// What a transaction comes to, as `execute_seen` says, from what is handed over: its values are moved to the body, and
-/// only its keys are copied.
-fn execute_owned(
-    alloc: Global,
-    txn: &Txn,
-    procs: &Procs,
-    seen: Seens,
-) -> Result<(Outcome, Effect), NoMemory>
-    requires body { CanRun procs.now txn.now.body }
-    requires uses { HasItsUses procs.now txn.now }
-    requires seen { length seen ≡ length txn.now.access }
-    ensures { IfOk result (λ r. r ≡ execution procs.now txn.now seen) }
+/// The rows that a transaction with this access list reads in a table, or the outcome Stale of the first key whose unit was
+/// moved since it was annotated, if there is one.
+fn read(alloc: Global, access: &[Access], table: &Table) -> Result<Result<Reads, Outcome>, NoMemory>
+    ensures { IfOk result (AreReads access.now (map (seen_of table.now.state) access.now)) }
 {
-    if let Some(outcome) = stale(alloc, txn.access.as_slice(), seen.as_slice())? {
-        return Ok((outcome, no_effect(alloc)));
+    let mut reads = Vec::with_capacity(alloc, access.len())?;
+    for entry in access {
+        let row = table.row(&entry.key, entry.counter);
+        if let Some(by) = row.mover {
+            return Ok(Err(Outcome::Stale {
+                key: Key::new(alloc, unit_bytes(table.version(), &entry.key))?,
+                had: entry.counter,
+                by,
+            }));
+        }
+        reads.push((entry.key.copy(alloc)?, copied(alloc, row.value)?))?;
     }
-    let reads = reads(alloc, txn.access.as_slice(), seen)?;
-    result_of(alloc, txn, procs, reads)
+    Ok(Ok(Reads::from_vec(reads)))
 }
 
 /// No changes.
@@ -119,15 +128,15 @@ fn stale(alloc: Global, access: &[Access], seen: &[Seen]) -> Result<Option<Outco
 }
 
 /// The rows that a transaction reads, from what it saw.
-fn reads(alloc: Global, access: &[Access], seen: Seens) -> Result<Reads, NoMemory>
-    requires { length seen ≡ length access.now }
-    ensures { IfOk result (λ reads. reads ≡ reads_of access.now seen) }
+fn reads(alloc: Global, access: &[Access], seen: &[Seen]) -> Result<Reads, NoMemory>
+    requires { length seen.now ≡ length access.now }
+    ensures { IfOk result (λ reads. reads ≡ reads_of access.now seen.now) }
 {
-    let mut reads = Reads::new(alloc);
-    for (entry, seen) in access.iter().zip(seen.into_vec()) {
-        reads.push((entry.key.copy(alloc)?, seen.value))?;
+    let mut reads = Vec::with_capacity(alloc, access.len())?;
+    for (place, entry) in access.iter().enumerate() {
+        reads.push((entry.key.copy(alloc)?, seen[place].value.copy(alloc)?))?;
     }
-    Ok(reads)
+    Ok(Reads::from_vec(reads))
 }
 
 /// What the body of a transaction gives where nothing is stale.

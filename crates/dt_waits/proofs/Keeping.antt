@@ -1,5 +1,5 @@
--- What the scheduler with queues keeps is the graph of what it was told, at first and after each call; and what its calls read
--- off it is what may be executed.
+-- What the scheduler with queues keeps is the graph of what was inserted, resolved and done, at first and after each call; and
+-- what its calls read off it is what may be executed.
 use Rattle.std.proofs.Common.{◌≡◌, ◌<◌, ◌+◌, ◌⊎◌, ◌↔◌, ◌∙◌, ℕ, zero, suc, List, [], ◌∷◌, ◌++◌, length, map, replicate, set, slice_get, Option, None, Some, MatchOption, IsSome}
 use Rattle.std.proofs.Common.{option_to_list, Result, Ok, Err, OnOk, OnErr, is_err, true, false, ◌-◌, ap₂, refl, sym, ap, subst, inl, inr, arith}
 use Rattle.std.proofs.lemmas.List.{length-append, set-get_or}

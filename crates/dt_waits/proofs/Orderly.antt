@@ -1,4 +1,4 @@
--- What a scheduler keeps true of what it was told holds at first, and each allowed call keeps it.
+-- What was inserted, resolved and done is orderly (`IsOrderly`) at first, and each allowed call keeps it so.
 use Rattle.std.proofs.Common.{◌⊎◌, ℕ, List, [], ◌∷◌, ◌++◌, replicate, sym, subst, inl, inr}
 use Rattle.dt_lists.specs.Lists.{Has}
 use Rattle.dt_lists.proofs.Callers.{all_get, has_more, has_longer}

@@ -177,7 +177,7 @@ module _ (view : View) (done : List TxnId) (ids : List TxnId) (waiting : List Wa
   reach_of_waits here = here
   reach_of_waits (onward {y = x} {z = t} c f) = onward (reach_of_waits c) (edge_of_waits x t f)
 
-  -- reach by what the queues tell is reach by all edges, from what is left
+  -- reach by the queues is reach by all edges, from what is left
   pub reach_by_queues : (u t : TxnId) → IsLeft view done u → (Chain (HoldsUp ids waiting) u t ↔ Reaches view u t)
   reach_by_queues u t l = (λ c. reach_of_waits c, λ r. waits_of_left (left_chain view done l r))
 

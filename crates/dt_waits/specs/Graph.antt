@@ -48,7 +48,7 @@ IsPlaceOfClass resolved t (Some place) = (ids : List TxnId) × (slice_get resolv
 
 -- what is kept of t beside its entries is so
 pub record IsVertexOf (view : View) (resolved : List (List TxnId)) (t : TxnId) (x : Vertex) : Type 0 where
-  -- it has the rank of each part of t, and of the homes that this names that many have no part of t yet
+  -- it has the rank of each part of t, and the number of those homes that the part names which have no part of t yet
   pub rank : (home : ℕ) (p : Part) → Has (log_at view home) p → p.id ≡ t → x.rank ≡ p.rank
   pub missing : (home : ℕ) (p : Part) → Has (log_at view home) p → p.id ≡ t → x.missing ≡ lacking view t p.homes
   pub class : IsPlaceOfClass resolved t x.class

@@ -1,5 +1,5 @@
-//! What is left in the graph, and how its queues tell what waits for what: the definitions and laws by which the scheduler with
-//! queues (the crate dt_graph) is proved. There is no code here but two plain types.
+//! What is left in the graph, and how its queues show what waits for what: the definitions and laws by which the scheduler with
+//! queues (the crate dt_graph) is proved. There is no code here but two plain types and a list of slots.
 //!
 //! Once all that reaches a transaction is done, it is out: nothing waits for it, and no answer reads it (`specs/Left.antt`). Of
 //! the others, each use of a row stands in a queue (the crate dt_queue), and a transaction waits for the neighbours of its

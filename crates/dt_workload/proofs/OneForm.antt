@@ -83,7 +83,7 @@ call_or_move r q head h k =
     let b = begins 109 (codes "ove") q head k in
     let e : 99 ≡ 109 = apart 99 109 a.0 b.0 head a.1 b.1 in omega (arith, e)
 
--- the words tell the form
+-- the words determine the form
 same_form : (f g : Form) → IsForm f → IsForm g → (head : Said) → IsFirstWord f head → IsFirstWord g head → other_words f ≡ other_words g → f ≡ g
 same_form (session_line n r) (session_line m q) is_f is_g head h k e =
     let name : n ≡ m = same_bare (same_head e) in

@@ -1,5 +1,5 @@
 -- The forms that a line of a workload file can have: `session NAME at REGION`, `call PROC ARG ..`, `move KEY to REGION`.
--- The first word of a call or a move tells its rank, as `call/2`; `call` alone is of rank 5, and so is `call/5`. So the
+-- The first word of a call or a move gives its rank, as in `call/2`; `call` alone is of rank 5, and so is `call/5`. So the
 -- words of a form are a relation: a form may be spelled in two ways, but a line has one form at most. Read next: `Valid`,
 -- for what the words have to name, and `File`, for what lines make together.
 use Rattle.std.specs.Prelude.{◌≡◌, ◌⊎◌, ℕ, ◌<◌, ◌^◌, List, [], ◌∷◌, ◌++◌, map, codes, FitsSigned}

@@ -25,7 +25,7 @@ use Rattle.dt_session.specs.World.{World, Submission, no_node, node_at, outcome_
 use Rattle.dt_session.specs.Step.{IsLegal, next}
 use Rattle.dt_session.specs.Run.{AreLegal, executed_id, order_of, serial_outcome, world_after}
 use Rattle.dt_agreement.specs.Invariant.{Inv, IsExecutedAt}
-use Rattle.dt_agreement.proofs.Callers.{lookup_has, legal_agree, executable_known, legal_keeps, with_executed, order_of_more, world_after_more, IsKnown, txn_id}
+use Rattle.dt_agreement.proofs.Callers.{lookup_has, legal_agree, executable_known, legal_keeps, with_executed, order_of_more, world_after_more, WasSubmitted, txn_id}
 use Rattle.dt_site.proofs.Callers.{order}
 use Rattle.dt_world.specs.SessionReplay.{ran_at}
 use Rattle.dt_world.specs.WorldReport.{IsOutcomeOf, ran, ran_of, rans_of}
@@ -47,7 +47,7 @@ outcome_there (d ∷ done) id h = go (cases_Bool (same_id id d.0)) h (λ r. outc
 pub executed_next : (cluster : Cluster) (workload : Workload) (w : World) (order : List TxnId) (region : ℕ) (id : TxnId) → IsLegal cluster workload w (Execute region id) → Inv cluster workload w order
     → IsExecutedAt (next cluster workload w (Execute region id)) region id
 executed_next cluster workload w order region id l i =
-    let k : IsKnown w id = executable_known cluster workload w order region id l.regions l.allowed i in
+    let k : WasSubmitted w id = executable_known cluster workload w order region id l.regions l.allowed i in
     let node : node_at (next cluster workload w (Execute region id)) region ≡ record (node_at w region) { here = executed cluster.procs (node_at w region).here (txn_of w id) } =
     get_or-set_same w.nodes region _ no_node (subst (λ n. region < n) (sym i.nodes) l.regions) in
     let here : node_at (next cluster workload w (Execute region id)) region ≡ record (node_at w region) { here = executed cluster.procs (node_at w region).here (Some k.0) } = node

@@ -14,3 +14,4 @@ pub mod Replay
 pub mod Reports
 pub mod NothingLeftOut
 pub mod SitesTold
+pub mod Callers

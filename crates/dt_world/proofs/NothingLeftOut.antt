@@ -1,14 +1,11 @@
 -- Nothing is left out of a report: each executed attempt and each answer is found in what it looks up.
-use Rattle.std.proofs.Common.{◌≡◌, ◌⊎◌, ℕ, true, false, List, [], ◌∷◌, ◌++◌, map, Some, None, refl, sym, ap, ap₂, subst, ◌∙◌, inl, inr, append_assoc, append-nil}
+use Rattle.std.proofs.Common.{◌≡◌, List, [], ◌∷◌, ◌++◌, map, Some, None, refl, sym, ap, ap₂, subst, ◌∙◌, append_assoc, append-nil}
 use Rattle.std.specs.Prelude.{Option, filter_map, option_and_then, option_map, option_to_list}
 use Rattle.std.specs.List.{cons_option}
-use Rattle.std.proofs.lemmas.Bool.{cases_Bool}
 use Rattle.std.proofs.lemmas.List.{map-append}
 use Rattle.std.proofs.lemmas.List.Elements.{filter_map-append}
-use Rattle.std.proofs.lemmas.Option.{some_pair_parts}
 use Rattle.dt_lists.specs.Lists.{AllIn}
 use Rattle.dt_lists.proofs.Callers.{from_right, all_put}
-use Rattle.dt_access.specs.Clash.{Bytes}
 use Rattle.dt_access.specs.declared.TxnId.{TxnId}
 use Rattle.dt_events.specs.declared.Event.{Event}
 use Rattle.dt_events.specs.declared.Event.TheVariants.{Submit, Append, Deliver, Insert, Resolve, Execute, Answer}
@@ -16,27 +13,14 @@ use Rattle.dt_report.specs.declared.Ran.{Ran}
 use Rattle.dt_report.specs.declared.Reply.{Reply}
 use Rattle.dt_cluster.specs.declared.Cluster.{Cluster}
 use Rattle.dt_cluster.specs.Valid.{IsValidCluster}
-use Rattle.dt_workload.specs.declared.Session.{Session}
 use Rattle.dt_workload.specs.declared.Workload.{Workload}
 use Rattle.dt_workload.specs.Valid.{IsValidWorkload}
-use Rattle.dt_session.specs.World.{Place, is_session, opening_world, session_at}
+use Rattle.dt_session.specs.World.{opening_world}
 use Rattle.dt_session.specs.Run.{AreLegal, order_of, serial_outcome, world_after}
 use Rattle.dt_agreement.specs.Reports.{IsAccounted, IsAnswered}
-use Rattle.dt_agreement.proofs.Callers.{answer_accounted, executed_accounted, session_of_test}
+use Rattle.dt_agreement.proofs.Callers.{answer_accounted, executed_accounted, found_is_named}
 use Rattle.dt_world.specs.WorldReport.{answered_name, answered_session, ran, ran_of, rans_of, replies_from, replies_of, reply_for, reply_to}
 use Rattle.dt_world.proofs.Replay.{replies_more}
-
--- the session that is found has the name that is looked for
-named_there : (sessions : List Session) (places : List Place) (region : ℕ) (name : Bytes) (s : Session) (p : Place) → session_at sessions places region name ≡ Some (s, p) → s.name ≡ name
-named_there [] places region name s p e = cc
-named_there (t ∷ sessions) [] region name s p e = cc
-named_there (t ∷ sessions) (x ∷ places) region name s p e = go (cases_Bool (is_session region name t)) (named_there sessions places region name s p)
-  where
-    go : (is_session region name t ≡ true) ⊎ (is_session region name t ≡ false) → (session_at sessions places region name ≡ Some (s, p) → s.name ≡ name) → s.name ≡ name
-    go (inl y) f =
-        let is : ◌≡◌ {A = Option (Session × Place)} (Some (t, x)) (Some (s, p)) = rw y at e in
-        ap (λ z. z.name) (sym (some_pair_parts t s x p is).0) ∙ (session_of_test region name t y).0
-    go (inr n) f = f (rw n at e)
 
 module _ (cluster : Cluster) (ok : IsValidCluster cluster) (workload : Workload) (fits : IsValidWorkload cluster workload) (events : List Event) (legal : AreLegal cluster workload events) where
   -- the order section has each executed id
@@ -85,7 +69,7 @@ module _ (cluster : Cluster) (ok : IsValidCluster cluster) (workload : Workload)
       here : map (λ (r : Reply). r.session) (option_to_list (reply_for cluster workload (xs ++ Answer region name ∷ ys) (answered_session workload (world_after cluster workload xs) (Answer region name)))) ≡ name ∷ []
       here =
           ap (λ o. map (λ (r : Reply). r.session) (option_to_list o)) replied
-          ∙ ap (λ n. n ∷ []) (named_there workload.sessions (world_after cluster workload xs).places region name a.session a.place a.found)
+          ∙ ap (λ n. n ∷ []) (found_is_named workload.sessions (world_after cluster workload xs).places region name a.session a.place a.found)
 
   pub all_are_answered : map (λ (r : Reply). r.session) (replies_of cluster workload events) ≡ filter_map answered_name events
   all_are_answered = from_right (λ xs. (ys : List Event) → events ≡ xs ++ ys → map (λ (r : Reply). r.session) (replies_from cluster workload events (opening_world cluster workload) xs) ≡ filter_map answered_name xs)

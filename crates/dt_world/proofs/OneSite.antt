@@ -25,11 +25,6 @@ pub put_back : {cluster : Cluster} {sessions : WorldSessions} {sites : List Site
 put_back {cluster} {sessions} {sites} {steps} k region p later is same =
     subst (λ l. IsLawful cluster sessions l steps) (sym (ap (set sites region) (same ∙ is) ∙ set-get_or sites region no_site)) k
 
-pub put_back_view : (cluster : Cluster) (sessions : WorldSessions) (sites : List SiteView) (steps : ℕ) (region : ℕ) (p later : SiteView) → p ≡ site_at sites region → later ≡ p
-    → view_in cluster sessions (set sites region later) steps ≡ view_in cluster sessions sites steps
-put_back_view cluster sessions sites steps region p later is same =
-    ap (λ l. view_in cluster sessions l steps) (ap (set sites region) (same ∙ is) ∙ set-get_or sites region no_site)
-
 -- a region has a stamp left
 pub stamp_left : {cluster : Cluster} {sessions : WorldSessions} {sites : List SiteView} {steps : ℕ} → IsLawful cluster sessions sites steps → {region : ℕ} → region < cluster.regions
     → (r : RegionView) → r ≡ (site_at sites region).region → steps < 4294967295 → HasStamp r

@@ -33,7 +33,8 @@ use Rattle.dt_world.proofs.Executions.{serial_is}
 use Rattle.dt_world.proofs.Growth.{NodeGrows, grows_past}
 use Rattle.dt_world.proofs.PlacesOfNames.{no_session_of_none, place_set, session_of_place}
 
-front_length : {A : Type 0} (xs ys : List A) → IsFront xs ys → length xs ≤ length ys
+-- a front is no longer than the whole
+pub front_length : {A : Type 0} (xs ys : List A) → IsFront xs ys → length xs ≤ length ys
 front_length xs ys f = subst (λ l. length xs ≤ length l) f.1 (omega (arith, length-append xs f.0))
 
 -- replies, with one more event

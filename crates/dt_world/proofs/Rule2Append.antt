@@ -26,7 +26,7 @@ use Rattle.dt_world.proofs.WorldLaws.{IsBehind, IsMade, node_is, short, step_mad
 
 -- what the call has in hand: an id that the source asked the home to place as this request, and its transaction, which the
 -- source holds
-pub record Asks (sites : List SiteView) (home source number : ℕ) (txn : Txn) : Type 0 where
+pub record HoldsRequest (sites : List SiteView) (home source number : ℕ) (txn : Txn) : Type 0 where
   pub id : TxnId
   pub wants : slice_get (get_or (site_at sites source).region.state.here.asked home []) number ≡ Some id
   pub found : held (site_at sites source).region.state id ≡ Some txn
@@ -45,7 +45,7 @@ module _ {sites : List SiteView} {source : ℕ} {r : RegionView} {origins : List
   pub wanted_in : number < length list → slice_get (get_or (site_at sites source).region.state.here.asked home []) number ≡ Some (id_in list number)
   wanted_in lt = subst (λ (l : List TxnId). slice_get l number ≡ Some (id_in list number)) asked_here (slice_get-get_or list number (record { seq = 0; region = 0 }) lt)
 
-  pub asks : number < length list → {found txn : Txn} → Some found ≡ held r.state (id_in list number) → txn ≡ found → Asks sites home source number txn
+  pub asks : number < length list → {found txn : Txn} → Some found ≡ held r.state (id_in list number) → txn ≡ found → HoldsRequest sites home source number txn
   asks lt found same = record {
     id = id_in list number;
     wants = wanted_in lt;

@@ -10,7 +10,7 @@ use Rattle.dt_txn.specs.Replica.{done_ids}
 use Rattle.dt_region.specs.Region.{outcome_of}
 use Rattle.dt_session.specs.World.{World, Submission, node_at, outcome_at, submission_of, submissions}
 use Rattle.dt_agreement.specs.Invariant.{IsExecutedAt}
-use Rattle.dt_agreement.proofs.Callers.{IsKnown, done_known, numbered, submission_is_found, txn_there}
+use Rattle.dt_agreement.proofs.Callers.{WasSubmitted, done_known, numbered, submission_is_found, txn_there}
 use Rattle.dt_site.specs.declared.Origin.{Origin}
 use Rattle.dt_site.specs.Site.{SiteView, attempt, attempts, no_site}
 use Rattle.dt_site.specs.StandsIn.{IsReached}
@@ -70,9 +70,9 @@ module _ {told : TellingView} (led : LedTo told) where
       pub origin : (d : Origin) → submission ≡ attempt submission.txn (get_or (get_or told.sites id.region no_site).origins (id.seq - 1) d)
 
     pub stands_among : StandsAmong
-    stands_among = go (all_get (IsKnown w) (done_ids (node_at w region).here) (done_known told.cluster told.workload w (order reached) (inv reached) region lr) id done)
+    stands_among = go (all_get (WasSubmitted w) (done_ids (node_at w region).here) (done_known told.cluster told.workload w (order reached) (inv reached) region lr) id done)
       where
-        go : IsKnown w id → StandsAmong
+        go : WasSubmitted w id → StandsAmong
         go x =
             let s : (s : Submission) × Has (submissions w) s × (s.txn ≡ x.0) × (s.txn.id ≡ id) = txn_there w id x.0 x.1 in
             let n : (r i : ℕ) × (r < told.cluster.regions) × (slice_get (node_at w r).submitted i ≡ Some s.0) × (s.0.txn.id ≡ record { seq = i + 1; region = r }) =

@@ -2,8 +2,9 @@
 -- a session is what the rules ask.
 use Rattle.std.proofs.Common.{◌≡◌, ◌<◌, ◌≤◌, ◌+◌, ◌-◌, ℕ, zero, suc, List, [], ◌∷◌, length, get_or, slice_get, Some, None, refl, sym, ap, subst, ◌∙◌, arith}
 use Rattle.std.specs.Prelude.{Option, IsSome, option_and_then, option_map}
+use Rattle.std.proofs.lemmas.Option.{same_Some}
 use Rattle.dt_lists.specs.Lists.{Has}
-use Rattle.dt_lists.proofs.Callers.{all_get, has_place}
+use Rattle.dt_lists.proofs.Callers.{all_get, at_place, has_place}
 use Rattle.dt_access.specs.Clash.{Bytes}
 use Rattle.dt_access.specs.declared.TxnId.{TxnId}
 use Rattle.dt_txn.specs.declared.Body.{Body}
@@ -34,15 +35,6 @@ pub sessions_at_place : (all : List SessionsView) (region : ℕ) (s : SessionsVi
 sessions_at_place [] region s lt e = absurd (omega arith)
 sessions_at_place (x ∷ all) zero s lt e = e
 sessions_at_place (x ∷ all) (suc region) s lt e = sessions_at_place all region s (omega arith) e
-
-some_same : {A : Type 0} {x y : A} → ◌≡◌ {A = Option A} (Some x) (Some y) → x ≡ y
-some_same e = cc
-
--- the call of a session that there is
-call_there : (calls : List Ranked) (n : ℕ) → n < length calls → (call : Ranked) × (slice_get calls n ≡ Some call)
-call_there [] n lt = absurd (omega arith)
-call_there (c ∷ calls) zero lt = (c, refl)
-call_there (c ∷ calls) (suc n) lt = call_there calls n (omega arith)
 
 module _ {cluster : Cluster} {sessions : WorldSessions} {sites : List SiteView} {steps : ℕ} (k : IsLawful cluster sessions sites steps) {region : ℕ} (lr : region < cluster.regions) (name : Bytes) where
   abbrev w : World
@@ -113,18 +105,18 @@ module _ {cluster : Cluster} {sessions : WorldSessions} {sites : List SiteView} 
               numbers : ◌≡◌ {A = ℕ × ℕ} (call, attempt) (place.answered + 1, next_attempt w place.waits)
               numbers =
                   let both : ◌≡◌ {A = Option (ℕ × ℕ)} (Some (call, attempt)) (Some (numbers_next (seat_in w (session, place)))) = sym is.1 ∙ ap (option_map numbers_next) seat in
-                  let same : ◌≡◌ {A = ℕ × ℕ} (call, attempt) (numbers_next (seat_in w (session, place))) = some_same both in
+                  let same : ◌≡◌ {A = ℕ × ℕ} (call, attempt) (numbers_next (seat_in w (session, place))) = same_Some _ _ both in
                   same ∙ numbers_are w session place
 
               left : place.answered < length session.calls
               left =
                   let r = agreed.submits cluster k.reached.run.sound sessions.workload w (order k.reached) region name (subst (MaySubmit cluster w region) (sym e) m) (inv k.reached) in
                   let same : ◌≡◌ {A = Option (Session × Place)} (Some (r.session, r.place)) (Some (session, place)) = sym r.found ∙ e in
-                  let pair : ◌≡◌ {A = Session × Place} (r.session, r.place) (session, place) = some_same same in
+                  let pair : ◌≡◌ {A = Session × Place} (r.session, r.place) (session, place) = same_Some _ _ same in
                   subst (λ (x : Session × Place). x.1.answered < length x.0.calls) pair r.on.call
 
               wanted : (c : Ranked) × (slice_get session.calls place.answered ≡ Some c)
-              wanted = call_there session.calls place.answered left
+              wanted = at_place session.calls place.answered left
 
       -- the call is one of the session's
       pub from_one : 1 ≤ call
@@ -139,7 +131,7 @@ module _ {cluster : Cluster} {sessions : WorldSessions} {sites : List SiteView} 
       call_there_is = subst IsSome (sym wanted_here) refl
 
       ranked_is : (rank : ℕ) (body : Body) → option_map ranked_body (wanted_of here name call) ≡ Some (rank, body) → ◌≡◌ {A = ℕ × Body} (rank, body) (ranked_body found.wanted)
-      ranked_is rank body made = some_same (sym made ∙ ap (option_map ranked_body) wanted_here)
+      ranked_is rank body made = same_Some _ _ (sym made ∙ ap (option_map ranked_body) wanted_here)
 
       -- so with what that call is to do, it is the session's next try
       pub next_try : (rank : ℕ) (body : Body) (copied : Bytes) → copied ≡ name → option_map ranked_body (wanted_of here name call) ≡ Some (rank, body)

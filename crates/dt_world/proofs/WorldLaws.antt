@@ -18,7 +18,7 @@ use Rattle.dt_site.specs.declared.Origin.{Origin}
 use Rattle.dt_site.specs.Site.{SiteView, in_region, no_site, node_of}
 use Rattle.dt_site.specs.SessionsStandIn.{SessionsStandIn, places_of}
 use Rattle.dt_site.specs.StandsIn.{IsReached, StandsIn}
-use Rattle.dt_site.proofs.Callers.{IsShort, Steps, after_more, inv, legal_short, many_here, order, others_stand, places_are, run_more, sessions_stay}
+use Rattle.dt_site.proofs.Callers.{HasShortLists, Steps, after_more, inv, legal_short, many_here, order, others_stand, places_are, run_more, sessions_stay}
 use Rattle.dt_world.specs.WorldSessions.{WorldSessions, places_in}
 use Rattle.dt_world.specs.WorldInner.{IsLawful, kept_in, sessions_of, site_at, view_in, world_of}
 use Rattle.dt_world.specs.WorldView.{Makes, WorldView, kept_next, made, takes_effect}
@@ -55,9 +55,9 @@ module _ {cluster : Cluster} {sessions : WorldSessions} {sites : List SiteView} 
   node_is q = get_of_map node_of sites q no_site
 
   -- the lists of the world are short
-  pub short : IsShort (world_of sites (places_in sessions)) steps
-  short = subst (λ w. IsShort w steps) (sym k.reached.after)
-      (subst (IsShort _) k.many (legal_short cluster k.reached.run.sound sessions.workload k.reached.run.fits k.reached.events k.reached.run.legal))
+  pub short : HasShortLists (world_of sites (places_in sessions)) steps
+  short = subst (λ w. HasShortLists w steps) (sym k.reached.after)
+      (subst (HasShortLists _) k.many (legal_short cluster k.reached.run.sound sessions.workload k.reached.run.fits k.reached.events k.reached.run.legal))
 
   pub submitted_few : {region : ℕ} → region < cluster.regions → length (site_at sites region).region.state.submitted ≤ steps
   submitted_few {region} lr = subst (λ n. n ≤ steps) (many_here k.reached (k.stands region lr)) (short.submitted region)

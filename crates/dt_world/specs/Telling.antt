@@ -1,6 +1,6 @@
 -- What a report is made from. The outcomes, the origins of attempts and the rows stand in the regions, and need not be made
 -- again. So a report takes events and the sites of all regions, each as it is after these events: it does not matter whether
--- one world has all sites in hand, or each is that of a node which ran by itself. One learns here when sites are so
+-- one world holds all sites, or each is that of a node which ran by itself. One learns here when sites are so
 -- (`AreSitesAfter`). Read next: `WorldReport`, for what the report says.
 use Rattle.std.specs.Prelude.{◌≡◌, ◌<◌, ℕ, List, get_or, length}
 use Rattle.dt_events.specs.declared.Event.{Event}

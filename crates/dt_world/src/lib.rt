@@ -1,4 +1,4 @@
-//! The world: all regions and all sessions of a cluster in one hand.
+//! The world: all regions and all sessions of a cluster, held together.
 //!
 //! A [`World`] takes one event after another. [`World::step`] makes an event exactly where it is legal by its rule, and
 //! refuses it by the number of that rule otherwise; a refused event changes nothing. [`World::report`] says what a list of

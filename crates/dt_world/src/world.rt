@@ -1,6 +1,5 @@
-ghost use Rattle.std.specs.Prelude.{◌≡◌, ◌↔◌, List, ◌&&◌, ◌+◌, ◌<◌, ◌≤◌, ℕ, nat_le, nat_lt, drop, filter_map, get_or, length, map, option_and_then, position, take, [], Some, IsTrue, IsOk, IfOk, OnOk, OnErr};
-ghost use Rattle.dt_lists.specs.Lists.{AllIn, Distinct, Has};
-ghost use Rattle.std.specs.Option.{option_copied};
+ghost use Rattle.std.specs.Prelude.{◌≡◌, ◌↔◌, List, ◌&&◌, ◌+◌, ◌<◌, ◌≤◌, ℕ, nat_le, nat_lt, drop, filter_map, get_or, length, map, take, [], Some, IsTrue, IsOk, IfOk, OnOk, OnErr};
+ghost use Rattle.dt_lists.specs.Lists.{AllIn};
 ghost use Rattle.dt_access.specs.declared.TxnId.{TxnId};
 ghost use Rattle.dt_events.specs.Stamps.{events_of};
 ghost use Rattle.dt_events.specs.declared.Event.{Event};
@@ -8,14 +7,12 @@ ghost use Rattle.dt_events.specs.declared.Event.TheVariants.{Submit, Append, Del
 ghost use Rattle.dt_sched.specs.Views.{log_at};
 ghost use Rattle.dt_table.specs.Table.{shown};
 ghost use Rattle.dt_report.specs.Report.{report_text};
-ghost use Rattle.dt_region.specs.Region.{held, outcome_of};
+ghost use Rattle.dt_region.specs.Region.{held};
 ghost use Rattle.dt_region.specs.Sound.{IsSoundRegion};
 ghost use Rattle.dt_cluster.specs.Valid.{IsValidCluster};
 ghost use Rattle.dt_cluster.specs.declared.Cluster.{Cluster};
-ghost use Rattle.dt_workload.specs.Valid.{IsValidWorkload, session_names};
+ghost use Rattle.dt_workload.specs.Valid.{IsValidWorkload};
 ghost use Rattle.dt_workload.specs.declared.Workload.{Workload};
-ghost use Rattle.dt_session.specs.Sessions.{waits_of};
-ghost use Rattle.dt_session.specs.World.{is_session};
 ghost use Rattle.dt_session.specs.Step.{IsLegal, next, rule_of};
 ghost use Rattle.dt_session.specs.Run.{AreLegal, order_of, world_after};
 ghost use Rattle.dt_world.specs.WorldInner.{IsNextOf, MayBeTold, opening_sites};
@@ -31,9 +28,9 @@ use dt_region::Region;
 use dt_report::Report;
 use dt_sched::Scheduler;
 use dt_session::Sessions;
-use dt_site::{Origin, Site, first_table, opening_of};
+use dt_site::{Origin, Site, first_table, last_outcome, opening_of};
 use dt_text::{Name, NoMemory};
-use dt_txn::{Body, Entry, Outcome};
+use dt_txn::{Body, Entry};
 use dt_workload::Workload;
 use std::alloc::Global;
 use std::marker::Model;
@@ -378,12 +375,13 @@ impl<S: Scheduler + Drop> World<S> {
         self.steps
     }
 
-    /// The text of the report of the events that led to this world, from its opening on. The world frees what the text
-    /// does not need before it is made, since the text is long.
-    pub fn text(self, alloc: Global, events: &[Event]) -> Result<Vec<u8>, NoMemory>
+    /// The text of the report of the events that led to this world, from its opening on, and the sites of the world's regions,
+    /// which the caller may drop or leave to the end of the program. What the text does not need is freed before it is made, since
+    /// the text is long.
+    pub fn text(self, alloc: Global, events: &[Event]) -> Result<(Vec<u8>, Vec<Site<S>>), NoMemory>
         requires legal { AreLegal self.cluster self.workload events.now }
         requires reached { self.state ≡ world_after self.cluster self.workload events.now }
-        ensures { IfOk result (λ text. text.items ≡ report_text (report_of self.cluster self.workload events.now)) }
+        ensures { IfOk result (λ made. made.0.items ≡ report_text (report_of self.cluster self.workload events.now)) }
     {
         // Names the steps, so that the proof has what is kept of their number.
         let _made = self.steps();
@@ -396,7 +394,9 @@ impl<S: Scheduler + Drop> World<S> {
         } = self;
         drop(sessions);
         let lent = each_lent(alloc, sites.as_slice())?;
-        text_of_sites(alloc, cluster, workload, lent.as_slice(), events)
+        let text = text_of_sites(alloc, cluster, workload, lent.as_slice(), events)?;
+        drop(lent);
+        Ok((text, sites))
     }
 }
 
@@ -414,17 +414,6 @@ fn sessions(
         all.push(Sessions::new(alloc, workload, region, cluster.tries)?)?;
     }
     Ok(all)
-}
-
-/// The outcome at its region of the attempt that a session waits for, if there are both.
-fn last_outcome<'a, S: Scheduler>(
-    sessions: &Sessions,
-    region: &'a Region<S>,
-    name: &Name,
-) -> Option<&'a Outcome>
-    ensures { option_copied result ≡ option_and_then (outcome_of region.now.state) (waits_of sessions.now name.now) }
-{
-    region.outcome(sessions.waits(name)?)
 }
 
 /// The sites of all regions of a cluster before anything happens, by number.

@@ -3,7 +3,7 @@ use Rattle.std.proofs.lemmas.Result.{err_from_is_err_and}
 use Rattle.dt_outside.specs.Folder.{Files}
 use Rattle.detock.specs.TaskCode.{asked_for, word_of}
 use Rattle.detock.specs.Loading.{HasFile, HoldEvents, Loaded}
-use Rattle.detock.proofs.Refused.{Follows, no_events, no_size, not_loaded, passed_on, refused_text, replayed_text}
+use Rattle.detock.proofs.Refused.{KeepsFiles, no_events, no_size, not_loaded, passed_on, refused_text, replayed_text}
 use Rattle.detock.proofs.replay.replay_text.Goals as goal
 
 pub returns-in_err-cluster : goal.returns-in_err-cluster
@@ -19,7 +19,7 @@ returns-in_err-events g c =
     let (made, is_made, same) = err_from_is_err_and c.from_residual-in_err-events.result c.from_residual-in_err-events.ensures.1 in
     let refused : c.load_events.result ≡ Err made =
     passed_on c.load_events.result c.from_residual-in_err-events.result _ made made c.in_err-events.was is_made same is_made in
-    let follows : Follows (g.F.Folder.seen c.args.files.now) (g.F.Folder.seen c.load_both.new.files) =
+    let follows : KeepsFiles (g.F.Folder.seen c.args.files.now) (g.F.Folder.seen c.load_both.new.files) =
     record { told = c.load_both.ensures.same_told; later = c.load_both.ensures.later } in
     let loaded : Loaded (g.F.Folder.seen c.args.files.now).told (asked_for c.args.replay) c.in_ok-cluster.cluster c.in_ok-cluster.workload =
     record { cluster_word = c.in_ok-cluster.ensures.cluster; workload_file = c.in_ok-cluster.ensures.workload } in

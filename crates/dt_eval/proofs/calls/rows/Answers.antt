@@ -1,4 +1,4 @@
-use Rattle.std.proofs.Common.{◌≡◌, ◌∙◌, List, sym, subst, length, map}
+use Rattle.std.proofs.Common.{◌≡◌, List, sym, ap, subst, length, map}
 use Rattle.std.specs.Prelude.{Option}
 use Rattle.dt_access.specs.Clash.{Bytes}
 use Rattle.dt_text.specs.declared.Value.{Value}
@@ -7,6 +7,8 @@ use Rattle.dt_proc.specs.declared.tree.KeyDecl.{KeyDecl}
 use Rattle.dt_eval.specs.FrameInner.{ArePlaces, IsItemWithin}
 use Rattle.dt_eval.specs.Keys.{names_given}
 use Rattle.dt_eval.proofs.KeyLaws.{items_within}
+use Rattle.dt_eval.specs.Meaning.{unchanged}
+use Rattle.dt_eval.proofs.RowParts.{ok_moved}
 use Rattle.dt_eval.proofs.RunStart.{names_read, rows_named, rows_below, rows_ascend}
 use Rattle.dt_eval.proofs.calls.rows.Goals as goal
 
@@ -22,16 +24,16 @@ places-requires-clause-read c =
 pub new-requires-clause-places : goal.new-requires-clause-places
 new-requires-clause-places c =
     let keys : List (Bytes × Option Value) → List Bytes = map (λ r. r.0) in
-    rows_below (names_given c.args.args.now c.keys-declarations.result.now) c.args.reads c.in_ok-places.places.items c.in_ok-items.items.items c.in_ok-items.ensures
+    rows_below (names_given c.args.args.now c.keys-declarations.result.now) c.args.reads c.in_ok-places.places.items (map unchanged c.into_vec.result.items) (ap (map unchanged) c.into_vec.ensures)
     (subst (λ rs. ArePlaces (names_given c.args.args.now c.keys-declarations.result.now) (keys rs) c.in_ok-places.places.items) c.as_slice.ensures c.in_ok-places.ensures)
 
 pub new-requires-clause-keys : goal.new-requires-clause-keys
-new-requires-clause-keys c = rows_ascend c.args.body.now c.args.args.now c.args.reads c.in_ok-items.items.items c.in_ok-items.ensures c.requires.reads
+new-requires-clause-keys c = rows_ascend c.args.body.now c.args.args.now c.args.reads (map unchanged c.into_vec.result.items) (ap (map unchanged) c.into_vec.ensures) c.requires.reads
 
 pub returns : goal.returns
 returns c =
     let keys : List (Bytes × Option Value) → List Bytes = map (λ r. r.0) in
-    c.new.ensures
-    ∙ rows_named c.args.body.now c.args.args.now c.args.reads c.in_ok-places.places.items c.in_ok-items.items.items c.in_ok-items.ensures
+    ok_moved _ _ c.new.result c.new.ensures
+    (rows_named c.args.body.now c.args.args.now c.args.reads c.in_ok-places.places.items (map unchanged c.into_vec.result.items) (ap (map unchanged) c.into_vec.ensures)
     (subst (λ ds. ArePlaces (names_given c.args.args.now ds) (keys c.args.reads) c.in_ok-places.places.items) c.keys-declarations.ensures.same
-    (subst (λ rs. ArePlaces (names_given c.args.args.now c.keys-declarations.result.now) (keys rs) c.in_ok-places.places.items) c.as_slice.ensures c.in_ok-places.ensures))
+    (subst (λ rs. ArePlaces (names_given c.args.args.now c.keys-declarations.result.now) (keys rs) c.in_ok-places.places.items) c.as_slice.ensures c.in_ok-places.ensures)))

@@ -6,6 +6,6 @@ use Rattle.dt_eval.proofs.calls.run_owned.Goals as goal
 
 pub block-requires : goal.block-requires
 block-requires c =
-    let frame : Frame = record { variables = c.in_ok-variables.field-0; rows = c.in_ok-rows.field-0; given = c.new.result } in
+    let frame : Frame = record { variables = c.of.result; rows = c.in_ok-rows.field-0; given = c.new.result } in
     subst (IsSoundBlock frame) (sym c.body.ensures.same)
-    (opening_sound c.args.body.now c.args.args.now frame c.body.ensures.sound c.requires.fits c.in_ok-variables.ensures (ap (λ r. r.0) c.in_ok-rows.ensures))
+    (opening_sound c.args.body.now c.args.args.now frame c.body.ensures.sound c.requires.fits c.of.ensures (ap (λ r. r.0) c.in_ok-rows.ensures))

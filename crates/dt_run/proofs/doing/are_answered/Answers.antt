@@ -2,7 +2,7 @@ use Rattle.std.proofs.Common.{◌≡◌, ◌<◌, true, length, sym, subst, arit
 use Rattle.std.proofs.lemmas.Bool.{false≢true}
 use Rattle.dt_session.specs.Sessions.{EachNameIsAnswered}
 use Rattle.dt_run.specs.SeatsInner.{SeatView}
-use Rattle.dt_run.proofs.Alls.{all_next, all_one}
+use Rattle.dt_run.proofs.EachItem.{all_next, all_one}
 use Rattle.dt_run.proofs.doing.are_answered.Goals as goal
 
 pub loop-seat-preserved : goal.loop-seat-preserved

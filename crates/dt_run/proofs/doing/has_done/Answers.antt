@@ -1,7 +1,7 @@
 use Rattle.std.proofs.Common.{◌≢◌, ◌≤◌, ◌+◌, length, None, refl, sym, arith}
 use Rattle.std.proofs.lemmas.Bool.{false≢true}
 use Rattle.dt_region.specs.Region.{held}
-use Rattle.dt_run.proofs.Submitting.{done_all, done_fails, done_goes, no_outcome, none_held, outcome_done, some_held, within}
+use Rattle.dt_run.proofs.DoneSubmissions.{done_all, done_fails, done_goes, no_outcome, none_held, outcome_done, some_held, within}
 use Rattle.dt_run.proofs.doing.has_done.Goals as goal
 
 pub returns-then-is_none : goal.returns-then-is_none

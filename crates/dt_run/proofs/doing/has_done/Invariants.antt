@@ -1,6 +1,6 @@
 use Rattle.std.proofs.Common.{◌+◌, ◌-◌, length}
 use Rattle.dt_txn.specs.Replica.{done_ids}
-use Rattle.dt_run.proofs.Submitting.{DoneBelow}
+use Rattle.dt_run.proofs.DoneSubmissions.{DoneBelow}
 use Rattle.dt_run.proofs.doing.has_done.Given as goal
 
 abbrev pub invariant-loop-id : goal.invariant-loop-id

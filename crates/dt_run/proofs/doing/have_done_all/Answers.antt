@@ -5,7 +5,7 @@ use Rattle.dt_txn.specs.declared.Txn.{Txn}
 use Rattle.dt_txn.specs.Replica.{done_ids}
 use Rattle.dt_region.specs.Region.{RegionView}
 use Rattle.dt_run.specs.SeatsInner.{SeatView}
-use Rattle.dt_run.proofs.Alls.{all_next, all_one}
+use Rattle.dt_run.proofs.EachItem.{all_next, all_one}
 use Rattle.dt_run.proofs.doing.have_done_all.Goals as goal
 
 pub loop-source-preserved : goal.loop-source-preserved

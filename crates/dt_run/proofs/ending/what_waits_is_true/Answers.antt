@@ -1,4 +1,4 @@
-use Rattle.dt_run.proofs.Waiting.{waiting_true}
+use Rattle.dt_run.proofs.WaitingPackets.{waiting_true}
 use Rattle.dt_run.proofs.ending.what_waits_is_true.Goals as goal
 
 pub returns : goal.returns

@@ -1,4 +1,4 @@
-use Rattle.dt_run.proofs.Linking.{link_added, made_fresh}
+use Rattle.dt_run.proofs.NewLinks.{link_added, made_fresh}
 use Rattle.dt_run.proofs.links.link.Goals as goal
 
 pub returns : goal.returns

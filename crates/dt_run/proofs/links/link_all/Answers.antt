@@ -1,6 +1,6 @@
 use Rattle.std.proofs.Common.{◌≡◌, length, subst, arith}
 use Rattle.dt_run.specs.LinksInner.{LinkedSoFar}
-use Rattle.dt_run.proofs.Linking.{are_empty, are_linked, are_nodes, linking_goes, linking_next, linking_starts, no_marks}
+use Rattle.dt_run.proofs.NewLinks.{are_empty, are_linked, are_nodes, linking_goes, linking_next, linking_starts, no_marks}
 use Rattle.dt_run.proofs.links.link_all.Goals as goal
 
 pub loop-region-init : goal.loop-region-init

@@ -1,6 +1,6 @@
 use Rattle.std.proofs.Common.{map}
 use Rattle.dt_run.specs.MergingInner.{IsMerging}
-use Rattle.dt_run.proofs.MergeMaking.{left_in}
+use Rattle.dt_run.proofs.MergeLoop.{left_in}
 use Rattle.dt_run.proofs.merging.merged.Given as goal
 
 abbrev pub invariant-loop-region : goal.invariant-loop-region

@@ -2,7 +2,7 @@ use Rattle.std.proofs.Common.{◌≡◌, map, subst, arith}
 use Rattle.std.specs.List.{range_with_len}
 use Rattle.dt_node.specs.NodeView.{opening_node_of}
 use Rattle.dt_run.specs.SeatsInner.{new_seat}
-use Rattle.dt_run.proofs.SeatMaking.{seats_more, sound_more}
+use Rattle.dt_run.proofs.NextSeat.{seats_more, sound_more}
 use Rattle.dt_run.proofs.nodes.seats.Goals as goal
 
 pub loop-region-preserved : goal.loop-region-preserved

@@ -6,7 +6,7 @@ use Rattle.std.proofs.Common.{sym, subst}
 use Rattle.std.proofs.Crossing.{sync}
 use Rattle.dt_lock.proofs.Callers.{and_shared, captures_sync, no_more, procs_sync}
 use Rattle.dt_run.specs.SeatsInner.{SeatCan, no_seat}
-use Rattle.dt_run.proofs.SeatTurning.{went}
+use Rattle.dt_run.proofs.SeatTurns.{went}
 use Rattle.dt_run.proofs.nodes.turn_all.Goals as goal
 
 workers_sync : IsSync (UInt w32)

@@ -33,13 +33,13 @@ choose-returns-clause-answer t c =
     let self = c.args.self.now in
     elim c.if-truth_of.branch [
       | choose-then-truth_of+in_ok-block w ↦
-          choose_by self.rows.0 (expr_tree c.args.test.now) c.args.then.now c.args.otherwise.now (seen self) (seen c.if-truth_of.self) true c.in_ok-value_of.field-0 c.truncate.new.self.items
+          choose_by self.rows.0 (expr_tree c.args.test.now) c.args.then.now c.args.otherwise.now (seen self) (seen c.if-truth_of.self) true c.in_ok-value_of.field-0 c.truncate.new.self
           c.in_ok-value_of.ensures.answer (c.truth_of.ensures ∙ ap Truth w.if-truth_of.true)
           (ap (λ b. after_block self.rows.0 b (seen self)) (sym w.as_slice.ensures) ∙ w.in_ok-block.ensures.answer ∙ ap (λ g. Ok (seen g)) (sym w.self-is))
-          (c.truncate.ensures.items ∙ ap (λ n. take n c.if-truth_of.self.variables.items) (c.len-visible.ensures ∙ self.variables.ok.0))
+          (c.truncate.ensures ∙ ap (λ n. take n c.if-truth_of.self.variables) c.len-visible.ensures)
       | choose-else-truth_of+in_ok-block-2 w ↦
-          choose_by self.rows.0 (expr_tree c.args.test.now) c.args.then.now c.args.otherwise.now (seen self) (seen c.if-truth_of.self) false c.in_ok-value_of.field-0 c.truncate.new.self.items
+          choose_by self.rows.0 (expr_tree c.args.test.now) c.args.then.now c.args.otherwise.now (seen self) (seen c.if-truth_of.self) false c.in_ok-value_of.field-0 c.truncate.new.self
           c.in_ok-value_of.ensures.answer (c.truth_of.ensures ∙ ap Truth w.if-truth_of.false)
           (ap (λ b. after_block self.rows.0 b (seen self)) (sym w.as_slice-else-truth_of.ensures) ∙ w.in_ok-block-2.ensures.answer ∙ ap (λ g. Ok (seen g)) (sym w.self-is))
-          (c.truncate.ensures.items ∙ ap (λ n. take n c.if-truth_of.self.variables.items) (c.len-visible.ensures ∙ self.variables.ok.0))
+          (c.truncate.ensures ∙ ap (λ n. take n c.if-truth_of.self.variables) c.len-visible.ensures)
     ]

@@ -11,6 +11,6 @@ abbrev pub invariant-loop-item : goal.invariant-loop-item
 invariant-loop-item l = record {
   variables : l.self.variables ≡ l.fn.self.variables;
   rows : l.self.rows ≡ l.fn.self.rows;
-  sound : AllIn (IsSoundGift (map sort_of_datum l.self.variables.items) (length l.self.rows.0)) (map give_tree (drop l.item-index l.items));
+  sound : AllIn (IsSoundGift (map sort_of_datum l.self.variables) (length l.self.rows.0)) (map give_tree (drop l.item-index l.items));
   told : after_gifts l.fn.self.rows.0 (map give_tree l.fn.items) (seen l.fn.self) ≡ after_gifts l.self.rows.0 (map give_tree (drop l.item-index l.items)) (seen l.self);
 }

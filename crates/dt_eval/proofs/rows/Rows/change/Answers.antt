@@ -1,15 +1,29 @@
 use Rattle.std.proofs.Common.{◌<◌, length, sym, ap, subst, ◌∙◌}
 use Rattle.dt_eval.specs.Data.{declared_key, with_value}
-use Rattle.dt_eval.proofs.RowPlaces.{row_invariant, row_changed}
+use Rattle.dt_eval.proofs.RowParts.{items_changed, items_sound, place_in_items, place_in_marks}
 use Rattle.dt_eval.proofs.rows.Rows.change.Goals as goal
+
+pub index_mut-requires : goal.index_mut-requires
+index_mut-requires c =
+    subst (λ n. c.index-place.result.now < n) (sym c.self.inside.items.ok.0)
+    (place_in_items c.self.inside.items.items c.self.inside.changed.items c.self.inside.places.items c.args.key c.index-place.result.now c.self.invariant.0 c.self.invariant.1 c.self.invariant.2
+    (subst (λ s. c.args.key < length s.0) (sym c.self.view_is) c.requires) c.index-place.ensures)
+
+pub index_mut-requires-2 : goal.index_mut-requires-2
+index_mut-requires-2 c =
+    subst (λ n. c.index-place.result.now < n) (sym c.self.inside.changed.ok.0)
+    (place_in_marks c.self.inside.items.items c.self.inside.changed.items c.self.inside.places.items c.args.key c.index-place.result.now c.self.invariant.0 c.self.invariant.1 c.self.invariant.2
+    (subst (λ s. c.args.key < length s.0) (sym c.self.view_is) c.requires) c.index-place.ensures)
 
 pub invariant_of-self : goal.invariant_of-self
 invariant_of-self c =
-    row_invariant c.self.inside.items.items c.self.inside.places.items c.args.key c.index.result.now c.index_mut-row.result.now c.args.value c.self.invariant.0 c.self.invariant.1
-    (subst (λ s. c.args.key < length s.0) (sym c.self.view_is) c.requires) c.index.ensures c.index_mut-row.ensures.value
+    items_sound c.self.inside.items.items c.self.inside.changed.items c.self.inside.places.items c.args.key c.index-place.result.now c.self.invariant.0 c.self.invariant.1 c.self.invariant.2
+    (subst (λ s. c.args.key < length s.0) (sym c.self.view_is) c.requires) c.index-place.ensures
+    c.index_mut.result.now c.args.value c.index_mut.ensures.value
 
 pub returns : goal.returns
 returns c =
-    row_changed c.self.inside.items.items c.self.inside.places.items c.args.key c.index.result.now c.index_mut-row.result.now c.args.value c.self.invariant.0 c.self.invariant.1
-    (subst (λ s. c.args.key < length s.0) (sym c.self.view_is) c.requires) c.index.ensures c.index_mut-row.ensures.value
+    items_changed c.self.inside.items.items c.self.inside.changed.items c.self.inside.places.items c.args.key c.index-place.result.now c.self.invariant.0 c.self.invariant.1 c.self.invariant.2
+    (subst (λ s. c.args.key < length s.0) (sym c.self.view_is) c.requires) c.index-place.ensures
+    c.index_mut.result.now c.args.value c.index_mut.ensures.value
     ∙ ap (λ s. (s.0, with_value (declared_key s.0 c.args.key) c.args.value s.1)) c.self.view_is

@@ -1,11 +1,11 @@
 use Rattle.std.proofs.Common.{◌≤◌, ◌<◌, [], length, refl, ◌∙◌, arith}
 use Rattle.dt_node.specs.Turn.{MayAnswerAt}
-use Rattle.dt_node.proofs.HavingStepped.{answered_all, answered_more, answered_none, ordered}
-use Rattle.dt_node.proofs.Keeping.{session_here, sessions_past}
-use Rattle.dt_node.proofs.Moving.{made_nothing, moves_more}
-use Rattle.dt_node.proofs.Passing.{all_answered, ends_more, ends_none}
-use Rattle.dt_node.proofs.Stepping.{knows_more}
-use Rattle.dt_node.proofs.Telling.{take_on}
+use Rattle.dt_node.proofs.SteppedSessions.{answered_all, answered_more, answered_none, ordered}
+use Rattle.dt_node.proofs.SmallNumbers.{session_here, sessions_past}
+use Rattle.dt_node.proofs.CallAfterCall.{made_nothing, moves_more}
+use Rattle.dt_node.proofs.SessionsByPlace.{all_answered, ends_more, ends_none}
+use Rattle.dt_node.proofs.PassesOfTurn.{knows_more}
+use Rattle.dt_node.proofs.TruePackets.{take_on}
 use Rattle.dt_node.proofs.node.Node.answer_all.Goals as goal
 
 pub sessions-init : goal.sessions-init

@@ -1,9 +1,9 @@
 use Rattle.std.proofs.Common.{[], subst}
 use Rattle.dt_node.specs.Steps.{IsPass}
 use Rattle.dt_node.specs.TurnInner.{PassesOnce}
-use Rattle.dt_node.proofs.Moving.{moves_more}
-use Rattle.dt_node.proofs.Stepping.{passed_last, passed_more, passed_none, passes_end}
-use Rattle.dt_node.proofs.Telling.{can_on}
+use Rattle.dt_node.proofs.CallAfterCall.{moves_more}
+use Rattle.dt_node.proofs.PassesOfTurn.{passed_last, passed_more, passed_none, passes_end}
+use Rattle.dt_node.proofs.TruePackets.{can_on}
 use Rattle.dt_node.proofs.node.Node.go_on.Goals as goal
 
 pub loop-init : goal.loop-init

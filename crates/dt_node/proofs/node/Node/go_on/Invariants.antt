@@ -1,5 +1,5 @@
 use Rattle.dt_node.specs.Measure.{left_for}
-use Rattle.dt_node.proofs.Stepping.{HasPassed}
+use Rattle.dt_node.proofs.PassesOfTurn.{HasPassed}
 use Rattle.dt_node.proofs.node.Node.go_on.Given as goal
 
 abbrev pub invariant-loop : goal.invariant-loop

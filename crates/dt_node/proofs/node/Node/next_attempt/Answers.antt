@@ -1,4 +1,4 @@
-use Rattle.dt_node.proofs.Opened.{next_call}
+use Rattle.dt_node.proofs.PartsOfNode.{next_call}
 use Rattle.dt_node.proofs.node.Node.next_attempt.Goals as goal
 
 pub body-requires-clause-there : goal.body-requires-clause-there

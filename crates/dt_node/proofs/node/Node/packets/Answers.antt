@@ -1,6 +1,6 @@
 use Rattle.std.proofs.Common.{◌≡◌, ap, ◌∙◌}
 use Rattle.dt_node.specs.NodeView.{number_of}
-use Rattle.dt_node.proofs.Putting.{made_more}
+use Rattle.dt_node.proofs.PacketsPut.{made_more}
 use Rattle.dt_node.proofs.node.Node.packets.Goals as goal
 
 pub loop-link-preserved : goal.loop-link-preserved

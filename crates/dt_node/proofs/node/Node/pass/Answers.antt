@@ -1,8 +1,8 @@
 use Rattle.std.proofs.Common.{[]}
 use Rattle.dt_node.proofs.Beginning.{first_pass}
-use Rattle.dt_node.proofs.Moving.{moves_more}
-use Rattle.dt_node.proofs.Stepping.{own_stay, pass_steps, passes}
-use Rattle.dt_node.proofs.Telling.{can_on}
+use Rattle.dt_node.proofs.CallAfterCall.{moves_more}
+use Rattle.dt_node.proofs.PassesOfTurn.{own_stay, pass_steps, passes}
+use Rattle.dt_node.proofs.TruePackets.{can_on}
 use Rattle.dt_node.proofs.node.Node.pass.Goals as goal
 
 pub returns-in_err-answered-clause-moved : goal.returns-in_err-answered-clause-moved

@@ -1,9 +1,9 @@
 use Rattle.std.proofs.Common.{◌≡◌, [], ◌∷◌, List, length, sym, subst, ◌∙◌, arith}
 use Rattle.dt_txn.specs.declared.Txn.{Txn}
 use Rattle.dt_node.specs.TurnInner.{IsPlacing, asking_packet}
-use Rattle.dt_node.proofs.Keeping.{taken_counted}
-use Rattle.dt_node.proofs.Pieces.{can_place_next, placing_breaks, placing_goes, placing_starts}
-use Rattle.dt_node.proofs.Telling.{can_again}
+use Rattle.dt_node.proofs.SmallNumbers.{taken_counted}
+use Rattle.dt_node.proofs.RequestByRequest.{can_place_next, placing_breaks, placing_goes, placing_starts}
+use Rattle.dt_node.proofs.TruePackets.{can_again}
 use Rattle.dt_node.proofs.node.Node.place_all.Goals as goal
 
 none_left : (txns : List Txn) → length txns ≡ 0 → txns ≡ []

@@ -1,8 +1,8 @@
 use Rattle.std.proofs.Common.{[], refl, ◌∙◌}
-use Rattle.dt_node.proofs.Moving.{made_nothing, moves_more}
-use Rattle.dt_node.proofs.OwnPlacing.{placing_none, placing_on}
-use Rattle.dt_node.proofs.Stepping.{knows_more}
-use Rattle.dt_node.proofs.Telling.{take_on}
+use Rattle.dt_node.proofs.CallAfterCall.{made_nothing, moves_more}
+use Rattle.dt_node.proofs.OwnHome.{placing_none, placing_on}
+use Rattle.dt_node.proofs.PassesOfTurn.{knows_more}
+use Rattle.dt_node.proofs.TruePackets.{take_on}
 use Rattle.dt_node.proofs.node.Node.place_own.Goals as goal
 
 pub loop-init : goal.loop-init

@@ -1,6 +1,6 @@
 use Rattle.std.proofs.Common.{ap, ◌∙◌}
 use Rattle.dt_node.specs.NodeView.{NodeView}
-use Rattle.dt_node.proofs.Opened.{placed_so_far, received_so_far, then_ask, then_log, whole_moved, whole_step, whole_taken}
+use Rattle.dt_node.proofs.PartsOfNode.{placed_so_far, received_so_far, then_ask, then_log, whole_moved, whole_step, whole_taken}
 use Rattle.dt_node.proofs.node.Node.receive.Goals as goal
 
 pub place_all-requires : goal.place_all-requires

@@ -2,8 +2,8 @@ use Rattle.std.proofs.Common.{◌<◌, ◌≤◌, ◌+◌, drop, flat_map, get_o
 use Rattle.std.proofs.Math.ListN.{drop_of_length-le, length-set}
 use Rattle.dt_node.specs.TurnInner.{IsTaking}
 use Rattle.dt_node.proofs.Inlets.{can_next, emptied_here, same_set, waits_behind, waits_here}
-use Rattle.dt_node.proofs.Keeping.{none_waits}
-use Rattle.dt_node.proofs.Taking.{taking_breaks, taking_ends, taking_goes, taking_starts}
+use Rattle.dt_node.proofs.SmallNumbers.{none_waits}
+use Rattle.dt_node.proofs.PacketsTaken.{taking_breaks, taking_ends, taking_goes, taking_starts}
 use Rattle.dt_node.proofs.node.Node.receive_all.Goals as goal
 
 pub loop-link-init : goal.loop-link-init

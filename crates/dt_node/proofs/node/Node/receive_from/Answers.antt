@@ -1,7 +1,7 @@
 use Rattle.std.proofs.Common.{[], ◌∷◌, refl, subst}
 use Rattle.dt_node.specs.TurnInner.{IsTaking}
 use Rattle.dt_node.proofs.Inlets.{can_next, none_left}
-use Rattle.dt_node.proofs.Taking.{taking_breaks, taking_ends, taking_goes, taking_starts}
+use Rattle.dt_node.proofs.PacketsTaken.{taking_breaks, taking_ends, taking_goes, taking_starts}
 use Rattle.dt_node.proofs.node.Node.receive_from.Goals as goal
 
 pub loop-packet-init : goal.loop-packet-init

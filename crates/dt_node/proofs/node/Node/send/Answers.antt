@@ -1,5 +1,5 @@
 use Rattle.std.proofs.Common.{◌+◌, length, sym, ap, ◌∙◌}
-use Rattle.dt_node.proofs.Putting.{many_made, many_still, once_sent, one_free, still_free, twice_sent}
+use Rattle.dt_node.proofs.PacketsPut.{many_made, many_still, once_sent, one_free, still_free, twice_sent}
 use Rattle.dt_node.proofs.node.Node.send.Goals as goal
 
 pub put_all-requires-clause-many : goal.put_all-requires-clause-many

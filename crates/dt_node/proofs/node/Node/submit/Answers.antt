@@ -1,8 +1,8 @@
 use Rattle.std.proofs.Common.{refl, sym, ap, subst, arith}
 use Rattle.dt_txn.specs.Transaction.{BodyFits}
-use Rattle.dt_node.proofs.Opened.{sub_less, sub_moves, sub_seats}
+use Rattle.dt_node.proofs.PartsOfNode.{sub_less, sub_moves, sub_seats}
 use Rattle.dt_node.proofs.Ready.{few, has_stamp}
-use Rattle.dt_node.proofs.Submitting.{body_fits_here, place_fits, rank_fits}
+use Rattle.dt_node.proofs.Rule1Submit.{body_fits_here, place_fits, rank_fits}
 use Rattle.dt_node.proofs.node.Node.submit.Goals as goal
 
 pub submit-requires-clause-stamp : goal.submit-requires-clause-stamp

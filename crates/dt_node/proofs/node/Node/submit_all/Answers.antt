@@ -3,12 +3,12 @@ use Rattle.dt_access.specs.Orders.{HasAscendingKeys}
 use Rattle.dt_node.specs.NodeView.{NodeView}
 use Rattle.dt_node.specs.Turn.{MaySubmitAt}
 use Rattle.dt_node.proofs.Beginning.{begun_all, begun_more, begun_none}
-use Rattle.dt_node.proofs.HavingStepped.{submitted_all, submitted_more, submitted_none}
-use Rattle.dt_node.proofs.Keeping.{session_here, sessions_past}
-use Rattle.dt_node.proofs.Moving.{made_nothing, moves_more}
-use Rattle.dt_node.proofs.Passing.{all_submitted, ends_more, ends_none}
-use Rattle.dt_node.proofs.Stepping.{knows_more}
-use Rattle.dt_node.proofs.Telling.{can_on}
+use Rattle.dt_node.proofs.SteppedSessions.{submitted_all, submitted_more, submitted_none}
+use Rattle.dt_node.proofs.SmallNumbers.{session_here, sessions_past}
+use Rattle.dt_node.proofs.CallAfterCall.{made_nothing, moves_more}
+use Rattle.dt_node.proofs.SessionsByPlace.{all_submitted, ends_more, ends_none}
+use Rattle.dt_node.proofs.PassesOfTurn.{knows_more}
+use Rattle.dt_node.proofs.TruePackets.{can_on}
 use Rattle.dt_node.proofs.node.Node.submit_all.Goals as goal
 
 pub sessions-init : goal.sessions-init

@@ -1,11 +1,11 @@
 use Rattle.std.proofs.Common.{◌<◌, [], length, map, slice_get, sym, ap, subst, ◌∙◌}
 use Rattle.dt_node.specs.NodeView.{NodeView, number_of}
 use Rattle.dt_node.specs.TurnInner.{IsNextOfNode}
-use Rattle.dt_node.proofs.Moving.{moves_more}
-use Rattle.dt_node.proofs.OwnPlacing.{has_submitted}
-use Rattle.dt_node.proofs.Owning.{own_within}
+use Rattle.dt_node.proofs.CallAfterCall.{moves_more}
+use Rattle.dt_node.proofs.OwnHome.{has_submitted}
+use Rattle.dt_node.proofs.OwnRequests.{own_within}
 use Rattle.dt_node.proofs.SessionsOn.{submitted_on}
-use Rattle.dt_node.proofs.Telling.{can_on}
+use Rattle.dt_node.proofs.TruePackets.{can_on}
 use Rattle.dt_node.proofs.node.Node.submit_one.Goals as goal
 
 pub place_own-requires : goal.place_own-requires

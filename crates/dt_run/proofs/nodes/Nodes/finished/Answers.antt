@@ -2,7 +2,7 @@ use Rattle.std.proofs.Common.{◌↔◌, IsTrue, subst, sym}
 use Rattle.dt_lists.specs.Lists.{AllIn}
 use Rattle.dt_run.specs.Done.{IsAllDone}
 use Rattle.dt_run.specs.SeatsInner.{HasFewSubmitted}
-use Rattle.dt_run.proofs.Finishing.{done_if, few_submitted, not_done_if}
+use Rattle.dt_run.proofs.FinishedRun.{done_if, few_submitted, not_done_if}
 use Rattle.dt_run.proofs.nodes.Nodes.finished.Goals as goal
 
 pub have_done_all-requires : goal.have_done_all-requires

@@ -1,4 +1,4 @@
-use Rattle.dt_run.proofs.SeatTurning.{noted, of_ok}
+use Rattle.dt_run.proofs.SeatTurns.{noted, of_ok}
 use Rattle.dt_run.proofs.seat.Seat.turn.Goals as goal
 
 pub returns : goal.returns

@@ -1,4 +1,4 @@
-use Rattle.std.proofs.Common.{◌≡◌, ◌<◌, Bor, IfOk, map, sym, ap, subst, ◌∙◌, arith}
+use Rattle.std.proofs.Common.{◌≡◌, ◌<◌, Bor, map, sym, ap, subst, ◌∙◌, arith}
 use Rattle.dt_report.specs.Report.{report_text}
 use Rattle.dt_site.specs.Site.{SiteView}
 use Rattle.dt_world.specs.Telling.{AreSitesAfter}
@@ -16,4 +16,4 @@ text_of_sites-requires g c =
     (sites_after c.self.invariant c.self.view_is c.args.events.now c.requires.legal c.requires.reached few)
 
 pub returns : goal.returns
-returns g c = subst (λ (v : WorldView). IfOk c.text_of_sites.result (λ text. text.items ≡ report_text (report_of v.cluster v.workload c.args.events.now))) c.self.view_is c.text_of_sites.ensures
+returns g c = subst (λ (v : WorldView). c.in_ok-text.text.items ≡ report_text (report_of v.cluster v.workload c.args.events.now)) c.self.view_is c.in_ok-text.ensures

@@ -1,0 +1,77 @@
+-- A key expression compared part by part with the bytes of a key, and the place of the key among those that were read.
+use Rattle.std.proofs.Common.{◌≡◌, ◌<◌, ◌+◌, ℕ, suc, true, false, Some, List, [], ◌∷◌, ◌++◌, length, get_or, drop, take, map, add-one, sym, ap, ap₂, subst, ◌∙◌, inl, inr}
+use Rattle.std.specs.Prelude.{◌↔◌, MatchOption, Option, None}
+use Rattle.std.specs.Cmp.Lexicographic.{bytes_decides}
+use Rattle.std.proofs.lemmas.Bool.{true≢false}
+use Rattle.std.proofs.lemmas.List.{get_or-map, take-append-drop}
+use Rattle.std.proofs.Math.Seq.{drop-append_seam, drop-cons, take-append_seam}
+use Rattle.dt_lists.specs.Lists.{AllIn, AnyIn}
+use Rattle.dt_text.specs.declared.Value.{Value}
+use Rattle.dt_access.specs.Clash.{Bytes, same_key}
+use Rattle.dt_proc.specs.declared.tree.KeyItem.{KeyItem}
+use Rattle.dt_eval.specs.FrameInner.{IsItemWithin}
+use Rattle.dt_eval.specs.Keys.{item_text, key_text}
+
+-- fronts
+
+pub front_absent : (front bytes : Bytes) → same_key (take (length front) bytes) front ≡ false → (rest : Bytes) → ¬ (bytes ≡ front ++ rest)
+front_absent front bytes differ rest e =
+    true≢false (sym ((bytes_decides (take (length front) bytes) front).1 (ap (take (length front)) e ∙ take-append_seam front rest)) ∙ differ)
+
+pub front_there : (front bytes rest : Bytes) → same_key (take (length front) bytes) front ≡ true → rest ≡ drop (length front) bytes → bytes ≡ front ++ rest
+front_there front bytes rest same r =
+    sym (take-append-drop (length front) bytes) ∙ ap₂ ◌++◌ ((bytes_decides (take (length front) bytes) front).0 same) (sym r)
+
+-- what `strip_prefix` says of a front and what is left
+pub front_cases : {X : Type 0} (front bytes : Bytes) (now : X → Bytes) (r : Option X)
+    → MatchOption r (same_key (take (length front) bytes) front ≡ false) (λ x. (same_key (take (length front) bytes) front ≡ true) × (now x ≡ drop (length front) bytes) × (length (now x) + length front ≡ length bytes))
+    → MatchOption r ((rest : Bytes) → ¬ (bytes ≡ front ++ rest)) (λ x. bytes ≡ front ++ now x)
+front_cases front bytes now None h = front_absent front bytes h
+front_cases front bytes now (Some x) h = front_there front bytes (now x) h.0 h.1
+
+same_rest : (front a b : Bytes) → front ++ a ≡ front ++ b → a ≡ b
+same_rest front a b e = sym (drop-append_seam front a) ∙ ap (drop (length front)) e ∙ drop-append_seam front b
+
+-- what is known after the first parts of a key expression
+pub record Giving (args : List Value) (items : List KeyItem) (bytes : Bytes) (index : ℕ) (rest : Bytes) : Type 0 where
+  pub within : AllIn (IsItemWithin (length args)) (drop index items)
+  pub left : (bytes ≡ key_text args items) ↔ (rest ≡ key_text args (drop index items))
+
+module _ (args : List Value) (items : List KeyItem) (bytes rest : Bytes) (index : ℕ) (item : KeyItem)
+    (inside : index < length items) (is : item ≡ get_or items index item) (known : Giving args items bytes index rest) where
+  cut : drop index items ≡ item ∷ drop (index + 1) items
+  cut = drop-cons items index item inside ∙ ap (λ x. x ∷ drop (suc index) items) (sym is) ∙ ap (λ j. item ∷ drop j items) (sym (add-one index))
+
+  cut_text : key_text args (drop index items) ≡ item_text args item ++ key_text args (drop (index + 1) items)
+  cut_text = ap (key_text args) cut
+
+  pub giving_within : IsItemWithin (length args) item
+  giving_within = (subst (AllIn (IsItemWithin (length args))) cut known.within).0
+
+  pub giving_more : (after : Bytes) → rest ≡ item_text args item ++ after → Giving args items bytes (index + 1) after
+  giving_more after e = record {
+    within = (subst (AllIn (IsItemWithin (length args))) cut known.within).1;
+    left = (
+      λ h. same_rest (item_text args item) after (key_text args (drop (index + 1) items)) (sym e ∙ known.left.0 h ∙ cut_text),
+      λ h. known.left.1 (e ∙ ap (λ bs. item_text args item ++ bs) h ∙ sym cut_text),
+    );
+  }
+
+  pub giving_none : ((after : Bytes) → ¬ (rest ≡ item_text args item ++ after)) → ¬ (bytes ≡ key_text args items)
+  giving_none none h = none (key_text args (drop (index + 1) items)) (known.left.0 h ∙ cut_text)
+
+-- places
+
+module _ (reads : List (Bytes × Option Value)) (name : Bytes) (index : ℕ) (read : Bytes × Option Value) (inside : index < length reads) (is : read ≡ get_or reads index read) where
+  cut_reads : drop index reads ≡ read ∷ drop (index + 1) reads
+  cut_reads = drop-cons reads index read inside ∙ ap (λ x. x ∷ drop (suc index) reads) (sym is) ∙ ap (λ j. read ∷ drop j reads) (sym (add-one index))
+
+  pub read_later : ¬ (read.0 ≡ name) → AnyIn (λ r. r.0 ≡ name) (drop index reads) → AnyIn (λ r. r.0 ≡ name) (drop (index + 1) reads)
+  read_later differ any = go (subst (AnyIn (λ (r : Bytes × Option Value). r.0 ≡ name)) cut_reads any)
+    where
+      go : AnyIn (λ r. r.0 ≡ name) (read ∷ drop (index + 1) reads) → AnyIn (λ r. r.0 ≡ name) (drop (index + 1) reads)
+      go (inl e) = absurd (differ e)
+      go (inr h) = h
+
+  pub read_named : read.0 ≡ name → get_or (map (λ (r : Bytes × Option Value). r.0) reads) index [] ≡ name
+  read_named e = get_or-map (λ (r : Bytes × Option Value). r.0) reads index read [] inside ∙ ap (λ (r : Bytes × Option Value). r.0) (sym is) ∙ e

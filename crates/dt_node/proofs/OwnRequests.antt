@@ -1,0 +1,98 @@
+-- The node places what it asked of its own region: it holds what it asked, and each request that it places leaves one less.
+use Rattle.std.proofs.Common.{◌≡◌, ◌<◌, ◌≤◌, ◌+◌, ◌-◌, ℕ, Bool, true, false, List, [], length, get_or, slice_get, Result, Ok, Err, Some, refl, sym, ap, subst, ◌∙◌, arith}
+use Rattle.std.proofs.lemmas.List.{get_or-set_same}
+use Rattle.dt_text.specs.declared.NoMemory.{NoMemory}
+use Rattle.dt_lists.specs.Lists.{Has}
+use Rattle.dt_lists.proofs.Callers.{has_place}
+use Rattle.dt_access.specs.declared.TxnId.{TxnId}
+use Rattle.dt_events.specs.declared.Event.{Event}
+use Rattle.dt_proc.specs.Tree.{ProcTree}
+use Rattle.dt_txn.specs.declared.Txn.{Txn}
+use Rattle.dt_txn.specs.Replica.{taken_from}
+use Rattle.dt_region.specs.Region.{RegionView, held}
+use Rattle.dt_region.specs.Conditions.{CanAppend}
+use Rattle.dt_region.specs.Rules.{MakesAppend}
+use Rattle.dt_region.specs.Sound.{IsSoundRegion}
+use Rattle.dt_cluster.specs.declared.Cluster.{Cluster}
+use Rattle.dt_workload.specs.declared.Workload.{Workload}
+use Rattle.dt_session.specs.World.{World, Node, asked_of, txn_of}
+use Rattle.dt_session.specs.Run.{world_after}
+use Rattle.dt_agreement.proofs.Callers.{IsRequest, request_is, txn_id}
+use Rattle.dt_site.specs.Site.{in_region}
+use Rattle.dt_site.proofs.Callers.{attempts_have, find_some, inv, order}
+use Rattle.dt_node.specs.NodeView.{NodeView, number_of}
+use Rattle.dt_node.specs.Standing.{NodeFits}
+use Rattle.dt_node.specs.Turn.{HasPlacedOwn}
+use Rattle.dt_node.specs.Steps.{own_left}
+use Rattle.dt_node.specs.TurnInner.{CanTake, MovesOn}
+use Rattle.dt_node.proofs.EventsGoOn.{reached}
+use Rattle.dt_node.proofs.CallsOfNode.{place_moves}
+use Rattle.dt_node.proofs.CallAfterCall.{made_nothing}
+use Rattle.dt_node.proofs.Rule2Append.{can_place, place_goes}
+use Rattle.dt_node.proofs.Ready.{one_more}
+
+-- no more of them are placed than there are
+pub own_within : {cluster : Cluster} {workload : Workload} {events : List Event} {a : NodeView} → NodeFits cluster workload events a
+    → taken_from a.site.region.state.here (number_of a) ≤ length (get_or a.site.region.state.here.asked (number_of a) [])
+own_within {cluster} {workload} {events} {a} f =
+    subst (λ (n : Node). taken_from n.here (number_of a) ≤ length (get_or n.here.asked (number_of a) [])) (sym f.site.node) (((inv (reached f)).logs (number_of a) f.number).taken (number_of a) f.number)
+
+-- where n are placed and no more were asked, all are placed
+pub own_placed : {a : NodeView} → CanTake [] a → (number : ℕ) → number ≡ taken_from a.site.region.state.here (number_of a)
+    → length (get_or a.site.region.state.here.asked (number_of a) []) ≤ number → HasPlacedOwn a
+own_placed {a} c number is le = let within = own_within c.can.fits in omega (arith, within, is, le)
+
+-- the request of this number
+module _ {cluster : Cluster} {workload : Workload} {events : List Event} {a : NodeView} (f : NodeFits cluster workload events a) (number : ℕ) (id : TxnId)
+    (wanted : slice_get (get_or a.site.region.state.here.asked (number_of a) []) number ≡ Some id) where
+  abbrev w : World
+  w = world_after cluster workload events
+
+  wants : slice_get (asked_of w (number_of a) (number_of a)) number ≡ Some id
+  wants = subst (λ (n : Node). slice_get (get_or n.here.asked (number_of a) []) number ≡ Some id) f.site.node wanted
+
+  request : IsRequest w (number_of a) (number_of a) id
+  request = request_is cluster workload w (order (reached f)) (number_of a) (number_of a) f.number f.number (inv (reached f)) id (has_place (asked_of w (number_of a) (number_of a)) number id wants)
+
+  -- its transaction is held, where it was submitted
+  pub own_held : (txn : Txn) × (held a.site.region.state id ≡ Some txn)
+  own_held = subst (λ x. (txn : Txn) × (held a.site.region.state x ≡ Some txn)) request.same
+      (find_some a.site.region.state.submitted a.site.region.state.foreign request.submission.txn
+      (attempts_have a.site.region.state.submitted a.site.origins request.submission (subst (λ (n : Node). Has n.submitted request.submission) (sym f.site.node) request.there)))
+
+  module _ (txn : Txn) (is_held : held a.site.region.state id ≡ Some txn) where
+    its_id : txn.id ≡ id
+    its_id = txn_id w id txn (f.site.known id txn is_held)
+
+    pub own_wants : slice_get (asked_of w (number_of a) (number_of a)) number ≡ Some txn.id
+    own_wants = subst (λ x. slice_get (asked_of w (number_of a) (number_of a)) number ≡ Some x) (sym its_id) wants
+
+    pub own_found : txn_of w txn.id ≡ Some txn
+    own_found = subst (λ x. txn_of w x ≡ Some txn) (sym its_id) (f.site.known id txn is_held)
+
+module _ {a : NodeView} (c : CanTake [] a) (number : ℕ) (id : TxnId) (wanted : slice_get (get_or a.site.region.state.here.asked (number_of a) []) number ≡ Some id) (txn : Txn)
+    (is_held : held a.site.region.state id ≡ Some txn) where
+  -- it may be placed
+  pub may_place_own : CanAppend a.site.region.state (number_of a) number txn
+  may_place_own = can_place c.can.fits c.can.fits.number number txn (own_wants c.can.fits number id wanted txn is_held) (own_found c.can.fits number id wanted txn is_held) (one_more c.can)
+
+  -- and how that ends
+
+  pub own_ends : {procs : List ProcTree} (result : Result Bool NoMemory) (r : RegionView) → MakesAppend a.site.region (number_of a) number txn result r → IsSoundRegion r.state
+      → MovesOn procs [] a (record a { site = in_region a.site r })
+  own_ends (Ok true) r m sound = place_moves (number_of a) number txn r m []
+      (λ cluster workload events p f t. place_goes f f.number number txn (own_wants f number id wanted txn is_held) (own_found f number id wanted txn is_held) r m sound) (λ apart. absurd (apart refl))
+  own_ends {procs} (Ok false) r m sound = subst (λ (x : RegionView). MovesOn procs [] a (record a { site = in_region a.site x })) (sym m.1) (made_nothing a)
+  own_ends {procs} (Err e) r m sound = subst (λ (x : RegionView). MovesOn procs [] a (record a { site = in_region a.site x })) (sym m) (made_nothing a)
+
+  pub own_less : (on : Bool) (r : RegionView) → MakesAppend a.site.region (number_of a) number txn (Ok on) r → number ≡ taken_from a.site.region.state.here (number_of a)
+      → number < length (get_or a.site.region.state.here.asked (number_of a) []) → own_left (record a { site = in_region a.site r }) < own_left a
+  own_less true r m next lt =
+      let there : number_of a < length a.site.region.state.here.taken = subst (λ n. number_of a < n) (sym c.can.fits.site.sound.taken) c.can.fits.site.sound.number in
+      let more : taken_from r.state.here (number_of a) ≡ taken_from a.site.region.state.here (number_of a) + 1 =
+      ap (λ (x : RegionView). taken_from x.state.here (number_of a)) m.1 ∙ get_or-set_same a.site.region.state.here.taken (number_of a) (taken_from a.site.region.state.here (number_of a) + 1) 0 there in
+      let same : length (get_or r.state.here.asked (number_of a) []) ≡ length (get_or a.site.region.state.here.asked (number_of a) []) =
+      ap (λ (x : RegionView). length (get_or x.state.here.asked (number_of a) [])) m.1 in
+      let mine : r.state.number ≡ number_of a = ap (λ (x : RegionView). x.state.number) m.1 in
+      subst (λ q. length (get_or r.state.here.asked q []) - taken_from r.state.here q < own_left a) (sym mine) (omega (arith, more, same, next, lt))
+  own_less false r m next lt = absurd (m.0 next)

@@ -1,0 +1,142 @@
+-- Whether one region has done what another one submitted: the submissions are counted, so they are found by their numbers.
+use Rattle.std.proofs.Common.{◌≡◌, ◌≢◌, ◌<◌, ◌≤◌, ◌+◌, ◌-◌, ℕ, zero, suc, List, [], ◌∷◌, ◌++◌, length, slice_get, None, Some, refl, sym, ap, subst, ◌∙◌, inl, inr, arith}
+use Rattle.std.proofs.Common.{true, false, map}
+use Rattle.std.specs.Map.{lookup}
+use Rattle.std.proofs.Common.{Option}
+use Rattle.std.proofs.lemmas.Bool.{false≢true}
+use Rattle.std.proofs.Common.{Bor}
+use Rattle.std.specs.Option.{is_some, option_copied}
+use Rattle.dt_lists.specs.Lists.{AllIn, Either, Has}
+use Rattle.dt_lists.proofs.Callers.{all_get, all_of_gets, at_place, either_le, either_nat, has_place}
+use Rattle.dt_access.specs.declared.TxnId.{TxnId}
+use Rattle.dt_access.proofs.Callers.{id_of_test, same_by_parts, test_of_id, test_of_other}
+use Rattle.dt_access.specs.Ids.{same_id}
+use Rattle.dt_txn.specs.declared.Txn.{Txn}
+use Rattle.dt_txn.specs.declared.Outcome.{Outcome}
+use Rattle.dt_txn.specs.Replica.{done_ids}
+use Rattle.dt_region.proofs.Callers.{held_id}
+use Rattle.dt_region.specs.Region.{RegionState, find_txn, held, outcome_of}
+use Rattle.dt_region.specs.Sound.{AreCounted, IsSoundRegion}
+
+-- the one at a place has the number of that place
+pub find_counted : (region seq : ℕ) (xs ys : List Txn) → AreCounted region seq xs → (k : ℕ) (x : Txn) (id : TxnId) → id.seq ≡ seq + k → id.region ≡ region → slice_get xs k ≡ Some x → find_txn (xs ++ ys) id ≡ Some x
+find_counted region seq [] ys c k x id is at e = cc
+find_counted region seq (y ∷ xs) ys c zero x id is at e =
+    let first : y.id.seq ≡ seq = ap (λ i. i.seq) c.0 in
+    let same : y.id ≡ id = same_by_parts y.id id (omega (arith, first, is)) (ap (λ i. i.region) c.0 ∙ sym at) in
+    rw (test_of_id y.id id same) e
+find_counted region seq (y ∷ xs) ys c (suc k) x id is at e =
+    let first : y.id.seq ≡ seq = ap (λ i. i.seq) c.0 in
+    let other : y.id ≢ id = λ same. let s : y.id.seq ≡ id.seq = ap (λ i. i.seq) same in absurd (omega (arith, first, is, s)) in
+    rw (test_of_other y.id id other) (find_counted region (seq + 1) xs ys c.1 k x id (omega (arith, is)) at e)
+
+-- those of other regions are not found
+find_foreign : (region : ℕ) (ys : List Txn) → AllIn (λ txn. txn.id.region ≢ region) ys → (id : TxnId) → id.region ≡ region → find_txn ys id ≡ None
+find_foreign region [] a id at = refl
+find_foreign region (y ∷ ys) a id at = rw (test_of_other y.id id (λ same. a.0 (ap (λ i. i.region) same ∙ at))) (find_foreign region ys a.1 id at)
+
+-- and none behind the last
+find_behind : (region seq : ℕ) (xs ys : List Txn) → AreCounted region seq xs → AllIn (λ txn. txn.id.region ≢ region) ys → (id : TxnId) → seq + length xs ≤ id.seq → id.region ≡ region
+    → find_txn (xs ++ ys) id ≡ None
+find_behind region seq [] ys c a id far at = find_foreign region ys a id at
+find_behind region seq (y ∷ xs) ys c a id far at =
+    let first : y.id.seq ≡ seq = ap (λ i. i.seq) c.0 in
+    let other : y.id ≢ id = λ same. let s : y.id.seq ≡ id.seq = ap (λ i. i.seq) same in absurd (omega (arith, first, far, s)) in
+    rw (test_of_other y.id id other) (find_behind region (seq + 1) xs ys c.1 a id (omega (arith, far)) at)
+
+-- all submissions below a number are done
+pub record DoneBelow (s : RegionState) (done : List TxnId) (id : TxnId) : Type 0 where
+  pub own : id.region ≡ s.number
+  pub from : 1 ≤ id.seq
+  pub to : id.seq ≤ length s.submitted + 1
+  pub each : (k : ℕ) (x : Txn) → slice_get s.submitted k ≡ Some x → k + 1 < id.seq → Has done x.id
+
+module _ {s : RegionState} (sound : IsSoundRegion s) {done : List TxnId} {id : TxnId} (d : DoneBelow s done id) where
+  held_at : (x : Txn) → slice_get s.submitted (id.seq - 1) ≡ Some x → held s id ≡ Some x
+  held_at x e = let from = d.from in find_counted s.number 1 s.submitted s.foreign sound.counted (id.seq - 1) x id (omega (arith, from)) d.own e
+
+  pub within : held s id ≢ None → id.seq ≤ length s.submitted
+  within there = by (either_le id.seq (length s.submitted))
+    where
+      by : Either (id.seq ≤ length s.submitted) → id.seq ≤ length s.submitted
+      by (inl le) = le
+      by (inr n) = absurd (there (find_behind s.number 1 s.submitted s.foreign sound.counted sound.foreign id (omega (arith, n)) d.own))
+
+  -- one is held under the number, so it stands at its place
+  pub number_held : held s id ≢ None → (x : Txn) × (slice_get s.submitted (id.seq - 1) ≡ Some x)
+  number_held there = let le = within there in let from = d.from in at_place s.submitted (id.seq - 1) (omega (arith, le, from))
+
+  is_its : (x : Txn) → slice_get s.submitted (id.seq - 1) ≡ Some x → x.id ≡ id
+  is_its x e = held_id s id x (held_at x e)
+
+  -- it is done, and so are all below the next number
+  pub done_goes : held s id ≢ None → Has done id → (next : TxnId) → next.seq ≡ id.seq + 1 → next.region ≡ id.region → DoneBelow s done next
+  done_goes there h next up at = record {
+    own = at ∙ d.own;
+    from = omega (arith, up);
+    to = let le = within there in omega (arith, le, up);
+    each = λ k x e lt. by k x e (omega (arith, lt, up)) (either_nat k (id.seq - 1));
+  }
+    where
+      by : (k : ℕ) (x : Txn) → slice_get s.submitted k ≡ Some x → k < id.seq → Either (k ≡ id.seq - 1) → Has done x.id
+      by k x e lt (inl is) = subst (Has done) (sym (is_its x (subst (λ n. slice_get s.submitted n ≡ Some x) is e))) h
+      by k x e lt (inr n) = let from = d.from in d.each k x e (omega (arith, lt, n, from))
+
+  -- it is not done, so not all are
+  pub done_fails : held s id ≢ None → ¬ (Has done id) → ¬ (AllIn (λ txn. Has done txn.id) s.submitted)
+  done_fails there none all =
+      let r : (x : Txn) × (slice_get s.submitted (id.seq - 1) ≡ Some x) = number_held there in
+      none (subst (Has done) (is_its r.0 r.1) (all_get (λ txn. Has done txn.id) s.submitted all r.0 (has_place s.submitted (id.seq - 1) r.0 r.1)))
+
+  -- none is held under the number, so all are done
+  pub done_all : held s id ≡ None → AllIn (λ txn. Has done txn.id) s.submitted
+  done_all none = all_of_gets (λ txn. Has done txn.id) s.submitted (λ k x e. d.each k x e (far k x e))
+    where
+      long : id.seq ≡ length s.submitted + 1
+      long = by (either_le id.seq (length s.submitted))
+        where
+          by : Either (id.seq ≤ length s.submitted) → id.seq ≡ length s.submitted + 1
+          by (inl le) =
+              let from = d.from in
+              let r : (x : Txn) × (slice_get s.submitted (id.seq - 1) ≡ Some x) = at_place s.submitted (id.seq - 1) (omega (arith, le, from)) in
+              let bad : None ≡ Some r.0 = sym none ∙ held_at r.0 r.1 in cc
+          by (inr n) = let to = d.to in omega (arith, n, to)
+
+      within_list : {A : Type 0} (xs : List A) (k : ℕ) (x : A) → slice_get xs k ≡ Some x → k < length xs
+      within_list [] k x e = cc
+      within_list (y ∷ xs) zero x e = omega arith
+      within_list (y ∷ xs) (suc k) x e = let lt : k < length xs = within_list xs k x e in omega (arith, lt)
+
+      far : (k : ℕ) (x : Txn) → slice_get s.submitted k ≡ Some x → k + 1 < id.seq
+      far k x e = let lt : k < length s.submitted = within_list s.submitted k x e in omega (arith, lt, long)
+
+-- what a region keeps as done, by its outcomes
+pub outcome_done : (s : RegionState) (id : TxnId) → outcome_of s id ≢ None → Has (done_ids s.here) id
+outcome_done s id there = go s.here.done there
+  where
+    go : (es : List (TxnId × Outcome)) → lookup (same_id id) es ≢ None → Has (map (λ e. e.0) es) id
+    go [] n = absurd (n refl)
+    go (x ∷ es) n = elim (same_id id x.0) as (λ b. same_id id x.0 ≡ b → Has (map (λ e. e.0) (x ∷ es)) id) [
+      | true ↦ λ t. inl (sym (id_of_test id x.0 t))
+      | false ↦ λ t. inr (go es (λ e. n (rw t e)))
+    ] refl
+
+pub no_outcome : (s : RegionState) (id : TxnId) → outcome_of s id ≡ None → ¬ (Has (done_ids s.here) id)
+no_outcome s id none h = go s.here.done none h
+  where
+    go : (es : List (TxnId × Outcome)) → lookup (same_id id) es ≡ None → ¬ (Has (map (λ e. e.0) es) id)
+    go [] e h = h
+    go (x ∷ es) e (inl is) = let found : lookup (same_id id) (x ∷ es) ≡ Some x.1 = rw (test_of_id id x.0 (sym is)) refl in let bad : None ≡ Some x.1 = sym e ∙ found in cc
+    go (x ∷ es) e (inr h) = elim (same_id id x.0) as (λ b. same_id id x.0 ≡ b → ⊥) [
+      | true ↦ λ t. let found : lookup (same_id id) (x ∷ es) ≡ Some x.1 = rw t refl in let bad : None ≡ Some x.1 = sym e ∙ found in cc
+      | false ↦ λ t. go es (rw t at e) h
+    ] refl
+
+-- what is known of a thing behind a reference
+pub some_held : {A : Type 0} (o : Option (Bor A)) (h : Option A) → option_copied o ≡ h → is_some o ≡ true → h ≢ None
+some_held None h e s = absurd (false≢true s)
+some_held {A} (Some b) h e s = λ n. let bad : ◌≡◌ {A = Option A} None (Some b.now) = sym n ∙ sym e in cc
+
+pub none_held : {A : Type 0} (o : Option (Bor A)) (h : Option A) → option_copied o ≡ h → is_some o ≡ false → h ≡ None
+none_held None h e s = sym e
+none_held (Some b) h e s = absurd (false≢true (sym s))

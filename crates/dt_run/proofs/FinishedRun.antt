@@ -1,0 +1,91 @@
+-- All is done where all seats say so; and then the events of the nodes are a finished list.
+use Rattle.std.proofs.Common.{◌≡◌, ◌<◌, ◌≤◌, ◌+◌, ◌↔◌, ℕ, zero, suc, false, Bool, IsTrue, List, [], ◌∷◌, length, sym, subst, ◌∙◌, arith}
+use Rattle.std.proofs.lemmas.Bool.{false≢true}
+use Rattle.std.proofs.lemmas.List.{length-map}
+use Rattle.dt_lists.specs.Lists.{AllIn}
+use Rattle.dt_events.specs.Stamps.{events_of}
+use Rattle.dt_cluster.specs.declared.Cluster.{Cluster}
+use Rattle.dt_workload.specs.declared.Workload.{Workload}
+use Rattle.dt_session.specs.Sessions.{EachNameIsAnswered}
+use Rattle.dt_session.specs.World.{node_at}
+use Rattle.dt_session.specs.Run.{world_after}
+use Rattle.dt_site.proofs.Callers.{HasShortLists, legal_short, many_here}
+use Rattle.dt_node.specs.Standing.{NodeFits}
+use Rattle.dt_node.specs.NodeView.{NodeView, number_of}
+use Rattle.dt_run.specs.Done.{IsAllDone, HasDone}
+use Rattle.dt_run.specs.NodesView.{NodesView, node_in}
+use Rattle.dt_run.specs.SeatsInner.{AreSeated, HasFewSubmitted, SeatView, nodes_view, seat_at}
+use Rattle.dt_run.proofs.Laws.{few_events, reached}
+use Rattle.dt_run.proofs.WaitingPackets.{node_is}
+
+-- each seat, or each item
+
+pub each_seat : (P : SeatView → Type 0) (seats : List SeatView) → AllIn P seats → (region : ℕ) → region < length seats → P (seat_at seats region)
+each_seat P [] a region lt = absurd (omega (arith, lt))
+each_seat P (s ∷ seats) a zero lt = a.0
+each_seat P (s ∷ seats) a (suc region) lt = each_seat P seats a.1 region (omega (arith, lt))
+
+pub all_seats : (P : SeatView → Type 0) (seats : List SeatView) → ((region : ℕ) → region < length seats → P (seat_at seats region)) → AllIn P seats
+all_seats P [] f = tt
+all_seats P (s ∷ seats) f = (f zero (omega arith), all_seats P seats (λ region lt. f (suc region) (omega (arith, lt))))
+
+module _ {cluster : Cluster} {workload : Workload} {seats : List SeatView} {broken : Bool} (a : AreSeated cluster workload seats broken) where
+  abbrev v : NodesView
+  v = nodes_view cluster workload seats broken
+
+  many : length seats ≡ cluster.regions
+  many = sym (length-map seats (λ (s : SeatView). s.node)) ∙ a.nodes.many
+
+  at_seat : (region : ℕ) → node_in v region ≡ (seat_at seats region).node
+  at_seat = node_is cluster workload seats broken
+
+  pub answered_all : AllIn (λ s. EachNameIsAnswered s.node.sessions) seats → (region : ℕ) → region < cluster.regions → EachNameIsAnswered (node_in v region).sessions
+  answered_all all region lr = subst (λ (n : NodeView). EachNameIsAnswered n.sessions) (sym (at_seat region)) (each_seat (λ s. EachNameIsAnswered s.node.sessions) seats all region (subst (λ m. region < m) (sym many) lr))
+
+  pub all_answered : ((region : ℕ) → region < cluster.regions → EachNameIsAnswered (node_in v region).sessions) → AllIn (λ s. EachNameIsAnswered s.node.sessions) seats
+  all_answered f = all_seats (λ s. EachNameIsAnswered s.node.sessions) seats (λ region lt. subst (λ (n : NodeView). EachNameIsAnswered n.sessions) (at_seat region) (f region (subst (λ m. region < m) many lt)))
+
+  pub done_each : AllIn (λ source. AllIn (λ s. HasDone s.node source.node) seats) seats → (region source : ℕ) → region < cluster.regions → source < cluster.regions → HasDone (node_in v region) (node_in v source)
+  done_each all region source lr ls =
+      subst (λ n. HasDone n (node_in v source)) (sym (at_seat region)) (subst (HasDone (seat_at seats region).node) (sym (at_seat source))
+      (each_seat (λ s. HasDone s.node (seat_at seats source).node) seats (each_seat (λ t. AllIn
+      (λ s. HasDone s.node t.node) seats) seats all source (subst (λ m. source < m) (sym many) ls)) region (subst (λ m. region < m) (sym many) lr)))
+
+  pub each_done : ((region source : ℕ) → region < cluster.regions → source < cluster.regions → HasDone (node_in v region) (node_in v source)) → AllIn (λ source. AllIn (λ s. HasDone s.node source.node) seats) seats
+  each_done f = all_seats (λ t. AllIn (λ s. HasDone s.node t.node) seats) seats (λ source ls. all_seats (λ s. HasDone s.node (seat_at seats source).node) seats (λ region lr.
+      subst (λ n. HasDone n (seat_at seats source).node) (at_seat region) (subst (HasDone (node_in v region)) (at_seat source) (f region source (subst (λ m. region < m) many lr) (subst (λ m. source < m) many ls)))))
+
+  pub are_done : AllIn (λ s. EachNameIsAnswered s.node.sessions) seats → AllIn (λ source. AllIn (λ s. HasDone s.node source.node) seats) seats → IsAllDone v
+  are_done answered executed = record { answered = answered_all answered; executed = done_each executed }
+
+  -- whether all is done, as it is asked of seats in turn
+  pub done_if : {asked told : List SeatView} → asked ≡ seats → told ≡ seats → AllIn (λ s. EachNameIsAnswered s.node.sessions) asked
+      → (b : Bool) → (IsTrue b ↔ AllIn (λ source. AllIn (λ s. HasDone s.node source.node) told) told) → IsTrue b ↔ IsAllDone v
+  done_if {asked} {told} asked_is told_is answered b executed = (
+    λ t. are_done (subst (AllIn (λ s. EachNameIsAnswered s.node.sessions)) asked_is answered) (subst (λ l. AllIn (λ source. AllIn (λ s. HasDone s.node source.node) l) l) told_is (executed.0 t)),
+    λ d. executed.1 (subst (λ l. AllIn (λ source. AllIn (λ s. HasDone s.node source.node) l) l) (sym told_is) (each_done d.executed)),
+  )
+
+  pub not_done_if : {asked : List SeatView} → asked ≡ seats → (b : Bool) → (IsTrue b ↔ AllIn (λ s. EachNameIsAnswered s.node.sessions) asked) → b ≡ false → IsTrue b ↔ IsAllDone v
+  not_done_if asked_is b answered fails = (
+    λ t. absurd (false≢true (sym fails ∙ t)),
+    λ d. answered.1 (subst (AllIn (λ s. EachNameIsAnswered s.node.sessions)) (sym asked_is) (all_answered d.answered)),
+  )
+
+  -- submissions are counted by 32 bits
+  pub few_submitted : AllIn HasFewSubmitted seats
+  few_submitted = all_seats HasFewSubmitted seats (λ region lt. few region (subst (λ m. region < m) many lt))
+    where
+      few : (region : ℕ) → region < cluster.regions → HasFewSubmitted (seat_at seats region)
+      few region lr = subst (λ (n : NodeView). length n.site.region.state.submitted + 1 < 4294967296) (at_seat region) here
+        where
+          f : NodeFits cluster workload (events_of a.nodes.all) (node_in v region)
+          f = (a.nodes.stand region lr).fits
+
+          here : length (node_in v region).site.region.state.submitted + 1 < 4294967296
+          here =
+              let short : HasShortLists (world_after cluster workload (events_of a.nodes.all)) (length (events_of a.nodes.all)) = legal_short cluster f.run.sound workload f.run.fits (events_of a.nodes.all) f.run.legal in
+              let s : length (node_at (world_after cluster workload (events_of a.nodes.all)) (number_of (node_in v region))).submitted ≤ length (events_of a.nodes.all) = short.submitted (number_of (node_in v region)) in
+              let e : length (node_at (world_after cluster workload (events_of a.nodes.all)) (number_of (node_in v region))).submitted ≡ length (node_in v region).site.region.state.submitted = many_here (reached f) f.site in
+              let l : length (events_of a.nodes.all) ≤ 24640000 = few_events f in
+              omega (arith, s, e, l)

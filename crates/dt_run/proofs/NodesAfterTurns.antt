@@ -1,0 +1,105 @@
+-- What the type of the nodes keeps is so after a turn at each seat too: there is a chronicle, and each node stands in its world.
+use Rattle.std.proofs.Common.{◌≡◌, ◌<◌, ◌≤◌, ℕ, zero, suc, true, false, Bool, List, [], ◌∷◌, ◌++◌, length, get_or, refl, sym, ap, subst, ◌∙◌, arith}
+use Rattle.std.specs.Prelude.{flat_map}
+use Rattle.std.proofs.lemmas.Bool.{false≢true}
+use Rattle.std.proofs.lemmas.List.{length-map}
+use Rattle.dt_lists.proofs.Callers.{get_of_map}
+use Rattle.dt_events.specs.declared.Stamped.{Stamped}
+use Rattle.dt_events.specs.Stamps.{events_of}
+use Rattle.dt_proc.specs.Tree.{ProcTree}
+use Rattle.dt_cluster.specs.declared.Cluster.{Cluster}
+use Rattle.dt_workload.specs.declared.Workload.{Workload}
+use Rattle.dt_merge.specs.Merge.{IsChronicle, kept_at}
+use Rattle.dt_node.specs.NodeView.{NodeView, number_of}
+use Rattle.dt_node.specs.Standing.{NodeFits}
+use Rattle.dt_run.specs.NodesStand.{AreInStep, AreNodes, StandsAmong}
+use Rattle.dt_run.specs.NodesView.{NodesView, kept_by, no_running_node, node_in, waiting_at}
+use Rattle.dt_run.specs.Phase.{IsPhase, TurnsOnce}
+use Rattle.dt_run.specs.SeatsInner.{AreSeated, EachGoes, SeatView, nodes_view, seat_at, waits_in}
+use Rattle.dt_run.proofs.TurnsInOrder.{new_below}
+use Rattle.dt_run.proofs.OneChronicle as turning
+use Rattle.dt_run.proofs.WaitingPackets as waiting
+
+-- a turn at each seat, whatever became of links and marks
+pub record EachTurns (procs : List ProcTree) (before after : List SeatView) : Type 0 where
+  pub many : length after ≡ length before
+  pub each : (region : ℕ) → region < length before → TurnsOnce procs (flat_map waits_in (seat_at before region).ins) (seat_at before region).node (seat_at after region).node
+
+pub turns_of : {procs : List ProcTree} {before after : List SeatView} → EachGoes procs before after → EachTurns procs before after
+turns_of g = record { many = g.many; each = λ region lt. (g.each region lt).once }
+
+get_beyond : {A : Type 0} (xs : List A) (i : ℕ) (d : A) → length xs ≤ i → get_or xs i d ≡ d
+get_beyond [] i d le = refl
+get_beyond (x ∷ xs) zero d le = absurd (omega (arith, le))
+get_beyond (x ∷ xs) (suc i) d le = get_beyond xs i d (omega (arith, le))
+
+pub none_kept : (nodes : List NodeView) (region : ℕ) → length nodes ≤ region → kept_at (kept_by nodes) region ≡ []
+none_kept nodes region le = get_of_map (λ (m : NodeView). m.site.region.events) nodes region no_running_node ∙ ap (λ (m : NodeView). m.site.region.events) (get_beyond nodes region no_running_node le)
+
+module _ {cluster : Cluster} {workload : Workload} {seats seats' : List SeatView} {broken : Bool} (a : AreSeated cluster workload seats broken) (sound : broken ≡ false) (g : EachTurns cluster.procs seats seats') (later : Bool) where
+  abbrev v : NodesView
+  v = nodes_view cluster workload seats broken
+
+  abbrev v' : NodesView
+  v' = nodes_view cluster workload seats' later
+
+  abbrev n : AreNodes v
+  n = a.nodes
+
+  many : length seats ≡ cluster.regions
+  many = waiting.many a sound
+
+  many_now : length v'.nodes ≡ cluster.regions
+  many_now = length-map seats' (λ (s : SeatView). s.node) ∙ g.many ∙ many
+
+  pub turns : (region : ℕ) → region < cluster.regions → TurnsOnce cluster.procs (waiting_at v region) (node_in v region) (node_in v' region)
+  turns region lr =
+      subst (λ m. TurnsOnce cluster.procs (waiting_at v region) (node_in v region) m) (sym (waiting.node_is cluster workload seats' later region))
+      (subst (λ m. TurnsOnce cluster.procs (waiting_at v region) m (seat_at seats' region).node) (sym (waiting.node_is cluster workload seats broken region))
+      (subst (λ l. TurnsOnce cluster.procs l (seat_at seats region).node (seat_at seats' region).node) (sym (waiting.waiting_is cluster workload seats broken region))
+      (g.each region (subst (λ k. region < k) (sym many) lr))))
+
+  numbers : (region : ℕ) → region < cluster.regions → number_of (node_in v region) ≡ region
+  numbers region lr = (n.stand region lr).number
+
+  fit : (region : ℕ) → region < cluster.regions → NodeFits cluster workload (events_of n.all) (node_in v region)
+  fit region lr = (n.stand region lr).fits
+
+  kept_none : (region : ℕ) → cluster.regions ≤ region → kept_at (kept_by v.nodes) region ≡ []
+  kept_none region le = none_kept v.nodes region (subst (λ k. k ≤ region) (sym n.many) le)
+
+  now_is : (region : ℕ) → region < cluster.regions → kept_at (kept_by v'.nodes) region ≡ (node_in v' region).site.region.events
+  now_is region lr = get_of_map (λ (m : NodeView). m.site.region.events) v'.nodes region no_running_node
+
+  now_none : (region : ℕ) → cluster.regions ≤ region → kept_at (kept_by v'.nodes) region ≡ []
+  now_none region le = none_kept v'.nodes region (subst (λ k. k ≤ region) (sym many_now) le)
+
+  -- the chronicle after the turns
+  abbrev pub all_now : List Stamped
+  all_now = n.all ++ new_below (node_in v) (node_in v') cluster.regions
+
+  pub chronicle_now : IsChronicle cluster workload all_now (kept_by v'.nodes)
+  chronicle_now = turning.chronicle_goes n.cluster n.workload (kept_by v'.nodes) n.chronicle (node_in v) (node_in v') (waiting_at v) numbers fit (λ region lr. waiting.addressed a sound lr) (λ region lr. waiting.trues a sound lr) turns
+      (λ region lr. waiting.kept_is a sound region) kept_none now_is now_none
+
+  pub stand_now : (region : ℕ) → region < cluster.regions → StandsAmong v' all_now region
+  stand_now region lr = record {
+    number = (turns region lr).gone.number ∙ numbers region lr;
+    fits = turning.fits_now n.cluster n.workload (kept_by v'.nodes) n.chronicle (node_in v) (node_in v') (waiting_at v) numbers fit (λ region lr. waiting.addressed a sound lr) (λ region lr. waiting.trues a sound lr) turns
+        (λ region lr. waiting.kept_is a sound region) kept_none now_is now_none region lr;
+    stamps = turning.stamps_go n.cluster n.workload (kept_by v'.nodes) n.chronicle (node_in v) (node_in v') (waiting_at v) numbers fit (λ region lr. waiting.addressed a sound lr) (λ region lr. waiting.trues a sound lr) turns
+        (λ region lr. waiting.kept_is a sound region) kept_none now_is now_none region lr (n.stand region lr).stamps (waiting.stamps a sound lr);
+    plan = (turns region lr).gone.plan ∙ (n.stand region lr).plan;
+  }
+
+  -- whatever is so of links and marks
+  pub nodes_now : (later ≡ false → AreInStep v') → AreNodes v'
+  nodes_now in_step = record { cluster = n.cluster; workload = n.workload; many = many_now; all = all_now; chronicle = chronicle_now; stand = stand_now; in_step = in_step }
+
+  pub phase_is : IsPhase v v'
+  phase_is = record { cluster = refl; workload = refl; many = many_now ∙ sym n.many; turns = turns }
+
+-- a phase that failed
+pub broken_seated : {cluster : Cluster} {workload : Workload} {seats seats' : List SeatView} {broken : Bool} → AreSeated cluster workload seats broken → broken ≡ false → EachGoes cluster.procs seats seats'
+    → AreSeated cluster workload seats' true
+broken_seated a sound g = record { nodes = nodes_now a sound (turns_of g) true (λ e. absurd (false≢true (sym e))); linked = λ e. absurd (false≢true (sym e)) }

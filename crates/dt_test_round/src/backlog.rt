@@ -1,0 +1,138 @@
+//! A round over long logs, in which threads insert, resolve and execute beside each other; and what one thread makes of them.
+
+use crate::calls::{Call, procs_of};
+use crate::feeding::Row;
+use crate::locked::{Open, Telling, told_of};
+use dt_access::TxnId;
+use dt_graph::QueueSched;
+use dt_lock::Gate;
+use std::alloc::Global;
+use std::sync::Wait;
+use std::sync::atomic::{AtomicU64, Ordering};
+use std::test::Fail;
+use std::thread;
+use std::thread::Threads;
+
+/// What `cross` leaves depends on which of two calls comes first.
+const PROCS: &[u8] =
+    b"proc climb(k: text) write a = k; { if has(a) { set a = int(a) + 1; } else { set a = 1; } give int(a); }
+proc cross(from: text, to: text) write a = from; write b = to;
+{ if not has(a) { set a = 3; } if not has(b) { set b = 4; } set a = 2 * int(a) + int(b); set b = int(a) - int(b); give int(a), int(b); }";
+
+/// In a cluster of four the home of `d`, `h`, `l` and `p` is region 0, and that of `a`, `e` and `q` region 1.
+const CLIMB_D: Call<'static> = (b"climb", &[b"d"]);
+
+const CLIMB_H: Call<'static> = (b"climb", &[b"h"]);
+
+const CLIMB_A: Call<'static> = (b"climb", &[b"a"]);
+
+const CROSS_LE: Call<'static> = (b"cross", &[b"l", b"e"]);
+
+const CROSS_EL: Call<'static> = (b"cross", &[b"e", b"l"]);
+
+const CROSS_PQ: Call<'static> = (b"cross", &[b"p", b"q"]);
+
+const CROSS_QP: Call<'static> = (b"cross", &[b"q", b"p"]);
+
+/// With how many calls of one home each of the two logs begins: more than the calling thread inserts before it looks for work for
+/// others.
+const FRONT: u32 = 100;
+
+/// The numbers of transactions that wait for each other are not greater.
+const GROUPS: u32 = 2;
+
+/// A part at the front of the log of a home, 0 or 1: those of region 0 use two rows in turn, those of region 1 one.
+fn front(home: u8, seq: u32) -> Row<'static> {
+    let call = match (home, seq % 2) {
+        (0, 0) => CLIMB_D,
+        (0, _) => CLIMB_H,
+        _ => CLIMB_A,
+    };
+    (home, seq, home, call)
+}
+
+/// The parts behind: two transactions wait for each other, and two more, and none of them for what stands before them.
+const BACK: [Row<'static>; 8] = [
+    (0, 1, 0, CROSS_LE),
+    (0, 1, 1, CROSS_EL),
+    (1, 1, 1, CROSS_EL),
+    (1, 1, 0, CROSS_LE),
+    (0, 2, 0, CROSS_PQ),
+    (0, 2, 1, CROSS_QP),
+    (1, 2, 1, CROSS_QP),
+    (1, 2, 0, CROSS_PQ),
+];
+
+/// The parts of two long logs.
+fn backlog(alloc: Global) -> Result<Vec<Row<'static>>, Fail> {
+    let mut rows = Vec::new(alloc);
+    for place in 1..=FRONT {
+        rows.push(front(0, GROUPS + place))?;
+        rows.push(front(1, GROUPS + place))?;
+    }
+    for row in BACK {
+        rows.push(row)?;
+    }
+    Ok(rows)
+}
+
+/// What a region of two long logs comes to in one round.
+fn told<R: Threads + Wait + Sync, G: Gate>(
+    rt: &R,
+    alloc: Global,
+    workers: u32,
+    gate: &G,
+) -> Result<Vec<u8>, Fail> {
+    let procs = procs_of(alloc, PROCS)?;
+    let rows = backlog(alloc)?;
+    told_of::<R, QueueSched, G>(
+        rt,
+        alloc,
+        &procs,
+        rows.as_slice(),
+        workers,
+        gate,
+        Telling::Outcomes,
+    )
+}
+
+/// Holds a worker until all that waited for each other has passed, or for some time. So the workers are still there when another
+/// thread inserts and resolves those.
+#[derive(Drop)]
+struct Patient {
+    passed: AtomicU64,
+}
+
+/// So often a worker looks.
+const LOOKS: u32 = 10000;
+
+impl Gate for Patient {
+    fn between(&self, id: TxnId) {
+        if id.seq <= GROUPS {
+            self.passed.fetch_add(1, Ordering::SeqCst);
+            return;
+        }
+        for _look in 0..LOOKS {
+            if self.passed.load(Ordering::SeqCst) > 3 {
+                return;
+            }
+            thread::yield_now();
+        }
+    }
+}
+
+/// How the events end: each of the two groups was resolved once.
+const RESOLVED: &[u8] = b"insert 3 1\nresolve 3 1.0 1.1\nresolve 3 2.0 2.1\n";
+
+#[test]
+fn threads_that_insert_resolve_and_work_come_to_the_same(rt: HostRuntime) -> Result<(), Fail> {
+    let gate = Patient {
+        passed: AtomicU64::new(0),
+    };
+    let by_threads = told(&rt, rt.alloc(), 3, &gate)?;
+    let alone = told(&rt, rt.alloc(), 1, &Open)?;
+    assert!(rt; gate.passed.load(Ordering::SeqCst) == 4);
+    assert!(rt; alone.as_slice().ends_with(RESOLVED));
+    assert!(rt; by_threads.as_slice() == alone.as_slice());
+    Ok(())
+}

@@ -1,0 +1,89 @@
+//! What a region came to, as a text that is the same whatever the order of its steps was.
+
+use crate::feeding::Row;
+use dt_access::{TxnId, put_id};
+use dt_eval::Values;
+use dt_events::put_event;
+use dt_region::Region;
+use dt_sched::Scheduler;
+use dt_table::Shown;
+use dt_text::put_value;
+use dt_txn::Outcome;
+use std::alloc::Global;
+use std::test::Fail;
+
+/// Appends what was given.
+fn put_values(alloc: Global, told: &mut Vec<u8>, values: &Values) -> Result<(), Fail> {
+    for value in values.as_slice() {
+        told.push(b' ')?;
+        if let Some(value) = value {
+            put_value(alloc, told, value)?;
+        }
+    }
+    Ok(())
+}
+
+/// Appends the id of a transaction and the values that it gave.
+fn put_outcome<S: Scheduler>(
+    alloc: Global,
+    told: &mut Vec<u8>,
+    region: &Region<S>,
+    id: TxnId,
+) -> Result<(), Fail> {
+    put_id(alloc, told, id)?;
+    match region.outcome(id) {
+        Some(Outcome::Gave(values)) => put_values(alloc, told, values),
+        _ => Err(Fail::from("it gave values")),
+    }
+}
+
+/// Appends a row of the table.
+fn put_row(alloc: Global, told: &mut Vec<u8>, row: &Shown) -> Result<(), Fail> {
+    told.push(b' ')?;
+    told.extend_from_slice(row.key.bytes())?;
+    told.push(b' ')?;
+    if let Some(value) = &row.value {
+        put_value(alloc, told, value)?;
+    }
+    Ok(())
+}
+
+/// Appends the events of a region without their stamps, in the order of their texts.
+fn put_events<S: Scheduler>(
+    alloc: Global,
+    told: &mut Vec<u8>,
+    region: &Region<S>,
+) -> Result<(), Fail> {
+    let mut lines = Vec::new(alloc);
+    for kept in region.events() {
+        let mut line = Vec::new(alloc);
+        put_event(alloc, &mut line, &kept.event)?;
+        lines.push(line)?;
+    }
+    lines.sort()?;
+    for line in lines.as_slice() {
+        told.extend_from_slice(line.as_slice())?;
+    }
+    Ok(())
+}
+
+/// The outcome of the transaction of each of these parts, the table, and the events in the order of their texts.
+pub fn outcomes_of<S: Scheduler>(
+    alloc: Global,
+    region: &Region<S>,
+    rows: &[Row],
+) -> Result<Vec<u8>, Fail> {
+    let mut told = Vec::new(alloc);
+    for (_, seq, by, _) in rows {
+        let id = TxnId {
+            seq: *seq,
+            region: *by,
+        };
+        put_outcome(alloc, &mut told, region, id)?;
+    }
+    for row in region.table().shown(alloc)?.as_slice() {
+        put_row(alloc, &mut told, row)?;
+    }
+    put_events(alloc, &mut told, region)?;
+    Ok(told)
+}
