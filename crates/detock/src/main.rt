@@ -5,7 +5,7 @@ mod faults;
 mod files;
 mod program;
 mod replay;
-mod runs;
+mod run;
 mod status;
 #[cfg(test)]
 mod tests;

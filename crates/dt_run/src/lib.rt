@@ -3,7 +3,7 @@
 //! In a phase every node makes one turn; the turns are shared out over two threads or more ([`Nodes::phase`]). A node knows
 //! nothing of what the others do meanwhile: what it sends waits on a link, and becomes known between two phases, when the ends
 //! of each link are brought beside each other (`links.rt`). [`run`] makes phases until all is done; there is a bound on
-//! their number, whatever packets are lost (`specs/Silence`, and the laws of `laws.rt`).
+//! their number, whatever packets are lost (`specs/Silence`, and the laws of `end_laws.rt`).
 //!
 //! Nobody has the events of all regions as one list while they are made. In the end they are put in the order of their stamps
 //! (`merge.rt`): this list is legal, and it leads to the world in which all nodes are, by the laws of `dt_merge`. So whatever
@@ -21,7 +21,7 @@
 
 mod counts;
 mod done;
-mod laws;
+mod end_laws;
 mod links;
 mod merge;
 mod nodes;
@@ -30,7 +30,7 @@ mod sites;
 mod to_end;
 
 pub use counts::Counts;
-pub use laws::{
+pub use end_laws::{
     begins_to_end, each_phase_is_counted, each_phase_leads_to_an_end, phases_are_few,
     silent_phases_lead_to_an_end, what_is_done_stays_done, what_waits_is_true,
 };

@@ -4,7 +4,7 @@ use Rattle.detock.specs.TaskCode.{run_asked_for, word_of}
 use Rattle.detock.specs.Loading.{Loaded}
 use Rattle.detock.proofs.Refused.{made_text, no_run_size, not_loaded, passed_on, refused_text}
 use Rattle.detock.proofs.Runs.{text_headline}
-use Rattle.detock.proofs.runs.run_text.Goals as goal
+use Rattle.detock.proofs.run.run_text.Goals as goal
 
 pub returns-in_err-cluster : goal.returns-in_err-cluster
 returns-in_err-cluster g c =
