@@ -7,7 +7,7 @@ use Rattle.dt_txn.specs.declared.Txn.{Txn}
 use Rattle.dt_region.specs.Region.{held}
 use Rattle.dt_node.specs.NodeView.{entry_held}
 use Rattle.dt_node.proofs.Stretches.{stretch_some}
-use Rattle.dt_node.proofs.sending.entries.Goals as goal
+use Rattle.dt_node.proofs.departures.entries.Goals as goal
 
 pub loop-place-preserved : goal.loop-place-preserved
 loop-place-preserved g c =

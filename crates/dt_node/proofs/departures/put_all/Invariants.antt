@@ -2,7 +2,7 @@ use Rattle.std.proofs.Common.{◌≡◌, ◌+◌, ◌≤◌, ◌++◌, List, dro
 use Rattle.std.specs.Vec.Iter.{into_iter_items}
 use Rattle.dt_lists.specs.Lists.{AllIn, Pairwise}
 use Rattle.dt_node.specs.Sending.{put_at}
-use Rattle.dt_node.proofs.sending.put_all.Given as goal
+use Rattle.dt_node.proofs.departures.put_all.Given as goal
 
 abbrev pub invariant-loop-packet : goal.invariant-loop-packet
 invariant-loop-packet g l = record {

@@ -1,6 +1,6 @@
 use Rattle.std.proofs.Common.{rules}
 use Rattle.dt_node.specs.NodeView.{most_items}
-use Rattle.dt_node.proofs.sending.end_from.Goals as goal
+use Rattle.dt_node.proofs.departures.end_from.Goals as goal
 
 pub returns : goal.returns
 unfolding most_items
