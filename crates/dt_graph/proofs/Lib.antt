@@ -22,3 +22,4 @@ pub mod Full
 pub mod Indexed
 pub mod Sorting
 pub mod Pushed
+pub mod Walks
