@@ -25,7 +25,7 @@ use denote.Triple.Entry.{alive}
 use denote.Triple.Spec.{Meets, triple_of}
 use denote.Triple.Table.{entered}
 use denote.Triple.Walked.{says, Stays, stay_dropped, walk_of, ends_at, walk_Meets, Goes-dropped}
-use Rattle.dt_graph.proofs.Walks.{none, none_made}
+use Rattle.dt_graph.proofs.NoFields.{none, none_made}
 use Rattle.dt_graph.specs.contracts.seen.Seen as Seen
 use Rattle.dt_graph.specs.contracts.seen.Change as Change
 use Rattle.dt_graph.specs.Seen.{after_change}

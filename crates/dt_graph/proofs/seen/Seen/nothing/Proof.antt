@@ -27,7 +27,7 @@ use denote.Triple.Spec.{Meets, triple_of}
 use denote.Triple.Table.{entered}
 use denote.Triple.Walked.{says, Stays, stay_dropped, walk_of, ends_at, walk_Meets, Goes-dropped}
 use Rattle.dt_sched.specs.Sched.{nothing_yet}
-use Rattle.dt_graph.proofs.Walks.{none, none_made}
+use Rattle.dt_graph.proofs.NoFields.{none, none_made}
 use Rattle.dt_graph.specs.contracts.seen.Seen as Seen
 use Rattle.dt_graph.specs.contracts.seen.Seen.nothing as F
 use Rattle.dt_graph.specs.contracts.seen.Seen.nothing.Key.{name as #self}
