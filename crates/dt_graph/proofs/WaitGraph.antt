@@ -12,7 +12,7 @@ use Rattle.dt_graph.specs.Links.{IsSourceAt, Links}
 use Rattle.dt_waits.specs.declared.vertex.Vertex.{Vertex}
 use Rattle.dt_waits.specs.Graph.{vertex_at}
 use Rattle.dt_waits.specs.Steps.{HaveSlots}
-use Rattle.dt_graph.proofs.Linked.{sources_of_vertex}
+use Rattle.dt_graph.proofs.WaitEdges.{sources_of_vertex}
 
 -- the vertices at two places, of which the first is a neighbour of the second
 abbrev pub IsLinkAt : List Waiting → List ℕ → ℕ → ℕ → Type 0

@@ -12,7 +12,7 @@ use Rattle.dt_waits.specs.Graph.{GraphView, vertex_at}
 use Rattle.dt_graph.specs.Held.{kept_of}
 use Rattle.dt_graph.specs.SmallSteps.{Enters, Sorts}
 use Rattle.dt_waits.specs.Steps.{Inserts}
-use Rattle.dt_graph.proofs.Entered.{inserts_again, inserts_first}
+use Rattle.dt_graph.proofs.Entries.{inserts_again, inserts_first}
 
 module _ (part : Part) (ids : List TxnId) (classes : List Open) (old new : Waits) (once : Distinct ids)
     (vertices : length old.vertices.items ≡ length ids) (degrees : length old.degrees.items ≡ length ids) (slots : List ℕ) (count : ℕ) where

@@ -11,7 +11,7 @@ use Rattle.dt_access.proofs.Callers.{id_of_test, same_id_turned, test_of_id}
 use Rattle.dt_waits.specs.Graph.{AllAreStuck, AreVerticesOf, GraphView}
 use Rattle.dt_waits.specs.Waits.{id_at}
 use Rattle.dt_waits.proofs.Callers.{id_has, one_place, same_place}
-use Rattle.dt_graph.proofs.Sorted.{has_listed, listed_has}
+use Rattle.dt_graph.proofs.SortResults.{has_listed, listed_has}
 
 -- an id with a number is ready just where its number is
 pub ready_told : (ids : List TxnId) (ready : List ℕ) (id : TxnId) (v : ℕ) (b : Bool) → Distinct ids → slice_get ids v ≡ Some id → (IsTrue b ↔ Has ready v)

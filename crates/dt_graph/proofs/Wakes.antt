@@ -1,4 +1,4 @@
--- Waking: of some vertices those that are stuck and of degree 0 become ready. Of one vertex, of more vertices, and along the
+-- Of some vertices those that are stuck and of degree 0 become ready. Of one vertex, of more vertices, and along the
 -- walk over the followers of an entry.
 use Rattle.std.proofs.Common.{◌≡◌, ◌≢◌, ◌↔◌, ◌∙◌, ℕ, List, [], ◌++◌, map, get_or, slice_get, None, refl, sym, ap, subst, inl, inr}
 use Rattle.std.proofs.lemmas.List.{append-nil}

@@ -1,4 +1,4 @@
--- Freeing: on one walk degrees are lowered, and what comes to degree 0 is woken at once. A degree that falls again later is that
+-- On one walk degrees are lowered, and what comes to degree 0 is woken at once. A degree that falls again later is that
 -- of a follower which is met again then; so at each place of the walk all those are woken that were met and are of degree 0 now.
 use Rattle.std.proofs.Common.{◌≡◌, ◌⊎◌, ◌↔◌, ◌∙◌, ◌+◌, ◌==◌, ◌<◌, ◌≤◌, ℕ, true, false}
 use Rattle.std.proofs.Common.{List, [], ◌∷◌, ◌++◌, length, filter, map, get_or, slice_get, take, Some, refl, sym, ap, subst, inl, inr, arith}
@@ -17,8 +17,8 @@ use Rattle.dt_waits.proofs.Callers.{slot_other}
 use Rattle.dt_graph.specs.Subset.{SubsetView}
 use Rattle.dt_graph.specs.SmallSteps.{AreLowered, IsFollowedAt, Wakes, falls}
 use Rattle.dt_graph.proofs.Followers.{first_told, followers_onward}
-use Rattle.dt_graph.proofs.Lowering.{IsLowering, lowering_onward}
-use Rattle.dt_graph.proofs.Waking.{IsOfSome, IsWaking, of_some_decided, wakes_same}
+use Rattle.dt_graph.proofs.Degrees.{IsLowering, lowering_onward}
+use Rattle.dt_graph.proofs.Wakes.{IsOfSome, IsWaking, of_some_decided, wakes_same}
 
 -- degrees that were lowered are no greater
 lowered_less : (count : ℕ → ℕ) (old now : List ℕ) → AreLowered count old now → (v : ℕ) → get_or now v 0 ≤ get_or old v 0
