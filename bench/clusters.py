@@ -6,7 +6,7 @@ DROPS = [0, 2, 3, 5]
 REPEATS = [0, 1, 2, 3]
 LETTERS = "abcdefghij"
 
-# The built-in procedures, and two of some 1,200 statements beside each other.
+# The built-in procedures, and two of some 4,200 statements beside each other.
 PROCS = f"""
 proc put(k: text, v: int) write a = k; {{ set a = v; }}
 proc note(k: text, v: text) write a = k; {{ set a = v; }}
@@ -17,9 +17,9 @@ proc div(k: text, n: int) read a = k; {{ give int(a) / n; }}
 proc sum(x: text, y: text) read a = x; read b = y; {{ give int(a) + int(b); }}
 proc xfer(from: text, to: text, n: int) write a = from; write b = to;
 {{ if int(a) < n {{ abort "funds"; }} set a = int(a) - n; set b = int(b) + n; give int(a), int(b); }}
-proc climb(k: text, n: int) write a = k; {{ if not has(a) {{ set a = n; }} {"set a = int(a) + n; " * 1200} give int(a); }}
+proc climb(k: text, n: int) write a = k; {{ if not has(a) {{ set a = n; }} {"set a = int(a) + n; " * 4200} give int(a); }}
 proc drag(from: text, to: text, n: int) write a = from; write b = to;
-{{ if not has(a) {{ set a = 0; }} if not has(b) {{ set b = 0; }} {"set a = int(a) - n; set b = int(b) + n; " * 600} give row(a), row(b); }}
+{{ if not has(a) {{ set a = 0; }} if not has(b) {{ set b = 0; }} {"set a = int(a) - n; set b = int(b) + n; " * 2100} give row(a), row(b); }}
 """
 
 

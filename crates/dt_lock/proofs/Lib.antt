@@ -1,6 +1,7 @@
 pub mod Touching
 pub mod HeldSteps
 pub mod Free
+pub mod Few
 pub mod Empty
 pub mod Crossing
 pub mod Captures

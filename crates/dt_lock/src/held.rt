@@ -193,9 +193,7 @@ impl<S: Scheduler, N: Named> Held<S, N> {
         let (txn, seen) = self.sight(alloc, id)?;
         let noted = seen.copy(alloc)?;
         self.running.reserve(1)?;
-        let Ok(runs) = u32::try_from(self.running.len() + 1) else {
-            return Err(NoMemory);
-        };
+        let runs = self.running.len() as u32 + 1;
         self.region.reserve(alloc, runs)?;
         note(&mut self.running, Running { id, seen: noted });
         Ok(Claim::new(txn, seen))

@@ -29,4 +29,4 @@ pub fn is_long(procs: &Procs, number: u32) -> bool
 }
 
 // Threads for calls of a procedure with fewer statements cost more than they save: `bench/README.md` has the figures.
-const LONG: usize = 1000;
+const LONG: usize = 4000;

@@ -22,7 +22,7 @@ use std::{mem, thread};
 /// Makes a round of a region by threads, with at most `workers` workers: they insert, resolve and execute, by these procedures,
 /// until nothing is left, and the calling thread finishes what they leave. The promise is that of `Rounds`; it doesn't depend on
 /// how many threads there are, nor on the schedule. No thread is started unless at least two calls can be executed at once that
-/// are long: of a procedure with 1,000 outermost statements or more, or any call where the gate may hold a worker.
+/// are long: of a procedure with 4,000 outermost statements or more, or any call where the gate may hold a worker.
 pub fn round<R: Threads + Wait + Sync, S: Scheduler + Drop + Send, G: Gate>(
     rt: &R,
     alloc: Global,

@@ -13,7 +13,7 @@ pub type Call<'a> = (&'a [u8], &'a [&'a [u8]]);
 
 /// The procedures of a short text.
 pub fn procs_of(alloc: Global, text: &[u8]) -> Result<Procs, Fail> {
-    if text.len() > 100000 {
+    if text.len() > 1000000 {
         return Err(Fail::from("the text is short"));
     }
     Ok(read_procs(alloc, text)?)

@@ -78,14 +78,14 @@ const CLIMB_D: Call<'static> = (b"climb", &[b"d"]);
 const CLIMB_H: Call<'static> = (b"climb", &[b"h"]);
 
 /// The statements behind the `if`, those of its two blocks, the workers that there may be, and how many pass the gate. The `if` and
-/// 999 statements behind it are 1,000. The rows have no value, so its second block is executed, and its first is not.
+/// 3,999 statements behind it are 4,000. The rows have no value, so its second block is executed, and its first is not.
 const LENGTHS: [(u32, u32, u32, u32, u64); 6] = [
-    (998, 2, 2, 4, 0),
-    (999, 2, 2, 4, 2),
-    (999, 2, 2, 2, 2),
-    (999, 2, 2, 1, 0),
-    (998, 2000, 2, 4, 0),
-    (998, 2, 2000, 4, 0),
+    (3998, 2, 2, 4, 0),
+    (3999, 2, 2, 4, 2),
+    (3999, 2, 2, 2, 2),
+    (3999, 2, 2, 1, 0),
+    (3998, 5000, 2, 4, 0),
+    (3998, 2, 5000, 4, 0),
 ];
 
 #[test]

@@ -15,6 +15,8 @@ mod locked;
 #[cfg(test)]
 mod outcomes;
 #[cfg(test)]
+mod outside;
+#[cfg(test)]
 mod rounds;
 #[cfg(test)]
 mod steps;

@@ -1,0 +1,124 @@
+//! That a call is worked outside the lock: meanwhile another worker claims, works and commits.
+
+use crate::calls::{Call, procs_of};
+use crate::feeding::Row;
+use crate::locked::{Telling, told_of};
+use dt_access::TxnId;
+use dt_graph::QueueSched;
+use dt_lock::Gate;
+use dt_proc::Procs;
+use std::alloc::Global;
+use std::sync::atomic::{AtomicU64, Ordering};
+use std::test::Fail;
+
+/// Two workers meet here with their first calls. When both are there the one goes on to the long call, and says so; the other one
+/// waits for a moment then and after each of its calls, so that the first one may come to the lock.
+#[derive(Drop)]
+struct Relay {
+    met: AtomicU64,
+    gone: AtomicU64,
+}
+
+impl Relay {
+    fn new() -> Self {
+        Relay {
+            met: AtomicU64::new(0),
+            gone: AtomicU64::new(0),
+        }
+    }
+
+    /// Waits for a moment.
+    fn wait(&self) {
+        for _look in 0..MOMENT {
+            self.gone.load(Ordering::SeqCst);
+        }
+    }
+}
+
+/// Looks at a count until something is counted, or for some time.
+fn look(count: &AtomicU64, least: u64) {
+    for _look in 0..LOOKS {
+        if count.load(Ordering::SeqCst) >= least {
+            return;
+        }
+    }
+}
+
+// So often a worker looks for the other one, and so many looks are a moment: a few of these are less time than the long call takes.
+const LOOKS: u64 = 100000000;
+
+const MOMENT: u64 = 100000;
+
+impl Gate for Relay {
+    fn between(&self, id: TxnId) {
+        match id.seq {
+            1 => {
+                self.met.fetch_add(1, Ordering::SeqCst);
+                look(&self.met, 2);
+                self.gone.fetch_add(1, Ordering::SeqCst);
+            }
+            2 => {
+                self.met.fetch_add(1, Ordering::SeqCst);
+                look(&self.gone, 1);
+                self.wait();
+            }
+            3 => (),
+            _ => self.wait(),
+        }
+    }
+}
+
+const SHORT_D: Call<'static> = (b"short", &[b"d"]);
+
+const SHORT_H: Call<'static> = (b"short", &[b"h"]);
+
+const LONG_D: Call<'static> = (b"long", &[b"d"]);
+
+/// A chain of calls of one row whose second is long, and one of another row whose calls are short.
+const CHAINS: [Row<'static>; 6] = [
+    (0, 1, 0, SHORT_D),
+    (0, 2, 0, SHORT_H),
+    (0, 3, 0, LONG_D),
+    (0, 4, 0, SHORT_H),
+    (0, 5, 0, SHORT_H),
+    (0, 6, 0, SHORT_H),
+];
+
+/// A short procedure and a long one.
+fn procs(alloc: Global) -> Result<Procs, Fail> {
+    let mut text = Vec::new(alloc);
+    text.extend_from_slice(b"proc short(k: text) write a = k; { set a = 1; } ")?;
+    text.extend_from_slice(b"proc long(k: text) write a = k; { ")?;
+    for _statement in 0..40000 {
+        text.extend_from_slice(b"set a = 1; ")?;
+    }
+    text.extend_from_slice(b"}")?;
+    procs_of(alloc, text.as_slice())
+}
+
+/// How the events end where all short calls were committed while the long one was worked.
+const BEHIND: &[u8] = b"execute 3 6.0\n18 execute 3 3.0\ntrue";
+
+/// So often it is tried: a worker may be stopped while the other one goes on.
+const TIMES: u32 = 20;
+
+#[test]
+fn others_commit_while_a_call_is_worked(rt: HostRuntime) -> Result<(), Fail> {
+    let procs = procs(rt.alloc())?;
+    let mut seen = false;
+    for _time in 0..TIMES {
+        let gate = Relay::new();
+        let told = told_of::<_, QueueSched, _>(
+            &rt,
+            rt.alloc(),
+            &procs,
+            &CHAINS,
+            2,
+            &gate,
+            Telling::Events,
+        )?;
+        seen = seen || told.as_slice().ends_with(BEHIND);
+    }
+    assert!(rt; seen);
+    Ok(())
+}
