@@ -5,7 +5,8 @@ ghost use Rattle.dt_sched.specs.Sched.{Sched, nothing_yet};
 use dt_access::{Part, TxnId};
 use std::marker::Model;
 
-/// What was inserted, resolved and done, for contracts to see. It has no bytes, and its methods do nothing at run time.
+/// What was inserted, resolved and done, for contracts to see. It has no bytes, and its methods do nothing at run time. The
+/// model below says that it owns no memory; a type that has such a value needs one.
 #[derive(Drop)]
 pub struct Seen {
     pub ghost sched: { Sched },
