@@ -2,10 +2,10 @@
 #![tactic(auto)]
 
 mod faults;
-mod loading;
+mod files;
 mod program;
 mod replay;
-mod running;
+mod run;
 mod status;
 #[cfg(test)]
 mod tests;

@@ -8,7 +8,7 @@ ghost use Rattle.detock.specs.TaskCode.{IsRight, asked_for};
 ghost use Rattle.detock.specs.Loading.{file_limit, unnumbered};
 ghost use Rattle.detock.specs.RefusalCode.{IsStepRefusal, IsTextOf, refusal_of};
 
-use crate::loading::{load_both, load_events};
+use crate::files::{load_both, load_events};
 use crate::status::{EventsCause, Status};
 use crate::words::ReplayWords;
 use dt_cluster::Cluster;

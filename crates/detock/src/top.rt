@@ -5,7 +5,7 @@ ghost use Rattle.detock.specs.RefusalCode.{EndsBy, IsAskedFor, IsTextOf};
 
 use crate::faults::tell;
 use crate::replay::replay_text;
-use crate::running::{big_text, run_text};
+use crate::run::{big_text, run_text};
 use crate::status::Status;
 use crate::words::{ThreadedWords, replay_words, threaded_words};
 use dt_outside::{Folder, Sink, write_all};

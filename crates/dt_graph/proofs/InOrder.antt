@@ -20,7 +20,7 @@ use Rattle.dt_graph.specs.Names.{IsNumberOf}
 use Rattle.dt_waits.specs.Steps.{RunInOrder, RunsBefore}
 use Rattle.dt_waits.specs.Waits.{id_at}
 use Rattle.dt_waits.proofs.Callers.{at_named, take_all}
-use Rattle.dt_graph.proofs.Sorted.{by_parts, each_of_sorted, permuted_distinct, permuted_has}
+use Rattle.dt_graph.proofs.SortResults.{by_parts, each_of_sorted, permuted_distinct, permuted_has}
 
 -- the member is a vertex of the graph, with its id and its rank
 abbrev pub IsMemberOf : GraphView → Member → Type 0

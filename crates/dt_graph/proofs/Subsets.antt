@@ -1,6 +1,6 @@
 -- Sets of numbers below a bound: there are at most as many as the bound, and each kept right stays so when a number is put in
 -- or taken out.
-use Rattle.std.proofs.Common.{◌≡◌, ◌≢◌, ◌+◌, ◌<◌, ◌≤◌, ◌⊎◌, ◌↔◌, ◌∙◌, ℕ, zero, suc, List, [], ◌∷◌, ◌++◌, length, get_or, set, slice_get, Option}
+use Rattle.std.proofs.Common.{◌≡◌, ◌≢◌, ◌+◌, ◌<◌, ◌≤◌, ◌^◌, ◌⊎◌, ◌↔◌, ◌∙◌, ℕ, zero, suc, List, [], ◌∷◌, ◌++◌, length, get_or, set, slice_get, Option}
 use Rattle.std.proofs.Common.{None, Some, refl, sym, ap, subst, inl, inr, Bool, true, false, not, is_some, IsTrue, true≢false, arith}
 use Rattle.std.proofs.lemmas.List.{get_or-set_same, get_or-set_other, length-append, length-set}
 use Rattle.std.proofs.Math.ListN.{get_or-append}
@@ -96,7 +96,7 @@ some_of_test (Some x) b e t = (x, refl)
 
 -- more room serves as well
 pub subset_room : (items : List ℕ) (places : List (Option ℕ)) (less more : ℕ) → less ≤ more → IsSubset items places less → IsSubset items places more
-subset_room items places less more le s = record { fits = join _ _ _ s.fits le; once = s.once; within = s.within; placed = s.placed }
+subset_room items places less more le s = record { fits = join _ _ _ s.fits le; once = s.once; within = s.within; narrow = s.narrow; placed = s.placed }
   where
     join : (a b c : ℕ) → a ≤ b → b ≤ c → a ≤ c
     join a b c e f = omega (arith, e, f)
@@ -107,6 +107,7 @@ subset_reached items places less more s le = record {
   fits = subst (λ n. n ≤ more) (sym (length-append places (None ∷ []))) le;
   once = s.once;
   within = all_map _ _ items (λ v lt. subst (λ n. v < n) (sym (length-append places (None ∷ []))) (grown v lt)) s.within;
+  narrow = s.narrow;
   placed = λ v lt. at v (subst (λ n. v < n) (length-append places (None ∷ [])) lt) (either_nat v (length places));
 }
   where
@@ -149,11 +150,16 @@ module _ (items : List ℕ) (places : List (Option ℕ)) (room : ℕ) (s : IsSub
       less : (a b c : ℕ) → a < b → b ≤ c → a < c
       less a b c e f = omega (arith, e, f)
 
-  pub subset_added : get_or places number None ≡ None → IsSubset (items ++ number ∷ []) (set places number (Some (length items))) room
-  subset_added e = record {
+  -- its place has 32 bits, as all numbers have
+  pub place_fits : number < 2 ^ 32 → get_or places number None ≡ None → length items < 2 ^ 32
+  place_fits small e = fewer_below (2 ^ 32) items number s.once s.narrow small (unplaced_absent e)
+
+  pub subset_added : number < 2 ^ 32 → get_or places number None ≡ None → IsSubset (items ++ number ∷ []) (set places number (Some (length items))) room
+  subset_added small e = record {
     fits = subst (λ n. n ≤ room) (sym (length-set places number (Some (length items)))) s.fits;
     once = distinct_push items number s.once (unplaced_absent e);
     within = subst (λ n. AllIn (λ v. v < n) (items ++ number ∷ [])) (sym (length-set places number (Some (length items)))) (all_append _ items (number ∷ []) s.within (lt, tt));
+    narrow = all_append _ items (number ∷ []) s.narrow (small, tt);
     placed = λ n ln. at n (subst (λ m. n < m) (length-set places number (Some (length items))) ln) (either_nat n number);
   }
     where
@@ -196,6 +202,7 @@ module _ (items : List ℕ) (places : List (Option ℕ)) (room : ℕ) (s : IsSub
       fits = subst (λ n. n ≤ room) (sym (length-set places number None)) s.fits;
       once = each_append_left _ front (number ∷ []) once_front;
       within = subst (λ n. AllIn (λ v. v < n) front) (sym (length-set places number None)) (all_append_left _ front (number ∷ []) (subst (AllIn (λ v. v < length places)) is s.within));
+      narrow = all_append_left _ front (number ∷ []) (subst (AllIn (λ v. v < 2 ^ 32)) is s.narrow);
       placed = λ n ln. at n (subst (λ m. n < m) (length-set places number None) ln) (either_nat n number);
     }
       where
@@ -233,6 +240,9 @@ module _ (items : List ℕ) (places : List (Option ℕ)) (room : ℕ) (s : IsSub
     last_absent : ¬ (Has front last)
     last_absent h = each_across _ front (last ∷ []) last last once_all h (inl refl) refl
 
+    narrow_all : AllIn (λ v. v < 2 ^ 32) (front ++ last ∷ [])
+    narrow_all = subst (AllIn (λ v. v < 2 ^ 32)) is s.narrow
+
     pub last_within : last < length places
     last_within = all_get _ items s.within last (subst (λ l. Has l last) (sym is) (has_last front last))
 
@@ -244,6 +254,7 @@ module _ (items : List ℕ) (places : List (Option ℕ)) (room : ℕ) (s : IsSub
       fits = subst (λ n. n ≤ room) (sym size) s.fits;
       once = distinct_set front place last once_in_front last_absent;
       within = subst (λ n. AllIn (λ v. v < n) (set front place last)) (sym size) (all_set _ front place last (all_append_left _ front (last ∷ []) (subst (AllIn (λ v. v < length places)) is s.within)) last_within);
+      narrow = all_set _ front place last (all_append_left _ front (last ∷ []) narrow_all) (all_get _ (front ++ last ∷ []) narrow_all last (has_last front last));
       placed = λ n ln. at n (subst (λ m. n < m) size ln) (either_nat n number) (either_nat n last);
     }
       where

@@ -1,4 +1,4 @@
-pub mod QueueSchedView
+pub mod Seen
 pub mod SmallSteps
 pub mod Links
 pub mod Subset

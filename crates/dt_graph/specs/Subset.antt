@@ -1,7 +1,7 @@
 -- Some of the numbers below a bound, as they are kept: a list of them, in no order, and for each number below the bound its
 -- place in the list, or none. So whether a number is one of them is seen at once, and it is put in and taken out at once. The
 -- list has room for all numbers below the bound; so neither takes memory.
-use Rattle.std.specs.Prelude.{◌≡◌, ◌≢◌, ◌<◌, ◌≤◌, ◌⊎◌, ◌↔◌, ℕ, List, length, get_or, slice_get, Option, None, Some}
+use Rattle.std.specs.Prelude.{◌≡◌, ◌≢◌, ◌<◌, ◌≤◌, ◌^◌, ◌⊎◌, ◌↔◌, ℕ, List, length, get_or, slice_get, Option, None, Some}
 use Rattle.dt_lists.specs.Lists.{AllIn, Has, Distinct}
 
 -- a set of numbers as contracts see it: the bound, and the numbers, in no order
@@ -14,11 +14,12 @@ abbrev pub StandsAtPlace : List ℕ → ℕ → Option ℕ → Type 0
 StandsAtPlace items number None = ¬ (Has items number)
 StandsAtPlace items number (Some place) = slice_get items place ≡ Some number
 
--- the list and the places of its items are kept right, with so much room for the list
+-- the list and the places of its items are kept right, with so much room for the list; both have 32 bits
 pub record IsSubset (items : List ℕ) (places : List (Option ℕ)) (room : ℕ) : Type 0 where
   pub fits : length places ≤ room
   pub once : Distinct items
   pub within : AllIn (λ number. number < length places) items
+  pub narrow : AllIn (λ number. number < 2 ^ 32) items
   pub placed : (number : ℕ) → number < length places → StandsAtPlace items number (get_or places number None)
 
 -- the number was put in, if it wasn't one of them

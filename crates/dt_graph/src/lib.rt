@@ -23,6 +23,7 @@ mod leave;
 mod names;
 mod room;
 mod sched;
+mod seen;
 mod subset;
 mod waits;
 

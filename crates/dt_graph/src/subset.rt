@@ -12,7 +12,7 @@ use std::marker::Model;
 #[derive(Drop)]
 pub struct Subset {
     items: Vec<u32>,
-    places: Vec<Option<usize>>,
+    places: Vec<Option<u32>>,
 }
 
 impl Model for Subset {
@@ -65,7 +65,7 @@ impl Subset {
         ensures { PutsIn number self.old self.new }
     {
         if self.places[number as usize].is_none() {
-            self.places[number as usize] = Some(self.items.len());
+            self.places[number as usize] = Some(self.items.len() as u32);
             push_reserved(&mut self.items, number);
         }
     }
@@ -78,7 +78,7 @@ impl Subset {
         if let Some(place) = self.places[number as usize] {
             if let Some(last) = self.items.pop() {
                 if last != number {
-                    self.items[place] = last;
+                    self.items[place as usize] = last;
                     self.places[last as usize] = Some(place);
                 }
             }

@@ -1,4 +1,4 @@
--- What a call on the region or the sessions inside a node makes of the node: the call tells it of the part, and this is what it
+-- What a call on the region or the sessions inside a node makes of the node: the call says it of the part, and this is what it
 -- is of the whole.
 use Rattle.std.proofs.Common.{◌≡◌, ◌<◌, ◌≤◌, ◌+◌, ℕ, Bool, true, false, List, [], ◌∷◌, length, max, get_or, slice_get, Ok, Some, sym, ap, subst, ◌∙◌}
 use Rattle.std.specs.Prelude.{Option, IsSome, option_and_then}

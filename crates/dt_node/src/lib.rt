@@ -4,13 +4,13 @@
 //! cannot see other regions, and knows of them what packets brought it:
 //!
 //! 1. It takes every packet that waits. Of each it hears the stamp, places the requests, receives the entries of the source's
-//!    log, and notes how far the source has come with its own requests and its own log (`receiving.rt`).
+//!    log, and notes how far the source has come with its own requests and its own log (`arrivals.rt`).
 //! 2. It answers each session whose attempt has ended, and lets each session submit that may; what a submission asks of the
-//!    region itself it places at once (`asking.rt`).
+//!    region itself it places at once (`sessions.rt`).
 //! 3. It makes a round: whatever can be inserted, resolved and executed is (`dt_round`'s [`Rounds`](dt_round::Rounds)).
 //! 4. Where the second step changed something, it goes back to it.
 //! 5. It sends one packet to each other region: all that this one is not known to have, as far as a packet holds it
-//!    (`sending.rt`). The loss plan says how often it is put.
+//!    (`departures.rt`). The loss plan says how often it is put.
 //!
 //! Nothing is requested again. A packet begins where the last one that is known to have arrived ended, so what a lost packet
 //! held is in the next one, and what came twice is old and changes nothing.
@@ -23,9 +23,9 @@
 //! the turn.
 #![tactic(auto)]
 
-mod asking;
+mod arrivals;
+mod departures;
 mod node;
-mod receiving;
-mod sending;
+mod sessions;
 
 pub use node::Node;

@@ -1,6 +1,6 @@
 -- The laws by which a run ends, as statements: what holds before the first phase and after each one, that what waits is true, what
 -- silent phases lead to, that what is done stays done, and that phases are few. Read `Silence` before, for the words. Read next:
--- src/ending.rt, where each law is promised.
+-- src/end_laws.rt, where each law is promised.
 use Rattle.std.specs.Prelude.{◌≡◌, ◌≢◌, ◌<◌, ◌⊎◌, ℕ, false}
 use Rattle.dt_lists.specs.Lists.{AllIn}
 use Rattle.dt_events.specs.Stamps.{events_of}

@@ -3,10 +3,10 @@
 //! In a phase every node makes one turn; the turns are shared out over two threads or more ([`Nodes::phase`]). A node knows
 //! nothing of what the others do meanwhile: what it sends waits on a link, and becomes known between two phases, when the ends
 //! of each link are brought beside each other (`links.rt`). [`run`] makes phases until all is done; there is a bound on
-//! their number, whatever packets are lost (`specs/Silence`, and the laws of `ending.rt`).
+//! their number, whatever packets are lost (`specs/Silence`, and the laws of `end_laws.rt`).
 //!
 //! Nobody has the events of all regions as one list while they are made. In the end they are put in the order of their stamps
-//! (`merging.rt`): this list is legal, and it leads to the world in which all nodes are, by the laws of `dt_merge`. So whatever
+//! (`merge.rt`): this list is legal, and it leads to the world in which all nodes are, by the laws of `dt_merge`. So whatever
 //! is proved of a list of events holds of what ran. The report is that of this list, read off the nodes (`sites.rt`):
 //! nothing is executed again.
 //!
@@ -20,19 +20,19 @@
 #![tactic(auto)]
 
 mod counts;
-mod doing;
-mod ending;
+mod done;
+mod end_laws;
 mod links;
-mod merging;
+mod merge;
 mod nodes;
-mod reporting;
 mod seat;
 mod sites;
+mod to_end;
 
 pub use counts::Counts;
-pub use ending::{
+pub use end_laws::{
     begins_to_end, each_phase_is_counted, each_phase_leads_to_an_end, phases_are_few,
     silent_phases_lead_to_an_end, what_is_done_stays_done, what_waits_is_true,
 };
 pub use nodes::Nodes;
-pub use reporting::{run, run_to_end};
+pub use to_end::{run, run_to_end};

@@ -17,9 +17,9 @@ ghost use Rattle.dt_run.specs.SeatsInner.{EachGoes, SeatCan, SeatGoes, new_seat,
 ghost use Rattle.dt_run.specs.Silence.{ComesToAnEnd, PhaseIsCounted, counts_in};
 
 use crate::counts::{Counts, answers_by};
-use crate::doing::{are_answered, have_done_all};
+use crate::done::{are_answered, have_done_all};
 use crate::links::{beside_all, link_all};
-use crate::merging::merged;
+use crate::merge::merged;
 use crate::seat::Seat;
 use crate::sites::sites_of;
 use dt_cluster::Cluster;

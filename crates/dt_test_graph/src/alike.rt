@@ -259,7 +259,7 @@ pub fn resolve_some(
     queue: &mut QueueSched,
 ) -> Result<(), Fail>
     ensures plain { plain.new.seen.logs ≡ plain.old.seen.logs }
-    ensures queue { queue.new.seen.logs ≡ queue.old.seen.logs }
+    ensures queue { queue.new.logs ≡ queue.old.logs }
 {
     if let Some(class) = queue.next_class(alloc)? {
         resolve(alloc, plain, class.as_slice())?;
@@ -276,7 +276,7 @@ fn execute_some(
     queue: &mut QueueSched,
 ) -> Result<(), Fail>
     ensures plain { plain.new.seen.logs ≡ plain.old.seen.logs }
-    ensures queue { queue.new.seen.logs ≡ queue.old.seen.logs }
+    ensures queue { queue.new.logs ≡ queue.old.logs }
 {
     let ready = ready(alloc, queue)?;
     let chosen = if last { ready.last() } else { ready.first() };
@@ -295,7 +295,7 @@ fn step(
     queue: &mut QueueSched,
 ) -> Result<(), Fail>
     ensures plain { plain.new.seen.logs ≡ plain.old.seen.logs }
-    ensures queue { queue.new.seen.logs ≡ queue.old.seen.logs }
+    ensures queue { queue.new.logs ≡ queue.old.logs }
 {
     match drawn(seed, 4) {
         0 | 1 => resolve_some(alloc, plain, queue),
@@ -314,7 +314,7 @@ fn steps(
     count: u32,
 ) -> Result<bool, Fail>
     ensures plain { plain.new.seen.logs ≡ plain.old.seen.logs }
-    ensures queue { queue.new.seen.logs ≡ queue.old.seen.logs }
+    ensures queue { queue.new.logs ≡ queue.old.logs }
 {
     for _step in 0..count {
         if !agree(alloc, seed, plain, queue, ids)? {
@@ -334,9 +334,9 @@ pub fn insert(
     wide: &Wide,
 ) -> Result<(), Fail>
     requires plain { plain.old.seen.logs ≡ logs.old.items }
-    requires queue { queue.old.seen.logs ≡ logs.old.items }
+    requires queue { queue.old.logs ≡ logs.old.items }
     ensures plain { OnOk result (plain.new.seen.logs ≡ logs.new.items) }
-    ensures queue { OnOk result (queue.new.seen.logs ≡ logs.new.items) }
+    ensures queue { OnOk result (queue.new.logs ≡ logs.new.items) }
 {
     let part = wide_part(alloc, wide)?;
     check_fit(logs.as_slice(), &part)?;
@@ -357,7 +357,7 @@ fn go_on(
     ids: &[TxnId],
 ) -> Result<bool, Fail>
     requires plain { plain.old.seen.logs ≡ replicate 3 [] }
-    requires queue { queue.old.seen.logs ≡ replicate 3 [] }
+    requires queue { queue.old.logs ≡ replicate 3 [] }
 {
     let mut logs = empty_logs(alloc, 3)?;
     for wide in parts {

@@ -31,9 +31,9 @@ fn make(
     call: &Call,
 ) -> Result<(), Fail>
     requires plain { plain.old.seen.logs ≡ logs.old.items }
-    requires queue { queue.old.seen.logs ≡ logs.old.items }
+    requires queue { queue.old.logs ≡ logs.old.items }
     ensures plain { OnOk result (plain.new.seen.logs ≡ logs.new.items) }
-    ensures queue { OnOk result (queue.new.seen.logs ≡ logs.new.items) }
+    ensures queue { OnOk result (queue.new.logs ≡ logs.new.items) }
 {
     match call {
         Call::Insert(row) => {

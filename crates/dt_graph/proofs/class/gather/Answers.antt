@@ -2,8 +2,8 @@ use Rattle.std.proofs.Common.{◌≡◌, ◌∙◌, Some, get_or, slice_get, sub
 use Rattle.std.proofs.lemmas.Option.{slice_get-get_or}
 use Rattle.dt_graph.specs.Links.{IsSourceAt, Links}
 use Rattle.dt_waits.specs.Waits.{slots_of}
-use Rattle.dt_graph.proofs.Gathered.{gather_blocked, gather_free, gathered, kept_slots}
-use Rattle.dt_graph.proofs.Linked.{slots_wait}
+use Rattle.dt_graph.proofs.WaitGraph.{gather_blocked, gather_free, gathered, kept_slots}
+use Rattle.dt_graph.proofs.WaitEdges.{slots_wait}
 use Rattle.dt_graph.proofs.class.gather.Goals as goal
 use Rattle.dt_graph.proofs.class.gather.Goals.{then-branch+in_ok-push, else-branch}
 

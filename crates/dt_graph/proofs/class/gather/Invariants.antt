@@ -1,4 +1,4 @@
-use Rattle.dt_graph.proofs.Gathered.{IsGathering}
+use Rattle.dt_graph.proofs.WaitGraph.{IsGathering}
 use Rattle.dt_graph.proofs.class.gather.Given as goal
 
 abbrev pub invariant-loop-place : goal.invariant-loop-place

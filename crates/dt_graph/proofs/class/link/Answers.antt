@@ -1,5 +1,5 @@
 use Rattle.dt_graph.specs.Links.{IsSourceOf}
-use Rattle.dt_graph.proofs.Linked.{links_next}
+use Rattle.dt_graph.proofs.WaitEdges.{links_next}
 use Rattle.dt_graph.proofs.class.link.Goals as goal
 
 pub loop-slot-preserved : goal.loop-slot-preserved

@@ -1,7 +1,7 @@
 use Rattle.std.proofs.Common.{ap, ◌∙◌}
 use Rattle.dt_queue.specs.Queues.{taken_out}
 use Rattle.dt_queue.proofs.Callers.{distinct_pushed, pushed_waits}
-use Rattle.dt_graph.proofs.Entered.{enters_one, raised_fits, without_last}
+use Rattle.dt_graph.proofs.Entries.{enters_one, raised_fits, without_last}
 use Rattle.dt_graph.proofs.enter.enter_use.Goals as goal
 
 pub keep_slot-requires-clause-waits : goal.keep_slot-requires-clause-waits

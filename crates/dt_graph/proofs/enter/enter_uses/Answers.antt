@@ -1,6 +1,6 @@
 use Rattle.std.proofs.Common.{◌∷◌, ◌++◌, [], take, ap, sym, ◌∙◌}
 use Rattle.std.proofs.lemmas.List.{take_all, take_more}
-use Rattle.dt_graph.proofs.Entered.{enters_more, enters_none}
+use Rattle.dt_graph.proofs.Entries.{enters_more, enters_none}
 use Rattle.dt_graph.proofs.enter.enter_uses.Goals as goal
 
 pub loop-used-init : goal.loop-used-init

@@ -4,10 +4,10 @@ use Rattle.dt_lists.specs.Lists.{AnyIn}
 use Rattle.dt_waits.specs.Waits.{lowered, slots_of}
 use Rattle.dt_graph.specs.SmallSteps.{AreLowered, IsFollowedAt, Wakes}
 use Rattle.dt_graph.proofs.Along.{item_in}
-use Rattle.dt_graph.proofs.Freeing.{slots_spare, wakes_next}
-use Rattle.dt_graph.proofs.Lowering.{lowered_next, taken_by}
-use Rattle.dt_graph.proofs.TakenOut.{leaving_slots, leaving_wait}
-use Rattle.dt_graph.proofs.Waking.{followed_decided}
+use Rattle.dt_graph.proofs.ReadyFollowers.{slots_spare, wakes_next}
+use Rattle.dt_graph.proofs.Degrees.{lowered_next, taken_by}
+use Rattle.dt_graph.proofs.Removals.{leaving_slots, leaving_wait}
+use Rattle.dt_graph.proofs.Wakes.{followed_decided}
 use Rattle.dt_graph.proofs.leave.free_all.Goals as goal
 
 pub free_slots-requires-clause-wait : goal.free_slots-requires-clause-wait

@@ -1,7 +1,7 @@
 use Rattle.std.proofs.Common.{drop, take}
 use Rattle.dt_waits.specs.Waits.{IsFollowed}
 use Rattle.dt_graph.specs.SmallSteps.{Wakes}
-use Rattle.dt_graph.proofs.Lowering.{IsLoweringBy, taken_by}
+use Rattle.dt_graph.proofs.Degrees.{IsLoweringBy, taken_by}
 use Rattle.dt_graph.proofs.leave.free_all.Given as goal
 
 abbrev pub invariant-loop-vertex : goal.invariant-loop-vertex

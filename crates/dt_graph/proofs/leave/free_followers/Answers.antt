@@ -1,8 +1,8 @@
 use Rattle.std.proofs.Common.{◌<◌, length, subst, sym, arith}
 use Rattle.dt_graph.proofs.Followers.{fewer_told, told_below}
-use Rattle.dt_graph.proofs.Freeing.{freeing_onward}
-use Rattle.dt_graph.proofs.Lowering.{lowering_begins, lowering_ends, may_lower}
-use Rattle.dt_graph.proofs.Waking.{waking_begins, waking_ends}
+use Rattle.dt_graph.proofs.ReadyFollowers.{freeing_onward}
+use Rattle.dt_graph.proofs.Degrees.{lowering_begins, lowering_ends, may_lower}
+use Rattle.dt_graph.proofs.Wakes.{waking_begins, waking_ends}
 use Rattle.dt_graph.proofs.leave.free_followers.Goals as goal
 
 pub loop-follower-init : goal.loop-follower-init

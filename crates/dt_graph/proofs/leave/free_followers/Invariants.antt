@@ -1,6 +1,6 @@
 use Rattle.std.proofs.Common.{length}
 use Rattle.dt_queue.specs.Queues.{followers_after}
-use Rattle.dt_graph.proofs.Freeing.{IsFreeing}
+use Rattle.dt_graph.proofs.ReadyFollowers.{IsFreeing}
 use Rattle.dt_graph.proofs.leave.free_followers.Given as goal
 
 abbrev pub invariant-loop-follower : goal.invariant-loop-follower

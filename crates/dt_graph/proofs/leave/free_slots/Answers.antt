@@ -3,9 +3,9 @@ use Rattle.std.proofs.lemmas.List.{take_all}
 use Rattle.dt_lists.specs.Lists.{AnyIn}
 use Rattle.dt_waits.specs.Waits.{lowered}
 use Rattle.dt_graph.specs.SmallSteps.{IsFollowedAt, Wakes}
-use Rattle.dt_graph.proofs.Freeing.{slot_spares, wakes_next}
-use Rattle.dt_graph.proofs.Lowering.{lowered_next}
-use Rattle.dt_graph.proofs.Waking.{followed_at_decided}
+use Rattle.dt_graph.proofs.ReadyFollowers.{slot_spares, wakes_next}
+use Rattle.dt_graph.proofs.Degrees.{lowered_next}
+use Rattle.dt_graph.proofs.Wakes.{followed_at_decided}
 use Rattle.dt_graph.proofs.leave.free_slots.Goals as goal
 
 pub loop-slot-preserved : goal.loop-slot-preserved

@@ -1,7 +1,7 @@
 use Rattle.std.proofs.Common.{◌∙◌, ap}
 use Rattle.std.proofs.Math.ListN.{drop_of_length-le}
 use Rattle.dt_graph.proofs.Along.{left_at, next_in}
-use Rattle.dt_graph.proofs.TakenOut.{emptying_ends, emptying_on, leaving_once, leaving_wait, read_slots, without_slots}
+use Rattle.dt_graph.proofs.Removals.{emptying_ends, emptying_on, leaving_once, leaving_wait, read_slots, without_slots}
 use Rattle.dt_graph.proofs.leave.remove_all.Goals as goal
 
 pub remove_slots-requires-clause-once : goal.remove_slots-requires-clause-once

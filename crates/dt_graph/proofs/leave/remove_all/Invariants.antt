@@ -1,5 +1,5 @@
 use Rattle.std.proofs.Common.{drop}
-use Rattle.dt_graph.proofs.TakenOut.{IsEmptying}
+use Rattle.dt_graph.proofs.Removals.{IsEmptying}
 use Rattle.dt_graph.proofs.leave.remove_all.Given as goal
 
 abbrev pub invariant-loop-vertex : goal.invariant-loop-vertex

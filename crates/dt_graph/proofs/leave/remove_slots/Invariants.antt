@@ -1,5 +1,5 @@
 use Rattle.std.proofs.Common.{drop}
-use Rattle.dt_graph.proofs.TakenOut.{IsTakingOut}
+use Rattle.dt_graph.proofs.Removals.{IsTakingOut}
 use Rattle.dt_graph.proofs.leave.remove_slots.Given as goal
 
 abbrev pub invariant-loop-slot : goal.invariant-loop-slot

@@ -7,8 +7,8 @@ use Rattle.dt_graph.specs.Held.{kept_of}
 use Rattle.dt_waits.specs.Steps.{HaveSlots}
 use Rattle.dt_graph.specs.SmallSteps.{MayFinishIn}
 use Rattle.dt_waits.specs.Waits.{lowered_by}
-use Rattle.dt_graph.proofs.Finishing.{counted_on, finishes_all, finishes_one, open_is, within_open}
-use Rattle.dt_graph.proofs.Fitted.{fitted_left, fitted_ready}
+use Rattle.dt_graph.proofs.FinishCall.{counted_on, finishes_all, finishes_one, open_is, within_open}
+use Rattle.dt_graph.proofs.Bounds.{fitted_left, fitted_ready}
 use Rattle.dt_graph.proofs.graph.Graph.finish_in.Goals as goal
 
 pub overflow_add-kept : goal.overflow_add-kept

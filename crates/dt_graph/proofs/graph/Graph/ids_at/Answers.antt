@@ -1,7 +1,7 @@
 use Rattle.std.proofs.Common.{◌∙◌, ap, get_or, map}
 use Rattle.std.proofs.lemmas.List.{take_all}
 use Rattle.dt_waits.specs.Waits.{id_at}
-use Rattle.dt_graph.proofs.Sorted.{ids_sorted}
+use Rattle.dt_graph.proofs.SortResults.{ids_sorted}
 use Rattle.dt_graph.proofs.graph.Graph.ids_at.Goals as goal
 
 pub returns : goal.returns

@@ -3,9 +3,9 @@ use Rattle.std.proofs.lemmas.List.{length-append}
 use Rattle.dt_lists.proofs.Callers.{place_within}
 use Rattle.dt_waits.specs.Graph.{GraphView}
 use Rattle.dt_graph.specs.Held.{kept_of}
-use Rattle.dt_graph.proofs.Fitted.{fitted_inserted, fitted_same}
+use Rattle.dt_graph.proofs.Bounds.{fitted_inserted, fitted_same}
 use Rattle.dt_waits.proofs.Callers.{at_named, counted_before, missing_before}
-use Rattle.dt_graph.proofs.Inserting.{MayInsert, few_more, kept_as, on_ok, result_cases}
+use Rattle.dt_graph.proofs.InsertCall.{MayInsert, few_more, kept_as, on_ok, result_cases}
 use Rattle.dt_graph.proofs.graph.Graph.insert.Goals as goal
 
 pub extend-requires-clause-missing : goal.extend-requires-clause-missing

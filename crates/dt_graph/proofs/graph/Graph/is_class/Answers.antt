@@ -3,7 +3,7 @@ use Rattle.dt_lists.specs.Lists.{AllIn}
 use Rattle.dt_waits.specs.Among.{IsAmong}
 use Rattle.dt_waits.specs.Graph.{AreVerticesOf, GraphView}
 use Rattle.dt_waits.specs.Steps.{HaveSlots}
-use Rattle.dt_graph.proofs.Chosen.{blocked_not_resolvable, class_told, empty_told, no_items, filled_told, stuck_slots, unstuck_not_resolvable, vertices_few, vertices_once}
+use Rattle.dt_graph.proofs.ClassAnswers.{blocked_not_resolvable, class_told, empty_told, no_items, filled_told, stuck_slots, unstuck_not_resolvable, vertices_few, vertices_once}
 use Rattle.dt_graph.proofs.graph.Graph.is_class.Goals as goal
 
 pub returns-in_default : goal.returns-in_default

@@ -2,8 +2,8 @@ use Rattle.std.proofs.Common.{◌≡◌, ◌∙◌, ◌<◌, ◌++◌, ◌∷◌
 use Rattle.dt_lists.specs.Lists.{AllIn}
 use Rattle.dt_graph.specs.Held.{kept_of}
 use Rattle.dt_waits.specs.Steps.{Resolves, RunInOrder}
-use Rattle.dt_graph.proofs.Fitted.{fitted_resolved}
-use Rattle.dt_graph.proofs.Resolving.{are_once, are_there, pushed_at}
+use Rattle.dt_graph.proofs.Bounds.{fitted_resolved}
+use Rattle.dt_graph.proofs.ResolveCall.{are_once, are_there, pushed_at}
 use Rattle.dt_graph.proofs.graph.Graph.resolve.Goals as goal
 
 pub in_order-requires-clause-there : goal.in_order-requires-clause-there

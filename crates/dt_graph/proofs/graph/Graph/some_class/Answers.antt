@@ -6,7 +6,7 @@ use Rattle.dt_waits.specs.Among.{IsAmong}
 use Rattle.dt_waits.specs.Graph.{GraphView}
 use Rattle.dt_graph.specs.SmallSteps.{AreIdsAt}
 use Rattle.dt_waits.specs.Steps.{HaveSlots}
-use Rattle.dt_graph.proofs.Chosen.{blocked_within, chosen, few_stuck, none_chosen, stuck_slots, vertices_few}
+use Rattle.dt_graph.proofs.ClassAnswers.{blocked_within, chosen, few_stuck, none_chosen, stuck_slots, vertices_few}
 use Rattle.dt_graph.proofs.graph.Graph.some_class.Goals as goal
 
 pub returns-then-stuck-lt2 : goal.returns-then-stuck-lt2

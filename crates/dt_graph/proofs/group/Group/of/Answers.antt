@@ -1,5 +1,5 @@
 use Rattle.std.proofs.Common.{nat_eq}
-use Rattle.dt_graph.proofs.Indexed.{index_more, tells_number}
+use Rattle.dt_graph.proofs.Search.{index_more, tells_number}
 use Rattle.dt_graph.proofs.group.Group.of.Goals as goal
 
 pub loop-vertex-preserved : goal.loop-vertex-preserved

@@ -1,5 +1,5 @@
 use Rattle.dt_access.specs.Ids.{same_id}
-use Rattle.dt_graph.proofs.Indexed.{found_at, missed, tells_id}
+use Rattle.dt_graph.proofs.Search.{found_at, missed, tells_id}
 use Rattle.dt_graph.proofs.names.Names.number_of.Goals as goal
 
 pub returns-in_err-number-clause-number : goal.returns-in_err-number-clause-number

@@ -5,5 +5,5 @@ use Rattle.dt_graph.proofs.sched.QueueSchedScheduler.resolve.Goals as goal
 
 pub invariant_of-self-2 : goal.invariant_of-self-2
 invariant_of-self-2 c =
-    rw (c.push_reserved.ensures.added, c.in_ok-reserve.ensures.items, c.from_vec-class.ensures, c.in_ok-from_slice.ensures.items)
-    (keeping_resolve _ c.self.inside.graph c.self.invariant c.args.ids.now c.resolve.new.self (subst (λ s. CanResolve s.seen c.args.ids.now) (sym c.self.view_is) c.requires) c.in_ok-resolve.ensures.resolved)
+    rw c.after-self-inside.ensures
+    (keeping_resolve _ c.self.inside.graph c.self.invariant c.args.ids.now c.resolve.new.self (subst (λ s. CanResolve s c.args.ids.now) (sym c.self.view_is) c.requires) c.in_ok-resolve.ensures.resolved)

@@ -1,7 +1,15 @@
-use Rattle.std.proofs.Common.{◌≡◌, ◌<◌, ◌∙◌, None, Some, get_or, length, vec_capacity, sym, ap, arith}
+use Rattle.std.proofs.Common.{◌≡◌, ◌<◌, ◌^◌, ◌∙◌, None, Some, get_or, length, vec_capacity, sym, ap, arith}
 use Rattle.std.proofs.lemmas.List.{get_or_read, length-set}
-use Rattle.dt_graph.proofs.Subsets.{added_already, added_at, none_of_test, room_for, some_of_test, subset_added, subset_room}
+use Rattle.dt_graph.proofs.Subsets.{added_already, added_at, none_of_test, place_fits, room_for, some_of_test, subset_added, subset_room}
 use Rattle.dt_graph.proofs.subset.Subset.add.Goals as goal
+
+pub overflow_cast-len : goal.overflow_cast-len
+overflow_cast-len c =
+    let s = c.self.inside in
+    let lt : c.args.number < length s.places.items = omega (arith, c.requires, ap (λ x. x.bound) c.self.view_is) in
+    let none : get_or s.places.items c.args.number None ≡ None = sym (get_or_read s.places.items c.args.number _ lt c.index.ensures None) ∙ none_of_test _ _ c.is_none.ensures c.if-is_none.true in
+    let few : length s.items.items < 2 ^ 32 = place_fits s.items.items s.places.items (vec_capacity s.items) c.self.invariant c.args.number lt c.ranges.number.fits none in
+    omega (arith, few, c.len.ensures, s.items.ok.0)
 
 pub push_reserved-requires : goal.push_reserved-requires
 push_reserved-requires c =
@@ -17,7 +25,7 @@ invariant_of-self c =
     let lt : c.args.number < length s.places.items = omega (arith, c.requires, ap (λ x. x.bound) c.self.view_is) in
     let none : get_or s.places.items c.args.number None ≡ None = sym (get_or_read s.places.items c.args.number _ lt c.index.ensures None) ∙ none_of_test _ _ c.is_none.ensures c.if-is_none.true in
     rw (c.push_reserved.ensures.added, c.len.ensures, s.items.ok.0)
-    (subset_room _ _ _ _ c.push_reserved.ensures.room (subset_added s.items.items s.places.items (vec_capacity s.items) c.self.invariant c.args.number lt none))
+    (subset_room _ _ _ _ c.push_reserved.ensures.room (subset_added s.items.items s.places.items (vec_capacity s.items) c.self.invariant c.args.number lt c.ranges.number.fits none))
 
 pub returns-then-is_none : goal.returns-then-is_none
 returns-then-is_none c =

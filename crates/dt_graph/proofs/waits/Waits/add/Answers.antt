@@ -2,7 +2,7 @@ use Rattle.std.proofs.Common.{◌≡◌, ◌≤◌, ◌∙◌, ◌-◌, ℕ, suc
 use Rattle.dt_waits.specs.Steps.{AreEntriesBelow}
 use Rattle.dt_waits.proofs.Callers.{degree_of_new}
 use Rattle.dt_graph.specs.SmallSteps.{Enters, Sorts}
-use Rattle.dt_graph.proofs.Grown.{added_first}
+use Rattle.dt_graph.proofs.PartsOfVertices.{added_first}
 use Rattle.dt_graph.proofs.waits.Waits.add.Goals as goal
 
 pub enter-requires-clause-counted : goal.enter-requires-clause-counted

@@ -1,5 +1,5 @@
 use Rattle.std.proofs.Common.{◌≡◌, take}
-use Rattle.dt_graph.proofs.Putting.{IsPutting}
+use Rattle.dt_graph.proofs.ClassMembers.{IsPutting}
 use Rattle.dt_graph.proofs.waits.Waits.resolve.Given as goal
 
 abbrev pub invariant-loop-vertex : goal.invariant-loop-vertex

@@ -1,0 +1,94 @@
+-- Of some vertices those that are stuck and of degree 0 become ready. Of one vertex, of more vertices, and along the
+-- walk over the followers of an entry.
+use Rattle.std.proofs.Common.{◌≡◌, ◌≢◌, ◌↔◌, ◌∙◌, ℕ, List, [], ◌++◌, map, get_or, slice_get, None, refl, sym, ap, subst, inl, inr}
+use Rattle.std.proofs.lemmas.List.{append-nil}
+use Rattle.dt_lists.specs.Lists.{AnyIn, Has, Either}
+use Rattle.dt_lists.proofs.Callers.{any_get, either_any, either_nat}
+use Rattle.dt_queue.specs.Queues.{HasDistinctSlots, IsQueued, Waiting, follower_of, followers, followers_after}
+use Rattle.dt_graph.specs.Subset.{PutsIn, Removes, SubsetView}
+use Rattle.dt_graph.specs.SmallSteps.{IsFollowedAt, Wakes}
+use Rattle.dt_graph.proofs.Followers.{followers_begin, none_told}
+
+-- of no vertex
+pub wakes_none : (degrees : List ℕ) (stuck ready : SubsetView) → Wakes (λ v. ⊥) degrees stuck ready stuck ready
+wakes_none degrees stuck ready = record {
+  stuck_bound = refl;
+  ready_bound = refl;
+  woken = λ v. (λ h. inl h, λ s. elim s [ inl h ↦ h | inr r ↦ absurd r.2 ]);
+  still_stuck = λ v. (λ h. (h, λ r. r.1), λ r. r.0);
+}
+
+-- of one that is stuck and of degree 0
+pub wakes_one : (degrees : List ℕ) (u : ℕ) (stuck ready stuck_now ready_now : SubsetView) → get_or degrees u 0 ≡ 0 → Has stuck.items u → Removes u stuck stuck_now → PutsIn u ready ready_now
+    → Wakes (λ v. u ≡ v) degrees stuck ready stuck_now ready_now
+wakes_one degrees u stuck ready stuck_now ready_now zero h r p = record {
+  stuck_bound = r.bound;
+  ready_bound = p.bound;
+  woken = λ v. (
+    λ m. elim ((p.members v).0 m) [ inl o ↦ inl o | inr e ↦ inr (subst (Has stuck.items) (sym e) h, subst (λ x. get_or degrees x 0 ≡ 0) (sym e) zero, sym e) ],
+    λ s. (p.members v).1 (elim s [ inl o ↦ inl o | inr w ↦ inr (sym w.2) ]),
+  );
+  still_stuck = λ v. (
+    λ m. let o : Has stuck.items v × (v ≢ u) = (r.members v).0 m in (o.0, λ w. o.1 (sym w.1)),
+    λ s. (r.members v).1 (s.0, λ e. s.1 (subst (λ x. get_or degrees x 0 ≡ 0) (sym e) zero, sym e)),
+  );
+}
+
+-- of one that isn't stuck, or of a higher degree
+pub wakes_not : (degrees : List ℕ) (u : ℕ) (stuck ready : SubsetView) → ¬ ((get_or degrees u 0 ≡ 0) × Has stuck.items u) → Wakes (λ v. u ≡ v) degrees stuck ready stuck ready
+wakes_not degrees u stuck ready n = record {
+  stuck_bound = refl;
+  ready_bound = refl;
+  woken = λ v. (λ h. inl h, λ s. elim s [ inl h ↦ h | inr w ↦ absurd (n (subst (λ x. get_or degrees x 0 ≡ 0) (sym w.2) w.1, subst (Has stuck.items) (sym w.2) w.0)) ]);
+  still_stuck = λ v. (λ h. (h, λ w. n (subst (λ x. get_or degrees x 0 ≡ 0) (sym w.1) w.0, subst (Has stuck.items) (sym w.1) h)), λ r. r.0);
+}
+
+-- of the same, put otherwise
+pub wakes_same : (P Q : ℕ → Type 0) → ((v : ℕ) → P v ↔ Q v) → (degrees : List ℕ) (a b r s : SubsetView) → Wakes P degrees a r b s → Wakes Q degrees a r b s
+wakes_same P Q same degrees a b r s p = record {
+  stuck_bound = p.stuck_bound;
+  ready_bound = p.ready_bound;
+  woken = λ v. (
+    λ h. elim ((p.woken v).0 h) [ inl o ↦ inl o | inr w ↦ inr (w.0, w.1, (same v).0 w.2) ],
+    λ h. (p.woken v).1 (elim h [ inl o ↦ inl o | inr w ↦ inr (w.0, w.1, (same v).1 w.2) ]),
+  );
+  still_stuck = λ v. (
+    λ h. let o : Has a.items v × ¬ ((get_or degrees v 0 ≡ 0) × P v) = (p.still_stuck v).0 h in (o.0, λ w. o.1 (w.0, (same v).1 w.1)),
+    λ h. (p.still_stuck v).1 (h.0, λ w. h.1 (w.0, (same v).0 w.1)),
+  );
+}
+
+-- some of the entries is of the vertex
+abbrev pub IsOfSome : List Waiting → ℕ → Type 0
+IsOfSome entries v = AnyIn (λ w. w.vertex ≡ v) entries
+
+pub of_some_decided : (entries : List Waiting) (v : ℕ) → Either (IsOfSome entries v)
+of_some_decided entries v = either_any _ entries (λ w. either_nat w.vertex v)
+
+-- at a place of the walk over the followers of a slot: those in front are woken
+pub record IsWaking (waiting : List Waiting) (slot place : ℕ) (degrees : List ℕ) (stuck ready stuck_now ready_now : SubsetView) : Type 0 where
+  pub front : List Waiting
+  pub split : followers waiting slot ≡ front ++ followers_after waiting slot place
+  pub waits : IsQueued waiting place
+  pub wakes : Wakes (IsOfSome front) degrees stuck ready stuck_now ready_now
+
+module _ (waiting : List Waiting) (distinct : HasDistinctSlots waiting) (slot : ℕ) (degrees : List ℕ) (stuck ready : SubsetView) where
+  pub waking_begins : IsQueued waiting slot → IsWaking waiting slot slot degrees stuck ready stuck ready
+  waking_begins h = record {
+    front = [];
+    split = (let j : (j : Waiting) × Has waiting j × (j.slot ≡ slot) = any_get _ waiting h in subst (λ s. followers waiting s ≡ followers_after waiting s s) j.2 (sym (followers_begin waiting distinct j.0 j.1)));
+    waits = h;
+    wakes = wakes_none degrees stuck ready;
+  }
+
+  pub waking_ends : (place : ℕ) (stuck_now ready_now : SubsetView) → IsWaking waiting slot place degrees stuck ready stuck_now ready_now → slice_get (map follower_of (followers_after waiting slot place)) 0 ≡ None
+      → Wakes (IsFollowedAt waiting slot) degrees stuck ready stuck_now ready_now
+  waking_ends place stuck_now ready_now k e = subst (λ l. Wakes (IsOfSome l) degrees stuck ready stuck_now ready_now)
+      (sym (k.split ∙ ap (λ l. k.front ++ l) (none_told _ e) ∙ append-nil k.front)) k.wakes
+
+-- it is decided whether a vertex follows an entry, or one of some entries
+pub followed_at_decided : (waiting : List Waiting) (slot v : ℕ) → Either (IsFollowedAt waiting slot v)
+followed_at_decided waiting slot v = of_some_decided (followers waiting slot) v
+
+pub followed_decided : (waiting : List Waiting) (slots : List ℕ) (v : ℕ) → Either (AnyIn (λ slot. IsFollowedAt waiting slot v) slots)
+followed_decided waiting slots v = either_any _ slots (λ slot. followed_at_decided waiting slot v)

@@ -1,5 +1,0 @@
-use Rattle.dt_run.proofs.RunEnds.{ends_on}
-use Rattle.dt_run.proofs.ending.each_phase_leads_to_an_end.Goals as goal
-
-pub returns : goal.returns
-returns c = λ before after n sound told phase ends later e. ends_on n sound told phase ends later e
