@@ -167,7 +167,12 @@ pub const ROUNDS: [(Story<'static>, &[u8], &[u8]); 5] = [
             number: 0,
             regions: 2,
             calls: &[(b"p", BA)],
-            rows: &[(0, 1, 0, BA), (0, 1, 1, AB_4), (1, 1, 1, AB_4), (1, 1, 0, BA)],
+            rows: &[
+                (0, 1, 0, BA),
+                (0, 1, 1, AB_4),
+                (1, 1, 1, AB_4),
+                (1, 1, 0, BA),
+            ],
         },
         b"6 insert 0 0\n7 insert 0 0\n8 insert 0 1\n9 insert 0 1\n10 resolve 0 1.0 1.1\n11 execute 0 1.0\n12 execute 0 1.1\ntrue",
         b"",

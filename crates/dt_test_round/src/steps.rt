@@ -22,10 +22,7 @@ use std::mem::forget;
 use std::test::Fail;
 
 /// A claim, if there is one and there is memory.
-fn claimed<S: Scheduler + Drop, N: Named>(
-    alloc: Global,
-    held: &mut Held<S, N>,
-) -> Option<Claim<N>>
+fn claimed<S: Scheduler + Drop, N: Named>(alloc: Global, held: &mut Held<S, N>) -> Option<Claim<N>>
     ensures { IfSome result (λ claim. IsClaimed held.old claim held.new) }
 {
     held.claim(alloc).ok()?
@@ -190,11 +187,7 @@ fn insert<S: Scheduler>(
 }
 
 /// Two sessions of a region submit these calls; it places their parts in its log, inserts them, and makes room.
-fn prepare<S: Scheduler>(
-    alloc: Global,
-    region: &mut Region<S>,
-    procs: &Procs,
-) -> Result<(), Fail>
+fn prepare<S: Scheduler>(alloc: Global, region: &mut Region<S>, procs: &Procs) -> Result<(), Fail>
     requires { WasFed procs.now 0 region.old }
     ensures can { OnOk result (CanRound procs.now region.new) }
     ensures room { OnOk result (2 ≤ region.new.room) }
