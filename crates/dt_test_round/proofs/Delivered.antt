@@ -1,14 +1,15 @@
--- A region is fed one part more: it may be given it, and is fed so afterwards.
+-- A part more is delivered to a region: it may be given it, and has made one event more afterwards.
 use Rattle.std.proofs.Common.{◌≡◌, ◌≢◌, ◌⊎◌, ◌<◌, ◌≤◌, ◌+◌, ◌-◌, ◌^◌, ℕ, zero, suc, Bool, true, false, cond, List, [], ◌∷◌}
 use Rattle.std.proofs.Common.{◌++◌, map, length, set, take, drop, slice_get, Option, Some, None, is_some, refl, sym, ap, subst, ◌∙◌, inl, inr, arith}
 use Rattle.std.proofs.lemmas.List.{append_assoc, drop_all, length-append, map-append}
 use Rattle.std.proofs.lemmas.List.Sums.{sum_by-set}
-use Rattle.std.proofs.lemmas.Option.{none-some}
+use Rattle.std.proofs.lemmas.Option.{none-some, same_Some}
 use Rattle.dt_lists.specs.Lists.{AllIn, AnyIn, Has, Distinct, IsFront}
 use Rattle.dt_lists.proofs.Callers.{any_of_image, distinct_push, front_empty}
 use Rattle.dt_access.specs.Ids.{same_id}
 use Rattle.dt_access.specs.declared.Part.{Part}
 use Rattle.dt_access.specs.declared.TxnId.{TxnId}
+use Rattle.dt_access.proofs.Callers.{id_of_test}
 use Rattle.dt_sched.specs.Views.{HasPart, View, ids_of, log_at}
 use Rattle.dt_sched.specs.Sched.{parts_in}
 use Rattle.dt_events.specs.declared.Event.{Event}
@@ -19,6 +20,7 @@ use Rattle.dt_txn.specs.Transaction.{homes_of, part_of, IsValid}
 use Rattle.dt_region.specs.Conditions.{Agrees, AreFew, CanDeliver, HasHomesIn, IsPartOf}
 use Rattle.dt_region.specs.Region.{RegionState, RegionView, find_txn, held}
 use Rattle.dt_region.specs.Rules.{after_deliver, hold, keep_all, past_end, with_entries, with_event}
+use Rattle.dt_region.specs.Sound.{IsSoundRegion}
 use Rattle.dt_region.proofs.Callers.{held_id, latest_more}
 use Rattle.dt_test_round.specs.Fed.{WasFed}
 
@@ -51,22 +53,40 @@ found_last (y ∷ txns) txn x id e =
       | false ↦ λ h. found_last txns txn x id h
     ] e
 
-held_more : (s : RegionState) (txn x : Txn) (id : TxnId) → held (hold s txn) id ≡ Some x → (held s id ≡ Some x) ⊎ (x ≡ txn)
+pub held_more : (s : RegionState) (txn x : Txn) (id : TxnId) → held (hold s txn) id ≡ Some x → (held s id ≡ Some x) ⊎ (x ≡ txn)
 held_more s txn x id e =
     elim (is_some (held s txn.id)) as (λ b. find_txn (s.submitted ++ cond b s.foreign (s.foreign ++ txn ∷ [])) id ≡ Some x → (held s id ≡ Some x) ⊎ (x ≡ txn)) [
       | true ↦ λ h. inl h
       | false ↦ λ h. found_last (s.submitted ++ s.foreign) txn x id (ap (λ l. find_txn l id) (append_assoc s.submitted s.foreign (txn ∷ [])) ∙ h)
     ] e
 
--- a transaction of another region agrees with a region that holds it, or holds none of its id
+-- what a region holds under an id of its own it submitted
 
-pub agrees_held : (s : RegionState) (id : TxnId) (txn : Txn) → HasHomesIn s.regions txn → id.region ≢ s.number → held s id ≡ Some txn → Agrees s txn
-agrees_held s id txn homes other e =
+none_own : (txns : List Txn) (number : ℕ) (id : TxnId) (txn : Txn) → AllIn (λ x. x.id.region ≢ number) txns → id.region ≡ number → ¬ (find_txn txns id ≡ Some txn)
+none_own [] number id txn foreign own e = none-some txn e
+none_own (y ∷ txns) number id txn foreign own e =
+    elim (same_id y.id id) as (λ b. same_id y.id id ≡ b → cond b (Some y) (find_txn txns id) ≡ Some txn → ⊥) [
+      | true ↦ λ same h. foreign.0 (ap (λ (i : TxnId). i.region) (id_of_test y.id id same) ∙ own)
+      | false ↦ λ other h. none_own txns number id txn foreign.1 own h
+    ] refl e
+
+own_there : (txns foreign : List Txn) (number : ℕ) (id : TxnId) (txn : Txn) → AllIn (λ x. x.id.region ≢ number) foreign → id.region ≡ number → find_txn (txns ++ foreign) id ≡ Some txn → Has txns txn
+own_there [] foreign number id txn others own e = absurd (none_own foreign number id txn others own e)
+own_there (y ∷ txns) foreign number id txn others own e =
+    elim (same_id y.id id) as (λ b. cond b (Some y) (find_txn (txns ++ foreign) id) ≡ Some txn → (y ≡ txn) ⊎ Has txns txn) [
+      | true ↦ λ h. inl (same_Some y txn h)
+      | false ↦ λ h. inr (own_there txns foreign number id txn others own h)
+    ] e
+
+-- a transaction agrees with a region that holds it, and one of another region also with one that holds none of its id
+
+pub agrees_held : (s : RegionState) (id : TxnId) (txn : Txn) → IsSoundRegion s → HasHomesIn s.regions txn → held s id ≡ Some txn → Agrees s txn
+agrees_held s id txn sound homes e =
     let is : txn.id ≡ id = held_id s id txn e in
     record {
       homes = homes;
-      same = λ x f. let g : Some x ≡ Some txn = sym f ∙ ap (held s) is ∙ e in cc;
-      own = λ own. absurd (other (ap (λ (i : TxnId). i.region) (sym is) ∙ own));
+      same = λ x f. same_Some x txn (sym f ∙ ap (held s) is ∙ e);
+      own = λ own. own_there s.submitted s.foreign s.number id txn sound.foreign (ap (λ (i : TxnId). i.region) (sym is) ∙ own) e;
     }
 
 pub agrees_new : (s : RegionState) (id : TxnId) (txn : Txn) → HasHomesIn s.regions txn → id.region ≢ s.number → txn.id ≡ id → held s id ≡ None → Agrees s txn
@@ -97,7 +117,7 @@ module _ (s : RegionState) (home place : ℕ) (part : Part) (txn : Txn) (there :
       ap (λ (l : List Part). parts_in (set s.logs home l)) longer ∙ omega (arith, e, f)
 
   -- the region may be given it
-  pub can_take : home ≢ s.number → IsPartOf txn home part → Agrees s txn → Distinct (ids_of log) → ¬ (HasPart log txn.id) → parts_in s.logs < 1000 → CanDeliver s home place entries
+  pub can_take : home ≢ s.number → IsPartOf txn home part → Agrees s txn → Distinct (ids_of log) → ¬ (HasPart log txn.id) → parts_in s.logs ≤ 1000 → CanDeliver s home place entries
   can_take other is agrees once fresh few = record {
     other = other;
     overlap = inr (subst (λ (l : List Part). IsFront l (part ∷ [])) (sym (drop_all place log (omega (arith, at)))) (front_empty (part ∷ [])));
@@ -114,7 +134,7 @@ module _ (s : RegionState) (home place : ℕ) (part : Part) (txn : Txn) (there :
   held_then : (id : TxnId) (x : Txn) → held (after_deliver s home place entries) id ≡ Some x → (held s id ≡ Some x) ⊎ (x ≡ txn)
   held_then id x e = held_more s txn x id (ap (λ (es : List Entry). find_txn (s.submitted ++ keep_all s.submitted s.foreign (map (λ f. f.txn) es)) id) (sym news) ∙ e)
 
--- a region that was fed one part more
+-- the region after it received one part more
 pub fed_more : (procs : List ProcTree) (count : ℕ) (r after : RegionView) (home place : ℕ) (part : Part) (txn : Txn) (event : Event) → WasFed procs count r
     → home < length r.state.logs → place ≡ length (log_at r.state.logs home) → IsValid procs r.state.here.table.version r.state.regions txn
     → after ≡ with_event r (after_deliver r.state home place (record { part = part; txn = txn } ∷ [])) event → WasFed procs (count + 1) after
@@ -124,6 +144,7 @@ fed_more procs count r after home place part txn event fed there at valid is = s
     | inr same ↦ subst (IsValid procs r.state.here.table.version r.state.regions) (sym same) valid
   ];
   unmoved = fed.unmoved;
-  parts = more r.state home place part txn there at ∙ ap (λ n. n + 1) fed.parts;
-  stamp = latest_more r (after_deliver r.state home place (record { part = part; txn = txn } ∷ [])) event ∙ ap (λ n. n + 1) fed.stamp;
+  submitted = let a = fed.submitted in omega (arith, a);
+  parts = let a = fed.parts in let b = more r.state home place part txn there at in omega (arith, a, b);
+  stamp = let a = fed.stamp in let b = latest_more r (after_deliver r.state home place (record { part = part; txn = txn } ∷ [])) event in omega (arith, a, b);
 })

@@ -1,3 +1,4 @@
 mod Delivered
 mod Opening
+mod Own
 pub mod RoomLeft

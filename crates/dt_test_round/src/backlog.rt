@@ -2,7 +2,8 @@
 
 use crate::calls::{Call, procs_of};
 use crate::feeding::Row;
-use crate::locked::{Open, Telling, told_of};
+use crate::locked::{Open, told_by_threads};
+use crate::rounds::{Telling, parts};
 use dt_access::TxnId;
 use dt_graph::QueueSched;
 use dt_lock::Gate;
@@ -85,11 +86,11 @@ fn told<R: Threads + Wait + Sync, G: Gate>(
 ) -> Result<Vec<u8>, Fail> {
     let procs = procs_of(alloc, PROCS)?;
     let rows = backlog(alloc)?;
-    told_of::<R, QueueSched, G>(
+    told_by_threads::<R, QueueSched, G>(
         rt,
         alloc,
         &procs,
-        rows.as_slice(),
+        parts(rows.as_slice()),
         workers,
         gate,
         Telling::Outcomes,

@@ -1,5 +1,5 @@
-//! Deliveries to a region, one part after another.
-ghost use Rattle.std.specs.Prelude.{◌≡◌, ◌+◌, ◌<◌, ◌↔◌, false, length, IsTrue, IfOk, OnOk};
+//! How parts come to a region, one after another: those of its own log it places itself, the others are delivered.
+ghost use Rattle.std.specs.Prelude.{◌≡◌, ◌+◌, ◌<◌, ◌≤◌, ◌↔◌, false, length, IsTrue, IfOk, OnOk};
 ghost use Rattle.dt_lists.specs.Lists.{AllIn, Has};
 ghost use Rattle.dt_sched.specs.Views.{HasPart};
 ghost use Rattle.dt_txn.specs.Transaction.{IsValid};
@@ -7,6 +7,7 @@ ghost use Rattle.dt_region.specs.Conditions.{Agrees, HoldsValid};
 ghost use Rattle.dt_test_round.specs.Fed.{WasFed};
 
 use crate::calls::{Call, call_of};
+use crate::requests::place;
 use dt_access::{Part, TxnId};
 use dt_log::{Log, Taken};
 use dt_proc::Procs;
@@ -30,7 +31,7 @@ fn are_below(homes: &[u8], count: u8) -> bool
     true
 }
 
-fn has_home(homes: &[u8], home: u8) -> bool
+pub fn has_home(homes: &[u8], home: u8) -> bool
     ensures { IsTrue result ↔ Has homes.now home }
 {
     for other in homes {
@@ -47,7 +48,7 @@ fn is_of(part: &Part, id: TxnId) -> bool
     part.id == id
 }
 
-fn has_part(log: &Log, id: TxnId) -> bool
+pub fn has_part(log: &Log, id: TxnId) -> bool
     ensures { result ≡ false → ¬ (HasPart log.now id) }
 {
     for place in 0..log.len() {
@@ -87,8 +88,8 @@ fn txn_of<S: Scheduler>(
     Ok(txn)
 }
 
-/// The transaction of a part, which is of another region: the one that the region holds, or else a new one.
-fn held_or_new<S: Scheduler>(
+/// The transaction of a part: the one that the region holds, or else a new one of another region.
+pub fn held_or_new<S: Scheduler>(
     alloc: Global,
     region: &Region<S>,
     procs: &Procs,
@@ -99,16 +100,17 @@ fn held_or_new<S: Scheduler>(
     ensures agrees { IfOk result (Agrees region.now.state) }
 {
     let (_, seq, by, _) = *row;
-    if by == region.number() {
-        return Err(Fail::from("the transaction is another region's"));
+    let number = region.number();
+    if let Some(txn) = region.txn(TxnId { seq, region: by }) {
+        return Ok(txn.copy(alloc)?);
     }
-    match region.txn(TxnId { seq, region: by }) {
-        Some(txn) => Ok(txn.copy(alloc)?),
-        None => txn_of(alloc, region, procs, row),
+    if by == number {
+        return Err(Fail::from("a region submits its own"));
     }
+    txn_of(alloc, region, procs, row)
 }
 
-/// Delivers a part to a region, which was fed n before.
+/// Delivers a part to a region, which has made n events before.
 fn feed<S: Scheduler>(
     alloc: Global,
     region: &mut Region<S>,
@@ -141,22 +143,28 @@ fn feed<S: Scheduler>(
     }
 }
 
-/// Delivers parts to a region that has done nothing.
+/// Parts come to a region that has made n events before.
 pub fn feed_all<S: Scheduler>(
     alloc: Global,
     region: &mut Region<S>,
     procs: &Procs,
+    before: usize,
     rows: &[Row],
 ) -> Result<(), Fail>
-    requires { WasFed procs.now 0 region.old }
-    ensures few { OnOk result (length rows.now < 1000) }
-    ensures fed { OnOk result (WasFed procs.now (length rows.now) region.new) }
+    requires few { before ≤ 100 }
+    requires fed { WasFed procs.now before region.old }
+    ensures few { OnOk result (before + length rows.now < 1000) }
+    ensures fed { OnOk result (WasFed procs.now (before + length rows.now) region.new) }
 {
-    if rows.len() >= 1000 {
+    if rows.len() > 800 {
         return Err(Fail::from("a test has few parts"));
     }
     for (count, row) in rows.iter().enumerate() {
-        feed(alloc, region, procs, count, row)?;
+        if row.0 == region.number() {
+            place(alloc, region, procs, before + count, row)?;
+        } else {
+            feed(alloc, region, procs, before + count, row)?;
+        }
     }
     Ok(())
 }

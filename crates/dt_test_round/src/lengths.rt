@@ -2,7 +2,8 @@
 
 use crate::calls::{Call, procs_of};
 use crate::feeding::Row;
-use crate::locked::{Telling, told_of};
+use crate::locked::told_by_threads;
+use crate::rounds::{Telling, parts};
 use dt_access::TxnId;
 use dt_graph::QueueSched;
 use dt_lock::Gate;
@@ -61,11 +62,11 @@ fn passes<R: Threads + Wait + Sync>(
         passed: AtomicU64::new(0),
     };
     let rows: [Row<'static>; 2] = [(0, 1, 0, CLIMB_D), (0, 2, 0, CLIMB_H)];
-    let _told = told_of::<R, QueueSched, Count>(
+    let _told = told_by_threads::<R, QueueSched, Count>(
         rt,
         alloc,
         procs,
-        &rows,
+        parts(&rows),
         workers,
         &gate,
         Telling::Events,

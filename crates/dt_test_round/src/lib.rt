@@ -1,5 +1,5 @@
-//! Tests of rounds: what a region makes of parts that were delivered to it, by itself, until nothing is left.
-//! A case is a list of parts and the events that follow; there is no other code here.
+//! Tests of rounds: what a region makes, by itself, of the parts that came to it, until nothing is left.
+//! A case is what came to it and the events that follow; there is no other code here.
 #![tactic(auto)]
 
 #[cfg(test)]
@@ -16,6 +16,8 @@ mod locked;
 mod outcomes;
 #[cfg(test)]
 mod outside;
+#[cfg(test)]
+mod requests;
 #[cfg(test)]
 mod rounds;
 #[cfg(test)]

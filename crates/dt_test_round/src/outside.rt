@@ -2,7 +2,8 @@
 
 use crate::calls::{Call, procs_of};
 use crate::feeding::Row;
-use crate::locked::{Telling, told_of};
+use crate::locked::told_by_threads;
+use crate::rounds::{Telling, parts};
 use dt_access::TxnId;
 use dt_graph::QueueSched;
 use dt_lock::Gate;
@@ -108,11 +109,11 @@ fn others_commit_while_a_call_is_worked(rt: HostRuntime) -> Result<(), Fail> {
     let mut seen = false;
     for _time in 0..TIMES {
         let gate = Relay::new();
-        let told = told_of::<_, QueueSched, _>(
+        let told = told_by_threads::<_, QueueSched, _>(
             &rt,
             rt.alloc(),
             &procs,
-            &CHAINS,
+            parts(&CHAINS),
             2,
             &gate,
             Telling::Events,

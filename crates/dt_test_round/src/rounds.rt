@@ -1,8 +1,12 @@
-//! Rounds of a region, to which parts of others were delivered.
+//! Rounds of a region, to which parts of logs came.
+ghost use Rattle.std.specs.Prelude.{◌<◌, ◌≤◌, List, IfOk};
+ghost use Rattle.dt_proc.specs.Tree.{ProcTree};
 ghost use Rattle.dt_test_round.specs.Fed.{WasFed};
 
 use crate::calls::Call;
 use crate::feeding::{Row, feed_all};
+use crate::outcomes::outcomes_of;
+use crate::requests::{Submitted, submit_all};
 use dt_events::put_event;
 use dt_graph::QueueSched;
 use dt_plain::PlainSched;
@@ -11,7 +15,9 @@ use dt_region::Region;
 use dt_round::{Alone, Rounds};
 use dt_sched::Scheduler;
 use dt_table::Table;
+use dt_text::{Key, Value};
 use std::alloc::Global;
+use std::mem::forget;
 use std::test::Fail;
 
 /// The events of a region from a place on, each behind its stamp, and at last whether it is drained.
@@ -30,33 +36,97 @@ pub fn events_from<S: Scheduler>(
     Ok(told)
 }
 
-/// A region is fed these parts and makes a round.
-fn go_on<S: Scheduler>(
+/// What is told of a region after a round.
+#[derive(Drop)]
+pub enum Telling {
+    /// Its events, in their order, and whether it is drained.
+    Events,
+    /// What it came to, whatever the order was.
+    Outcomes,
+}
+
+/// What came to a region before its round: its number in a cluster of so many regions, what its sessions submitted, and the parts of
+/// logs, in their order.
+#[derive(Clone, Copy)]
+pub struct Story<'a> {
+    pub number: u8,
+    pub regions: u8,
+    pub calls: &'a [Submitted<'a>],
+    pub rows: &'a [Row<'a>],
+}
+
+/// A region that has done nothing, with the rows `a` and `b`.
+pub fn begun<S: Scheduler>(alloc: Global, number: u8, regions: u8) -> Result<Region<S>, Fail>
+    requires number { number < regions }
+    requires regions { regions ≤ 8 }
+    ensures { (procs : List ProcTree) → IfOk result (WasFed procs 0) }
+{
+    let rows = [
+        (Key::read(alloc, b"a")?, Value::Int(10)),
+        (Key::read(alloc, b"b")?, Value::Int(10)),
+    ];
+    let table = Table::new(alloc, 1, regions, &[], rows.as_slice())?;
+    Ok(Region::new(alloc, number, regions, table)?)
+}
+
+/// What is told of a region after its round.
+fn tell<S: Scheduler>(
+    alloc: Global,
+    region: &Region<S>,
+    story: Story,
+    telling: Telling,
+) -> Result<Vec<u8>, Fail> {
+    match telling {
+        Telling::Events => {
+            let count = story.calls.len().saturating_add(story.rows.len());
+            events_from(alloc, region, count)
+        }
+        Telling::Outcomes => outcomes_of(alloc, region, story.rows),
+    }
+}
+
+/// All this comes to a region, which then makes a round; what is told of it.
+fn go_on<S: Scheduler, D: Rounds<Region<S>>>(
     alloc: Global,
     region: &mut Region<S>,
     procs: &Procs,
-    rows: &[Row],
-) -> Result<(), Fail>
-    requires { WasFed procs.now 0 region.old }
+    story: Story,
+    rounds: &D,
+    telling: Telling,
+) -> Result<Vec<u8>, Fail>
+    requires fed { WasFed procs.now 0 region.old }
+    requires ready { D.ready rounds.now }
 {
-    feed_all(alloc, region, procs, rows)?;
-    Alone.round(alloc, region, procs)?;
-    Ok(())
+    submit_all(alloc, region, procs, story.calls)?;
+    feed_all(alloc, region, procs, story.calls.len(), story.rows)?;
+    rounds.round(alloc, region, procs)?;
+    tell(alloc, region, story, telling)
 }
 
-/// Region 3 of four, after it was fed these parts and made a round alone.
-pub fn after_alone<S: Scheduler + Drop>(alloc: Global, rows: &[Row]) -> Result<Region<S>, Fail> {
+/// What a region makes of all this in one round, which are calls of these procedures. The region is left to the end of the process:
+/// that it may be dropped would be proved again here.
+pub fn told_of<S: Scheduler + Drop, D: Rounds<Region<S>>>(
+    alloc: Global,
+    procs: &Procs,
+    story: Story,
+    rounds: &D,
+    telling: Telling,
+) -> Result<Vec<u8>, Fail>
+    requires { D.ready rounds.now }
+{
+    if story.number >= story.regions || story.regions > 8 {
+        return Err(Fail::from("the region is one of eight at most"));
+    }
+    let mut region: Region<S> = begun(alloc, story.number, story.regions)?;
+    let told = go_on(alloc, &mut region, procs, story, rounds, telling);
+    forget(region);
+    told
+}
+
+/// What a region makes alone of all this, which are calls of the built-in procedures.
+fn told<S: Scheduler + Drop>(alloc: Global, story: Story) -> Result<Vec<u8>, Fail> {
     let procs = builtin_procs(alloc)?;
-    let table = Table::new(alloc, 1, 4, &[], &[])?;
-    let mut region: Region<S> = Region::new(alloc, 3, 4, table)?;
-    go_on(alloc, &mut region, &procs, rows)?;
-    Ok(region)
-}
-
-/// What region 3 of four makes of these parts.
-fn told<S: Scheduler + Drop>(alloc: Global, rows: &[Row]) -> Result<Vec<u8>, Fail> {
-    let region: Region<S> = after_alone(alloc, rows)?;
-    events_from(alloc, &region, rows.len())
+    told_of::<S, Alone>(alloc, &procs, story, &Alone, Telling::Events)
 }
 
 /// In a cluster of four the home of `d` and `h` is region 0, that of `a` region 1 and that of `b` region 2.
@@ -74,37 +144,88 @@ pub const PUT_H: Call<'static> = (b"put", &[b"h", b"30"]);
 
 const GET: Call<'static> = (b"get", &[b"d"]);
 
-/// Parts, and what a round makes of them: one of two texts, where two transactions may run in either order.
-pub const ROUNDS: [(&[Row<'static>], &[u8], &[u8]); 4] = [
+/// In a cluster of two the home of `a` is region 1, and that of `b` region 0.
+const BA: Call<'static> = (b"xfer", &[b"b", b"a", b"3"]);
+
+const AB_4: Call<'static> = (b"xfer", &[b"a", b"b", b"4"]);
+
+/// What comes to region 3 of four: parts of the logs of others.
+pub fn parts<'a>(rows: &'a [Row<'a>]) -> Story<'a> {
+    Story {
+        number: 3,
+        regions: 4,
+        calls: &[],
+        rows,
+    }
+}
+
+/// What comes to a region, and what a round makes of it: one of two texts, where two transactions may run in either order.
+pub const ROUNDS: [(Story<'static>, &[u8], &[u8]); 5] = [
+    // Two payments that cross, of which one is the region's own: its own log has their parts in another order than the other one.
+    (
+        Story {
+            number: 0,
+            regions: 2,
+            calls: &[(b"p", BA)],
+            rows: &[
+                (0, 1, 0, BA),
+                (0, 1, 1, AB_4),
+                (1, 1, 1, AB_4),
+                (1, 1, 0, BA),
+            ],
+        },
+        b"6 insert 0 0\n7 insert 0 0\n8 insert 0 1\n9 insert 0 1\n10 resolve 0 1.0 1.1\n11 execute 0 1.0\n12 execute 0 1.1\ntrue",
+        b"",
+    ),
     // Two that wait for each other run once they are resolved, in the order of their ids.
     (
-        &[(0, 1, 0, DA), (0, 1, 1, AD), (1, 1, 1, AD), (1, 1, 0, DA)],
+        Story {
+            number: 3,
+            regions: 4,
+            calls: &[],
+            rows: &[(0, 1, 0, DA), (0, 1, 1, AD), (1, 1, 1, AD), (1, 1, 0, DA)],
+        },
         b"5 insert 3 0\n6 insert 3 0\n7 insert 3 1\n8 insert 3 1\n9 resolve 3 1.0 1.1\n10 execute 3 1.0\n11 execute 3 1.1\ntrue",
         b"",
     ),
     // A group of three waits for what reaches it from outside.
     (
-        &[
-            (0, 1, 0, PUT),
-            (0, 2, 0, DA),
-            (0, 1, 2, BD),
-            (1, 1, 1, AB),
-            (1, 2, 0, DA),
-            (2, 1, 2, BD),
-            (2, 1, 1, AB),
-        ],
+        Story {
+            number: 3,
+            regions: 4,
+            calls: &[],
+            rows: &[
+                (0, 1, 0, PUT),
+                (0, 2, 0, DA),
+                (0, 1, 2, BD),
+                (1, 1, 1, AB),
+                (1, 2, 0, DA),
+                (2, 1, 2, BD),
+                (2, 1, 1, AB),
+            ],
+        },
         b"8 insert 3 0\n9 insert 3 0\n10 insert 3 0\n11 insert 3 1\n12 insert 3 1\n13 insert 3 2\n14 insert 3 2\n15 execute 3 1.0\n16 resolve 3 1.1 1.2 2.0\n17 execute 3 1.1\n18 execute 3 1.2\n19 execute 3 2.0\ntrue",
         b"",
     ),
     // Reads run in any order, and a write after both.
     (
-        &[(0, 1, 0, GET), (0, 2, 0, GET), (0, 3, 0, PUT)],
+        Story {
+            number: 3,
+            regions: 4,
+            calls: &[],
+            rows: &[(0, 1, 0, GET), (0, 2, 0, GET), (0, 3, 0, PUT)],
+        },
         b"4 insert 3 0\n5 insert 3 0\n6 insert 3 0\n7 execute 3 1.0\n8 execute 3 2.0\n9 execute 3 3.0\ntrue",
         b"4 insert 3 0\n5 insert 3 0\n6 insert 3 0\n7 execute 3 2.0\n8 execute 3 1.0\n9 execute 3 3.0\ntrue",
     ),
     // Nothing runs while a home lacks its part.
     (
-        &[(0, 1, 0, DA), (0, 1, 1, AD)],
+        Story {
+            number: 3,
+            regions: 4,
+            calls: &[],
+            rows: &[(0, 1, 0, DA), (0, 1, 1, AD)],
+        },
         b"3 insert 3 0\n4 insert 3 0\ntrue",
         b"",
     ),
@@ -114,8 +235,8 @@ pub const ROUNDS: [(&[Row<'static>], &[u8], &[u8]); 4] = [
 fn a_region_with_the_plain_scheduler_goes_on_alone_until_nothing_is_left(
     rt: HostRuntime,
 ) -> Result<(), Fail> {
-    for (rows, want, other) in ROUNDS {
-        let told = told::<PlainSched>(rt.alloc(), rows)?;
+    for (story, want, other) in ROUNDS {
+        let told = told::<PlainSched>(rt.alloc(), story)?;
         assert!(rt; told.as_slice() == want || told.as_slice() == other);
     }
     Ok(())
@@ -123,8 +244,8 @@ fn a_region_with_the_plain_scheduler_goes_on_alone_until_nothing_is_left(
 
 #[test]
 fn a_region_with_queues_goes_on_alone_until_nothing_is_left(rt: HostRuntime) -> Result<(), Fail> {
-    for (rows, want, other) in ROUNDS {
-        let told = told::<QueueSched>(rt.alloc(), rows)?;
+    for (story, want, other) in ROUNDS {
+        let told = told::<QueueSched>(rt.alloc(), story)?;
         assert!(rt; told.as_slice() == want || told.as_slice() == other);
     }
     Ok(())

@@ -1,5 +1,6 @@
+use Rattle.std.proofs.Common.{◌+◌}
 use Rattle.dt_test_round.specs.Fed.{WasFed}
 use Rattle.dt_test_round.proofs.feeding.feed_all.Given as goal
 
 abbrev pub invariant-loop-count : goal.invariant-loop-count
-invariant-loop-count g l = WasFed l.procs l.count l.region
+invariant-loop-count g l = WasFed l.procs (l.before + l.count) l.region
