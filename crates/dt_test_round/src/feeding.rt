@@ -110,7 +110,7 @@ pub fn held_or_new<S: Scheduler>(
     txn_of(alloc, region, procs, row)
 }
 
-/// Delivers a part to a region, which has made n events before.
+/// Delivers a part to a region, which has made at most n events before.
 fn feed<S: Scheduler>(
     alloc: Global,
     region: &mut Region<S>,
@@ -143,7 +143,7 @@ fn feed<S: Scheduler>(
     }
 }
 
-/// Parts come to a region that has made n events before.
+/// Parts come to a region that has made at most n events before.
 pub fn feed_all<S: Scheduler>(
     alloc: Global,
     region: &mut Region<S>,

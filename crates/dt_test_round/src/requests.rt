@@ -15,7 +15,7 @@ use std::test::Fail;
 /// The name of a session, and the call that it submits.
 pub type Submitted<'a> = (&'a [u8], Call<'a>);
 
-/// A session of a region, which has made n events before, submits a call.
+/// A session of a region, which has made at most n events before, submits a call.
 fn submit<S: Scheduler>(
     alloc: Global,
     region: &mut Region<S>,
@@ -57,7 +57,7 @@ pub fn submit_all<S: Scheduler>(
     Ok(())
 }
 
-/// A region, which has made n events before, places a part in its own log, as the next request of the transaction's region.
+/// A region, which has made at most n events before, places a part in its own log, as the next request of the transaction's region.
 pub fn place<S: Scheduler>(
     alloc: Global,
     region: &mut Region<S>,

@@ -169,7 +169,7 @@ fn steps_named<S: Scheduler + Drop, N: Named>(
     told
 }
 
-/// Inserts the next part of log 0 into a region that has made n events.
+/// Inserts the next part of log 0 into a region that has made at most n events.
 fn insert<S: Scheduler>(
     alloc: Global,
     region: &mut Region<S>,
