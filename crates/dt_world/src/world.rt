@@ -138,7 +138,7 @@ impl<S: Scheduler + Drop> World<S> {
                 last,
             } => self.deliver(alloc, *region, *home, *first, *last),
             Event::Insert { region, home } => self.insert(alloc, *region, *home),
-            Event::Resolve { region, ids } => self.resolve(alloc, *region, ids.as_slice()),
+            Event::Resolve { region, ids } => self.resolve(alloc, *region, ids.get().as_slice()),
             Event::Execute { region, id } => self.execute(alloc, *region, *id),
             Event::Answer { region, session } => self.answer(alloc, *region, session),
         }
