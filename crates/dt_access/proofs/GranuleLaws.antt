@@ -5,7 +5,7 @@ use Rattle.std.proofs.Common.{length, take, drop, position, Some, None, refl, ap
 use Rattle.std.specs.List.{take_while, prefix_len, list_all}
 use Rattle.std.proofs.lemmas.Bool.{and_parts, and_from}
 use Rattle.std.proofs.lemmas.Bool.Decides.{nat_tests}
-use Rattle.std.proofs.lemmas.List.{take_all, length-append, length-take, take-append-drop}
+use Rattle.std.proofs.lemmas.List.{take_all, length-take, take-append-drop}
 use Rattle.std.proofs.lemmas.List.Folds.{list_all-append}
 use Rattle.std.proofs.lemmas.List.Sums.{take_while-cons}
 use Rattle.dt_lists.proofs.Callers.{same_tail}
@@ -128,10 +128,3 @@ granule_is_key (b ∷ bs) k =
     let short : length (take n bs) ≤ length bs = omega (arith, length-take n bs) in
     let parts : (is_key_byte b ≡ true) × (list_all is_key_byte bs ≡ true) = and_parts _ _ k.2 in
     (omega arith, omega (arith, short, k), and_from _ _ parts.0 (list_all_take is_key_byte n bs parts.1))
-
--- a key is its own granule where the two have the same length
-pub same_length : (key : Bytes) → length (granule_of key) ≡ length key → granule_of key ≡ key
-same_length key e = elim (key_of_granule key) [
-  | inl s ↦ sym s
-  | inr s ↦ absurd (omega (arith, e, ap length s.1, length-append (granule_of key) (47 ∷ s.0)))
-]

@@ -22,9 +22,6 @@ before_transitive a b c h k = grind arith
 pub before_total : (a b : TxnId) → a ≢ b → Before a b ⊎ Before b a
 before_total a b ne = grind (arith, same_by_parts a b)
 
-pub before_asymmetric : (a b : TxnId) → Before a b → ¬ (Before b a)
-before_asymmetric a b h k = before_irreflexive a (before_transitive a b a h k)
-
 pub before_decided : (a b : TxnId) → Either (Before a b)
 before_decided a b = grind arith
 

@@ -1,7 +1,8 @@
 -- The walk over the links of one vertex, from its newest to its oldest.
-use Rattle.std.proofs.Common.{◌≡◌, ◌≢◌, ℕ, zero, suc, ◌+◌, ◌<◌, ◌≤◌, ◌⊎◌, ◌↔◌, ◌∙◌, List, [], ◌∷◌, length, get_or, Option, Some, None, refl, sym, ap, subst, inl, inr, arith}
+use Rattle.std.proofs.Common.{◌≡◌, ◌≢◌, ℕ, zero, suc, ◌+◌, ◌<◌, ◌≤◌, ◌⊎◌, ◌↔◌, ◌∙◌, List, [], ◌∷◌, length, Option, Some, None, sym, ap, subst, inl}
+use Rattle.std.proofs.Common.{inr, arith}
 use Rattle.dt_lists.specs.Lists.{Either, Has, IsFront}
-use Rattle.dt_lists.proofs.Callers.{any_at, either_le, either_nat, front_refl, front_trans}
+use Rattle.dt_lists.proofs.Callers.{any_at, either_le, either_nat, front_trans}
 use Rattle.dt_class.specs.Links.{near_end, far_end, earlier_link, link_at, IsStep, IsNewest, AreChained}
 use Rattle.dt_class.specs.Finds.{FoundView, AddsVertex, GainsSteps}
 use Rattle.dt_class.specs.declared.link.Link.{Link}
@@ -37,29 +38,6 @@ step_places way links v t = (
       (r.0, omega arith, r.1, r.2.0, r.2.1),
   λ s. step_of_place way links v t s.0 s.2 s.3 s.4,
 )
-
--- the newest link, if there is one, is followed first
-begins_at : (way : Way) (links : List Link) (v : ℕ) (old : FoundView) (at : Option ℕ) → IsNewest way links v (length links) at → IsFollowed way links v old old at
-begins_at way links v old None newest =
-    record {
-      next = λ i lt. absurd (omega arith);
-      short = omega arith;
-      vertices = refl;
-      front = front_refl old.order;
-      members = λ t. (λ h. inl h, λ h. elim h [ inl k ↦ k | inr s ↦ absurd (newest s.0 s.2 s.3) ]);
-    }
-begins_at way links v old (Some k) newest =
-    record {
-      next = (omega arith, newest.1, λ i low lt. absurd (omega arith));
-      short = omega (arith, newest.0);
-      vertices = refl;
-      front = front_refl old.order;
-      members = λ t. (λ h. inl h, λ h. elim h [ inl k ↦ k | inr s ↦ absurd (newest.2 s.0 (omega (arith, s.1)) s.2 s.3) ]);
-    }
-
-pub follow_begins : (way : Way) (links : List Link) (newest : List (Option ℕ)) (v : ℕ) (old : FoundView) → AreChained way links newest → v < length newest
-    → IsFollowed way links v old old (get_or newest v None)
-follow_begins way links newest v old chained lt = begins_at way links v old (get_or newest v None) (chained.newest_first v lt)
 
 -- one more link is followed, and then the newest one before it
 module _ (way : Way) (links : List Link) (v k : ℕ) (old new more : FoundView) (f : IsFollowed way links v old new (Some k)) (adds : AddsVertex new (far_end way (link_at links k)) more) where

@@ -86,10 +86,6 @@ pub record IsBegun (count : ℕ) (starts : List ℕ) (place : ℕ) (found : Foun
   pub members : (v : ℕ) → Has found.order v ↔ Has (take place starts) v
 
 module _ (count : ℕ) (starts : List ℕ) where
-  pub none_begun : (empty : FoundView) → empty.order ≡ [] → length empty.marks ≡ count → IsBegun count starts 0 empty
-  none_begun empty none vertices =
-      record { vertices = vertices; members = λ v. (λ h. subst (λ order. Has order v) none h, λ h. absurd h) }
-
   pub one_more_begun : (found more : FoundView) (place : ℕ) → place < length starts → IsBegun count starts place found → AddsVertex found (get_or starts place 0) more → IsBegun count starts (place + 1) more
   one_more_begun found more place lt begun adds =
       let v : ℕ = get_or starts place 0 in

@@ -1,7 +1,7 @@
 -- Every file is a cluster or has a fault: what each step of the reading comes to is decided, in the order in which faults are reported.
 -- That the tables of a document are in order, is what `TomlTables` gives.
 use Rattle.std.proofs.Common.{◌≡◌, ◌⊎◌, inl, inr, ℕ, ◌<◌, pos, negsuc, Bool, true, false, Ordering, Less, Equal, Greater, nat_cmp, List, [], ◌∷◌}
-use Rattle.std.proofs.Common.{map, length, ◌≤◌, ◌^◌, Option, Some, None, Ok, Err, codes, refl, sym, ap, ◌∙◌, subst, arith}
+use Rattle.std.proofs.Common.{map, length, ◌≤◌, ◌^◌, Option, Some, None, Ok, Err, codes, refl, sym, ◌∙◌, subst, arith}
 use Rattle.std.proofs.lemmas.Option.{none-some, same_Some}
 use Rattle.std.proofs.lemmas.Bool.{false≢true}
 use Rattle.std.proofs.lemmas.Str.{IsUtf8-from_is_utf8, is_utf8-from_IsUtf8}
@@ -23,7 +23,7 @@ use Rattle.dt_proc.specs.Outcome.{Outcome}
 use Rattle.dt_proc.specs.SecondPass.{Checked}
 use Rattle.dt_proc.specs.declared.error.ProcError.TheVariants as refused
 use Rattle.dt_proc.proofs.Callers.{every_text}
-use Rattle.toml.specs.Data.{Data, string, integer, float, boolean, datetime, array, table, Members, no_members, member, get_member, as_str}
+use Rattle.toml.specs.Data.{Data, string, integer, float, boolean, datetime, array, table, Members, no_members, member, get_member}
 use Rattle.toml.specs.Parse.{parse_document}
 use Rattle.dt_cluster.specs.Document.{Entry, IsDocument, entries_of, AreEntries, AreEntriesAt, IsNoTable, IsFirstFaulty}
 use Rattle.dt_cluster.specs.Numbers.{NumberEntry, GivesNumber, IsAtFault, HasNumber, HasBadNumber}
@@ -349,12 +349,3 @@ string_within file top k s doc is = member_in_order (length file) k top (string 
 -- the text at `procs` of a short document is short
 pub short_procs : (file : Bytes) (top : Members) → IsDocument file top → length file < 2 ^ 32 → HasShortProcs top
 short_procs file top doc short = λ text is. omega (arith, short, string_within file top (codes "procs") text doc is)
-
-pub as_str_is : (d : Data) (s : Bytes) → as_str d ≡ Some s → d ≡ string s
-as_str_is (string t) s e = ap string (same_Some t s e)
-as_str_is (integer z) s e = absurd (none-some s e)
-as_str_is (float x) s e = absurd (none-some s e)
-as_str_is (boolean b) s e = absurd (none-some s e)
-as_str_is (datetime t) s e = absurd (none-some s e)
-as_str_is (array ds) s e = absurd (none-some s e)
-as_str_is (table ms) s e = absurd (none-some s e)

@@ -9,7 +9,6 @@ use Rattle.dt_lists.proofs.Callers.{front_refl, front_trans, front_append}
 use Rattle.dt_lists.proofs.Callers.{place_within}
 use Rattle.dt_access.specs.Clash.{Bytes}
 use Rattle.dt_proc.specs.declared.tree.Sort.{Sort}
-use Rattle.dt_proc.specs.declared.tree.Sort.TheVariants as sort
 use Rattle.dt_proc.specs.declared.tree.Stmt.{Stmt}
 use Rattle.dt_proc.specs.TreeViews.{block_tree, stmt_tree}
 use Rattle.dt_proc.specs.Tree.{ExprTree, GiveTree, StmtTree, let_new, set_row, clear_row, choose, abort_with, give_all, BlockTree, done, then}
@@ -37,29 +36,8 @@ step_set_value f k e s = (s.2.1.0, s.2.1.1, subst (λ n. HasSort (map sort_of_da
 pub step_clear_key : (f : Frame) (k : ℕ) → IsSoundStep f (clear_row k) → k < length f.rows.0
 step_clear_key f k s = subst (λ n. k < n) s.1 (place_within s.0 k true s.2.0)
 
-pub step_test : (f : Frame) (e : ExprTree) (a b : BlockTree) → IsSoundStep f (choose e a b) → HasSortIn f e sort.Bool
-step_test f e a b s = subst (λ n. HasSort (map sort_of_datum f.variables) n e sort.Bool) s.1 s.2.0
-
-pub step_first : (f : Frame) (e : ExprTree) (a b : BlockTree) → IsSoundStep f (choose e a b) → IsSoundBlock f a
-step_first f e a b s = (s.0, s.1, s.2.1)
-
-pub step_second : (f : Frame) (e : ExprTree) (a b : BlockTree) → IsSoundStep f (choose e a b) → IsSoundBlock f b
-step_second f e a b s = (s.0, s.1, s.2.2)
-
 pub step_gifts : (f : Frame) (gs : List GiveTree) → IsSoundStep f (give_all gs) → AllIn (IsSoundGift (map sort_of_datum f.variables) (length f.rows.0)) gs
 step_gifts f gs s = subst (λ n. AllIn (IsSoundGift (map sort_of_datum f.variables) n) gs) s.1 s.2.0
-
--- the first statement of sound ones is sound
-head_sound : (variables : List Sort) (writes : List Bool) (st : StmtTree) (rest : BlockTree) → AreSound variables writes (then st rest) → AreSound variables writes (then st done)
-head_sound variables writes (let_new f) rest s = (s.0, s.1, tt)
-head_sound variables writes (set_row k f) rest s = (s.0, s.1, tt)
-head_sound variables writes (clear_row k) rest s = (s.0, tt)
-head_sound variables writes (choose f a b) rest s = (s.0, s.1, s.2, tt)
-head_sound variables writes (abort_with t) rest s = (s.0, tt)
-head_sound variables writes (give_all gs) rest s = (s.0, tt)
-
-pub block_head : (f : Frame) (st : StmtTree) (rest : BlockTree) → IsSoundBlock f (then st rest) → IsSoundStep f st
-block_head f st rest s = (s.0, s.1, head_sound (map sort_of_datum f.variables) s.0 st rest s.2)
 
 -- what a run leads to
 

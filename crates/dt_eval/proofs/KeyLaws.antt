@@ -1,6 +1,6 @@
 -- The list of the keys of a call: it ascends, and holds each key that a declaration gives, with Write if any declaration of
 -- it is.
-use Rattle.std.proofs.Common.{◌≡◌, ◌<◌, ◌≤◌, ◌+◌, ◌||◌, ℕ, length, take, drop, set, ◌++◌, ap₂, add-one, append_assoc, arith, zero, suc, Bool, true, false, List, []}
+use Rattle.std.proofs.Common.{◌≡◌, ◌<◌, ◌≤◌, ◌+◌, ◌||◌, ℕ, length, take, drop, set, ◌++◌, ap₂, add-one, arith, zero, suc, Bool, true, false, List, []}
 use Rattle.std.proofs.Common.{◌∷◌, map, get_or, slice_get, Some, refl, sym, ap, subst, ◌∙◌, inl, inr}
 use Rattle.std.specs.List.{fold}
 use Rattle.std.proofs.Math.Seq.{drop-cons}
@@ -58,10 +58,6 @@ fold_ascends : (us vs : List (Bytes × Bool)) → HasAscendingKeys vs → HasAsc
 fold_ascends [] vs a = a
 fold_ascends (u ∷ us) vs a = fold_ascends us (with_use vs u) (with_use_ascends vs u a)
 
-fold_all : (P : Bytes → Type 0) (us vs : List (Bytes × Bool)) → AllIn (λ v. P v.0) vs → AllIn (λ u. P u.0) us → AllIn (λ v. P v.0) (fold with_use vs us)
-fold_all P [] vs all more = all
-fold_all P (u ∷ us) vs all more = fold_all P us (with_use vs u) (with_use_all P vs u all more.0) more.1
-
 -- what holds of uses holds of them with their modes
 modes_all : (P : Bytes → Type 0) (us : List (Bytes × Bool)) → AllIn (λ u. P u.0) us → AllIn (λ u. P u.0) (with_modes us)
 modes_all P [] all = tt
@@ -102,14 +98,6 @@ keys_few proc args = omega (
   fold_few (map (use_of args) proc.keys) [],
   length-map proc.keys (use_of args),
 )
-
-uses_all : (P : Bytes → Type 0) (args : List Value) (ds : List KeyDecl) → AllIn P (map (λ (d : KeyDecl). key_text args d.items) ds) → AllIn (λ (u : Bytes × Bool). P u.0) (map (use_of args) ds)
-uses_all P args [] all = tt
-uses_all P args (d ∷ ds) all = (all.0, uses_all P args ds all.1)
-
--- what holds of what each declaration gives holds of each key
-pub keys_all : (P : Bytes → Type 0) (proc : ProcTree) (args : List Value) → AllIn P (map (λ (d : KeyDecl). key_text args d.items) proc.keys) → AllIn (λ u. P u.0) (keys_of proc args)
-keys_all P proc args all = modes_all P (distinct_uses proc args) (fold_all P (map (use_of args) proc.keys) [] tt (uses_all P args proc.keys all))
 
 -- a use that has Q is kept where Q outlasts a merge
 module _ (Q : Bytes × Bool → Type 0) (left : (key : Bytes) (m n : Bool) → Q (key, m) → Q (key, m || n)) (right : (key : Bytes) (m n : Bool) → Q (key, n) → Q (key, m || n)) where
@@ -208,11 +196,6 @@ set_cut [] i x below = absurd (omega arith)
 set_cut (y ∷ xs) zero x below = refl
 set_cut (y ∷ xs) (suc i) x below = ap (λ ys. y ∷ ys) (set_cut xs i x (omega arith))
 
-taken : {A : Type 0} (xs : List A) (i : ℕ) (v : A) → i < length xs → v ≡ get_or xs i v → take (suc i) xs ≡ take i xs ++ v ∷ []
-taken [] i v below is = absurd (omega arith)
-taken (x ∷ xs) zero v below is = ap (λ y. y ∷ []) (sym is)
-taken (x ∷ xs) (suc i) v below is = ap (λ ys. x ∷ ys) (taken xs i v (omega arith) is)
-
 module _ (xs : List (Bytes × Bool)) (i : ℕ) (v u : Bytes × Bool) (below : i < length xs) (is : v ≡ get_or xs i v) (further : with_use xs u ≡ take i xs ++ with_use (drop i xs) u) where
   cut : drop i xs ≡ v ∷ drop (suc i) xs
   cut = drop-cons xs i v below ∙ ap (λ x. x ∷ drop (suc i) xs) (sym is)
@@ -225,11 +208,6 @@ module _ (xs : List (Bytes × Bool)) (i : ℕ) (v u : Bytes × Bool) (below : i 
 
   pub use_same : slice_cmp nat_cmp u.0 v.0 ≡ Equal → set xs i (v.0, v.1 || u.1) ≡ with_use xs u
   use_same e = set_cut xs i (v.0, v.1 || u.1) below ∙ sym (placed_at Equal e)
-
-  pub use_further : slice_cmp nat_cmp u.0 v.0 ≡ Greater → with_use xs u ≡ take (i + 1) xs ++ with_use (drop (i + 1) xs) u
-  use_further e =
-      placed_at Greater e ∙ sym (append_assoc (take i xs) (v ∷ []) (with_use (drop (suc i) xs) u)) ∙ ap (λ ys. ys ++ with_use (drop (suc i) xs) u) (sym (taken xs i v below is))
-      ∙ ap (λ j. take j xs ++ with_use (drop j xs) u) (sym (add-one i))
 
 pub use_last : (xs : List (Bytes × Bool)) (i : ℕ) (u : Bytes × Bool) → length xs ≤ i → with_use xs u ≡ take i xs ++ with_use (drop i xs) u → xs ++ u ∷ [] ≡ with_use xs u
 use_last xs i u past further = sym (further ∙ ap₂ (λ ys zs. ys ++ with_use zs u) (take_all i xs past) (drop_all i xs past))
@@ -270,9 +248,6 @@ module _ (proc : ProcTree) (args : List Value) (declarations : List KeyDecl) (nu
   declared : drop number declarations ≡ d ∷ drop (number + 1) declarations
   declared = drop-cons declarations number d below ∙ ap (λ x. x ∷ drop (suc number) declarations) (sym is) ∙ ap (λ j. d ∷ drop j declarations) (sym (add-one number))
 
-  pub gathers_within : AllIn (IsItemWithin (length args)) d.items
-  gathers_within = (subst (AllIn (λ (d : KeyDecl). AllIn (IsItemWithin (length args)) d.items)) declared known.within).0
-
   pub gathers_more : IsKey (key_text args d.items) → (more : List (Bytes × Bool)) → more ≡ with_use uses (use_of args d) → Gathers proc args declarations (number + 1) more
   gathers_more key more e = record {
     within = (subst (AllIn (λ (d : KeyDecl). AllIn (IsItemWithin (length args)) d.items)) declared known.within).1;
@@ -287,9 +262,6 @@ module _ (proc : ProcTree) (args : List Value) (declarations : List KeyDecl) (nu
 module _ (proc : ProcTree) (args : List Value) (declarations : List KeyDecl) (number : ℕ) (uses : List (Bytes × Bool)) (past : length declarations ≤ number) (known : Gathers proc args declarations number uses) where
   all_used : uses ≡ distinct_uses proc args
   all_used = ap (λ ds. fold with_use uses (map (use_of args) ds)) (sym (drop_all number declarations past)) ∙ known.told
-
-  pub gathers_keys : HasKeys proc args
-  gathers_keys = known.all (subst (λ ds. AllIn IsKey (names_given args ds)) (sym (drop_all number declarations past)) tt)
 
   pub gathers_all : with_modes uses ≡ keys_of proc args
   gathers_all = ap with_modes all_used

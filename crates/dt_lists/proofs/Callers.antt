@@ -7,7 +7,7 @@ pub use Rattle.dt_lists.proofs.Words.{each_of_image, has_map, some_across, some_
 pub use Rattle.dt_lists.proofs.Distinct.{distinct_push, distinct_within, two_of_different}
 pub use Rattle.dt_lists.proofs.Keys.{KeyBefore, key_before_irreflexive, key_before_transitive, key_first, key_second, some_in_front}
 pub use Rattle.dt_lists.proofs.Fronts.{all_front, any_front, each_front, front_append, front_empty, front_map, front_refl, front_take, front_takes}
-pub use Rattle.dt_lists.proofs.Fronts.{front_trans, pairwise_any, pairwise_at, pairwise_length, pairwise_refl, pairwise_trans, some_back, some_front}
+pub use Rattle.dt_lists.proofs.Fronts.{front_trans, pairwise_any, pairwise_at, pairwise_length, pairwise_refl, some_back, some_front}
 pub use Rattle.dt_lists.proofs.Tests.{any_of_test, test_of_any}
 pub use Rattle.dt_lists.proofs.Decided.{either_all, either_and, either_and3, either_any, either_has, either_implies, either_le, either_list}
 pub use Rattle.dt_lists.proofs.Decided.{either_nat, either_not, either_or, either_same, either_some, either_true}

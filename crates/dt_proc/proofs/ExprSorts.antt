@@ -1,5 +1,5 @@
 -- What the second pass makes fits.
-use Rattle.std.proofs.Common.{◌≡◌, inl, inr, ℕ, suc, ◌<◌, Bool, true, false, cond, List, [], ◌∷◌, ◌++◌, map, length, slice_get, Option, Some, None, Ok, Err, refl, ap, subst, nat_eq}
+use Rattle.std.proofs.Common.{◌≡◌, inl, inr, ℕ, suc, ◌<◌, Bool, true, false, cond, List, [], ◌∷◌, map, length, slice_get, Option, Some, None, Ok, Err, refl, ap, subst, nat_eq}
 use Rattle.std.specs.Option.{option_map}
 use Rattle.std.specs.Cmp.Lexicographic.{pointwise}
 use Rattle.std.proofs.lemmas.Option.{slice_get_within}
@@ -10,7 +10,6 @@ use Rattle.dt_syntax.specs.declared.operator.Op.TheVariants as op
 use Rattle.dt_syntax.specs.declared.token.Token.TheVariants as tok
 use Rattle.dt_proc.specs.declared.scope.Meaning.{Meaning}
 use Rattle.dt_proc.specs.declared.scope.Meaning.TheVariants.{Variable, Key, Unknown}
-use Rattle.dt_proc.specs.declared.error.ProcError.{ProcError}
 use Rattle.dt_proc.specs.declared.error.ProcError.TheVariants as fault
 use Rattle.dt_proc.specs.Names.{Scope, entry_of, meaning_in, as_entry, as_key_entry}
 use Rattle.dt_proc.specs.Sound.{TakesSort, sort_given, HasSort, IsStoredSort}
@@ -32,9 +31,6 @@ value_of other (Err e) = other
 pub holds_ok : {A : Type 0} (P : A → Type 0) (a : A) → P a → Holds P (Ok a)
 unfolding value_of
 holds_ok P a h b e = subst P (ap (value_of a) e) h
-
-pub holds_err : {A : Type 0} (P : A → Type 0) (told : Checked A) (f : ProcError) → told ≡ Err f → Holds P told
-holds_err P told f e a is = absurd cc
 
 pub holds_after : {A B : Type 0} (P : B → Type 0) (told : Checked A) (next : A → Checked B) → ((a : A) → told ≡ Ok a → Holds P (next a)) → Holds P (after_ok told next)
 holds_after P (Ok a) next h = h a refl

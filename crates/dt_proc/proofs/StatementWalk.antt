@@ -1,5 +1,5 @@
 -- The statements of a block, as the walk over them finds them.
-use Rattle.std.proofs.Common.{◌≡◌, ◌⊎◌, inl, inr, ℕ, ◌<◌, ◌≤◌, List, [], ◌∷◌, ◌++◌, length, take, get_or, Bool, true, false, cond, Ok, Err, refl, sym, ap, ◌∙◌}
+use Rattle.std.proofs.Common.{◌≡◌, ◌⊎◌, inl, inr, ℕ, List, [], ◌∷◌, ◌++◌, length, take, Bool, true, false, cond, Ok, Err, refl, sym, ap, ◌∙◌}
 use Rattle.std.proofs.Common.{subst, arith, append_assoc, append-nil, length-append}
 use Rattle.std.proofs.lemmas.List.{take-append-le}
 use Rattle.std.proofs.Math.Seq.{take-length}
@@ -39,15 +39,6 @@ joined_done (then s b) = ap (then s) (joined_done b)
 joined_assoc : (a b c : BlockTree) → joined (joined a b) c ≡ joined a (joined b c)
 joined_assoc done b c = refl
 joined_assoc (then s a) b c = ap (then s) (joined_assoc a b c)
-
-whole : (t : Checked BlockTree) → t ≡ after_ok t (λ b. Ok b)
-whole (Ok b) = refl
-whole (Err e) = refl
-
-pub steps_start : (scope : Scope) (ss : Statements) (e : ℕ) (rest left : List Placed) (block : BlockTree) → block ≡ done → AreStatements ss →
-    statements_tokens ss ++ at e tok.End ∷ rest ≡ left → StepsLeft scope scope (check_block scope ss) block left e rest
-steps_start scope ss e rest left block is good cut =
-    (ss, good, cut, whole (check_block scope ss) ∙ ap (λ v. after_ok (check_block scope ss) (λ b. Ok (joined v b))) (sym is), grown_start scope)
 
 -- a statement comes first
 pub record IsStep (scope : Scope) (told : Checked BlockTree) (block : BlockTree) (left : List Placed) (e : ℕ) (rest : List Placed) : Type 0 where

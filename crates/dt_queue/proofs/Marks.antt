@@ -1,6 +1,6 @@
 -- How a lane is searched: what stands before and after the place where the search for a number ends.
-use Rattle.std.proofs.Common.{◌≡◌, ◌≢◌, ◌⊎◌, ℕ, zero, suc, ◌+◌, ◌<◌, ◌≤◌, Bool, true, false, not, ◌&&◌, ◌==◌, nat_lt, cond, List, [], ◌∷◌, ◌++◌, length, take, drop}
-use Rattle.std.proofs.Common.{slice_index_or, Option, Some, None, IsSome, OnSome, refl, ap, sym, subst, inl, inr, arith, add-one}
+use Rattle.std.proofs.Common.{◌≡◌, ◌≢◌, ℕ, zero, suc, ◌+◌, ◌<◌, ◌≤◌, Bool, true, false, not, ◌&&◌, ◌==◌, nat_lt, cond, List, [], ◌∷◌, ◌++◌, length, take}
+use Rattle.std.proofs.Common.{slice_index_or, Option, Some, None, IsSome, OnSome, refl, ap, sym, subst, inl, inr, arith}
 use Rattle.std.specs.List.{filter, remove}
 use Rattle.std.specs.List.Sorted.{IsPartitionedBy, IsPartitionPoint}
 use Rattle.dt_lists.specs.Lists.{AllIn, Has}
@@ -45,16 +45,6 @@ filter_same test (x ∷ xs) all = by (test x) all.0 (filter_same test xs all.1)
     by : (t : Bool) → t ≡ true → filter test xs ≡ xs → cond t (x ∷ filter test xs) (filter test xs) ≡ x ∷ xs
     by true e rest = ap (λ l. x ∷ l) rest
     by false e rest = cc
-
--- a filter does not see items at the front that it does not pass
-pub filter_drop : {A : Type 0} (test : A → Bool) (p : ℕ) (xs : List A) → AllIn (λ x. test x ≡ false) (take p xs) → filter test xs ≡ filter test (drop p xs)
-filter_drop test zero xs all = refl
-filter_drop test (suc p) [] all = refl
-filter_drop test (suc p) (x ∷ xs) all = by (test x) all.0 (filter_drop test p xs all.1)
-  where
-    by : (t : Bool) → t ≡ false → filter test xs ≡ filter test (drop p xs) → cond t (x ∷ filter test xs) (filter test xs) ≡ filter test (drop p xs)
-    by true e rest = cc
-    by false e rest = rest
 
 -- whether a mark has another number
 abbrev pub is_not : ℕ → Mark → Bool
@@ -107,13 +97,6 @@ untouched n (x ∷ xs) zero d num ends none =
 untouched n (x ∷ xs) (suc p) d num ends none =
     let rest : EndsBelow n xs p = record { within = omega (arith, ends.within); lesser = ends.lesser.1; others = ends.others } in
     sym (keeps n x xs xs (apart n x (omega (arith, ends.lesser.0))) (sym (untouched n xs p d num.1 rest (λ lt. none (omega (arith, lt))))))
-
--- a mark of a list stands before a place or from it on
-pub on_either_side : (ms : List Mark) (p : ℕ) (m : Mark) → Has ms m → Has (take p ms) m ⊎ Has (drop p ms) m
-on_either_side [] p m h = absurd h
-on_either_side (x ∷ xs) zero m h = inr h
-on_either_side (x ∷ xs) (suc p) m (inl e) = inl (inl e)
-on_either_side (x ∷ xs) (suc p) m (inr h) = elim (on_either_side xs p m h) [ inl k ↦ inl (inr k) | inr k ↦ inr k ]
 
 pub has_index : (ms : List Mark) (p : ℕ) (d : Mark) → p < length ms → Has ms (slice_index_or ms p d)
 has_index [] p d lt = absurd (omega arith)
@@ -198,29 +181,6 @@ between_before low high ms p ends = filter_out (is_between low high) (take p ms)
     lower : (xs : List Mark) → AllIn (λ m. m.number < low + 1) xs → AllIn (λ m. ¬ (IsBetween low high m)) xs
     lower [] all = tt
     lower (x ∷ xs) all = (λ b. omega (arith, b.0, all.0), lower xs all.1)
-
--- one more mark between the two
-between_more : (low high : ℕ) (ms : List Mark) (p : ℕ) (d : Mark) → p < length ms → AllIn (λ m. low + 1 ≤ m.number) (drop p ms) → (slice_index_or ms p d).number < high
-    → (filter (is_between low high) (take (suc p) ms) ≡ filter (is_between low high) (take p ms) ++ slice_index_or ms p d ∷ [])
-    × AllIn (λ m. low + 1 ≤ m.number) (drop (suc p) ms)
-between_more low high [] p d lt all less = absurd (omega arith)
-between_more low high (x ∷ xs) zero d lt all less = (by (is_between low high x) (between_true low high x (omega (arith, all.0), less)), all.1)
-  where
-    by : (t : Bool) → t ≡ true → cond t (x ∷ []) [] ≡ x ∷ []
-    by true e = refl
-    by false e = cc
-between_more low high (x ∷ xs) (suc p) d lt all less = let rest = between_more low high xs p d (omega arith) all less in (by (is_between low high x) rest.0, rest.1)
-  where
-    by : (t : Bool) → filter (is_between low high) (take (suc p) xs) ≡ filter (is_between low high) (take p xs) ++ slice_index_or xs p d ∷ []
-        → cond t (x ∷ filter (is_between low high) (take (suc p) xs)) (filter (is_between low high) (take (suc p) xs))
-        ≡ cond t (x ∷ filter (is_between low high) (take p xs)) (filter (is_between low high) (take p xs)) ++ slice_index_or xs p d ∷ []
-    by true e = ap (λ l. x ∷ l) e
-    by false e = e
-
-pub between_step : (low high : ℕ) (ms : List Mark) (p : ℕ) (d : Mark) → p < length ms → AllIn (λ m. low + 1 ≤ m.number) (drop p ms) → (slice_index_or ms p d).number < high
-    → (filter (is_between low high) (take (p + 1) ms) ≡ filter (is_between low high) (take p ms) ++ slice_index_or ms p d ∷ [])
-    × AllIn (λ m. low + 1 ≤ m.number) (drop (p + 1) ms)
-between_step low high ms p d lt all less = rw (add-one p) (between_more low high ms p d lt all less)
 
 -- from a mark on that has not a lesser number than the higher one none lies between the two
 pub between_stop : (low high : ℕ) (ms : List Mark) (p : ℕ) (d : Mark) → HasRisingNumbers ms → p < length ms → high ≤ (slice_index_or ms p d).number

@@ -128,10 +128,6 @@ module _ (k : Kept) (kept : AreQueuesKept k) where
       let r = any_get (λ (p : ℕ × Cell). p.0 ≡ slot) (in_order (entries k.cells)) (any_of_image (λ (v : Waiting). v.slot ≡ slot) (entry k.rows.names.keys) (in_order (entries k.cells)) w) in
       (r.0.1, sym (ap (get k.cells) r.2) ∙ cell_there r.0 r.1)
 
-  -- and what has a cell waits
-  pub waits_at : (slot : ℕ) (c : Cell) → get k.cells slot ≡ Some c → IsQueued (waiting_of k) slot
-  waits_at slot c e = any_image (λ (v : Waiting). v.slot ≡ slot) (entry k.rows.names.keys) (in_order (entries k.cells)) (any_put (λ (p : ℕ × Cell). p.0 ≡ slot) (in_order (entries k.cells)) (slot, c) (in_list slot c e) refl)
-
   -- ---- neighbours
 
   earlier_rises : (n : ℕ) → EachThen Rise (lesser n (in_order (entries k.cells)))

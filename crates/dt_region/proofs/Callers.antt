@@ -4,6 +4,6 @@ pub use Rattle.dt_region.proofs.Logs.{fronts_few, fronts_length, log_few, log_no
 pub use Rattle.dt_region.proofs.Rule3Deliver.{all_drop}
 pub use Rattle.dt_region.proofs.Rule6Execute.{executable_held}
 pub use Rattle.dt_region.proofs.Stamps.{kept_more, latest_more}
-pub use Rattle.dt_region.proofs.Drained.{HasInserted, has_all, has_inserted, has_one_more}
+pub use Rattle.dt_region.proofs.Drained.{HasInserted}
 pub use Rattle.dt_region.proofs.StepSound.{step_sound}
 pub use Rattle.dt_region.proofs.Leaving.{execute_leaves, insert_leaves, resolve_leaves}

@@ -1,5 +1,5 @@
 -- What is executable at a region stays so by each step of its own, until it is executed itself.
-use Rattle.std.proofs.Common.{◌≡◌, ◌≢◌, ◌<◌, ℕ, List, [], ◌∷◌, ◌++◌, Option, Some, map, sym, ap, subst, ◌∙◌, inl, inr}
+use Rattle.std.proofs.Common.{◌≡◌, ◌≢◌, ◌<◌, ℕ, List, [], ◌∷◌, ◌++◌, Some, sym, ap, subst, ◌∙◌, inl, inr}
 use Rattle.std.specs.Prelude.{slice_get, slice_index}
 use Rattle.std.proofs.lemmas.List.{map-append}
 use Rattle.dt_lists.specs.Lists.{Has, IsFront, IsWithin}
@@ -9,13 +9,13 @@ use Rattle.dt_access.specs.declared.TxnId.{TxnId}
 use Rattle.dt_events.specs.declared.Event.TheVariants.{Insert, Resolve, Execute}
 use Rattle.dt_sched.specs.Views.{View, IsLonger, IsWellFormed, log_at}
 use Rattle.dt_sched.specs.Decide.{IsExecutable}
-use Rattle.dt_sched.specs.Sched.{CanExecute, with_part}
+use Rattle.dt_sched.specs.Sched.{CanExecute}
 use Rattle.dt_sched.proofs.Callers.{class_stays, closed_stays, preceders_stay, with_part_longer}
 use Rattle.dt_proc.specs.Tree.{ProcTree}
 use Rattle.dt_txn.specs.declared.txn.Txn.{Txn}
 use Rattle.dt_txn.specs.declared.outcome.Outcome.{Outcome}
 use Rattle.dt_txn.specs.Execution.{one}
-use Rattle.dt_txn.specs.Replica.{done_ids, executed, fronts, view_of}
+use Rattle.dt_txn.specs.Replica.{done_ids, executed, view_of}
 use Rattle.dt_region.specs.Region.{RegionState, held, sched_of}
 use Rattle.dt_region.specs.Rules.{MayMake, after_step}
 use Rattle.dt_region.specs.Sound.{IsSoundRegion}

@@ -214,10 +214,6 @@ module _ (r : RegionView) (s : RegionState) (events : List Stamped) (heard room 
           let grown : logs ≡ set s.logs home (with_entries log_here first entries) = others ∙ ap (set s.logs home) (took.3 ∙ ap (λ x. log_here ++ x) new_parts) in
           ap₂ made held_is grown
 
-      -- the delivery's end is a place of 32 bits
-      pub new_room : first + count < 2 ^ 32
-      new_room = deliver_room took.0
-
       pub new_keeps : AreWell (made foreign logs) seen
       new_keeps = subst (λ x. AreWell x seen) (sym deliver_is) (deliver_well s stands.well.0 home first entries known_here can_here took.0 seen stands.well.1)
 

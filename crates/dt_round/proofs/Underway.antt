@@ -1,23 +1,21 @@
 -- A round on its way: what holds after each of its steps, and what follows for the next one.
-use Rattle.std.proofs.Common.{◌≡◌, ◌<◌, ◌≤◌, ◌+◌, ◌-◌, ◌*◌, ◌^◌, ℕ, List, [], ◌∷◌, ◌++◌, length, Ok, true, Some, sym, ap, subst, ◌∙◌, arith}
+use Rattle.std.proofs.Common.{◌≡◌, ◌<◌, ◌≤◌, ◌+◌, ◌*◌, ◌^◌, ℕ, List, [], ◌∷◌, ◌++◌, length, sym, ap, subst, ◌∙◌, arith}
 use Rattle.std.proofs.lemmas.List.{length-append, length-map}
-use Rattle.dt_access.specs.Clash.{Bytes}
 use Rattle.dt_access.specs.declared.TxnId.{TxnId}
 use Rattle.dt_sched.specs.Sched.{CanExecute, parts_in}
 use Rattle.dt_sched.proofs.Callers.{sound_execute}
 use Rattle.dt_proc.specs.Tree.{ProcTree}
-use Rattle.dt_table.specs.Table.{Table, counter_of}
+use Rattle.dt_table.specs.Table.{counter_of}
 use Rattle.dt_txn.specs.declared.txn.Body.{Body}
 use Rattle.dt_txn.specs.declared.txn.Body.TheVariants.{Call, Move}
-use Rattle.dt_txn.specs.declared.txn.Txn.{Txn}
 use Rattle.dt_txn.specs.Transaction.{IsValid}
-use Rattle.dt_txn.specs.Replica.{Replica, done_ids, stepped, view_of}
-use Rattle.dt_region.specs.Region.{HasStamp, RegionState, RegionView, held, latest_stamp, sched_of}
+use Rattle.dt_txn.specs.Replica.{done_ids, view_of}
+use Rattle.dt_region.specs.Region.{HasStamp, RegionView, held, latest_stamp, sched_of}
 use Rattle.dt_region.specs.Rules.{after_step}
 use Rattle.dt_region.specs.Conditions.{CanMove, HasPlaceToMove, HoldsValid}
 use Rattle.dt_region.specs.Sound.{IsSoundRegion}
 use Rattle.dt_region.proofs.Callers.{fronts_few, latest_more}
-use Rattle.dt_round.specs.Rounds.{CanRound, Continues}
+use Rattle.dt_round.specs.Rounds.{CanRound}
 use Rattle.dt_round.specs.Steps.{IsOwnStep, steps_left, steps_of}
 use Rattle.dt_round.specs.Underway.{IsUnderway}
 use Rattle.dt_round.proofs.Counting.{few_done, few_steps}

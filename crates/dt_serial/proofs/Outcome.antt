@@ -1,11 +1,11 @@
 -- One outcome: in each list whose transactions come after all that precedes them, a transaction does what it does in the
 -- history, and the table is the replay of the history for those of the list.
-use Rattle.std.proofs.Common.{◌≡◌, ◌≢◌, ◌<◌, ◌≤◌, ◌⊎◌, ℕ, zero, suc, Bool, true, false, cond, List, [], ◌∷◌, ◌++◌, length, take, slice_get, Some, None, refl, sym, ap, subst, ◌∙◌}
+use Rattle.std.proofs.Common.{◌≡◌, ◌≢◌, ◌<◌, ◌≤◌, ◌⊎◌, ℕ, zero, suc, Bool, true, false, cond, List, [], ◌∷◌, ◌++◌, length, slice_get, Some, None, refl, sym, ap}
+use Rattle.std.proofs.Common.{subst, ◌∙◌}
 use Rattle.std.proofs.Common.{append_assoc, append-nil, inl, inr, arith, le_antisymm, ◌↔◌}
 use Rattle.std.specs.Prelude.{Option, option_map, filter}
 use Rattle.std.proofs.lemmas.Bool.{cases_Bool, both_ways}
 use Rattle.std.proofs.lemmas.List.{map-append}
-use Rattle.std.proofs.Math.Seq.{take-append_seam}
 use Rattle.std.proofs.lemmas.Option.{slice_get_within}
 use Rattle.dt_lists.specs.Lists.{AnyIn, AllIn, Has, IsFront, Distinct, Either}
 use Rattle.dt_lists.proofs.Callers.{any_map, any_get, any_put, any_of_image, any_append, any_append_left, all_get, all_put, all_append_left, all_map}
@@ -178,11 +178,6 @@ module _ (procs : List ProcTree) (order : TxnId → TxnId → Type 0) (start : T
   members_front : (xs : List Txn) (y : Txn) (ys : List Txn) → AllIn (λ x. Has txns x) (xs ++ y ∷ ys) → IsDown order (txn_ids (xs ++ y ∷ ys)) → table_after procs xs start ≡ canon xs
   members_front xs y ys all down = one_table xs (all_append_left _ xs (y ∷ ys) all) (down_front order (txn_ids xs) (txn_ids (y ∷ ys)) (subst (IsDown order) (map-append (λ z. z.id) xs (y ∷ ys)) down))
 
-  -- and what it does there is what it does in the history
-  pub one_effect : (xs : List Txn) (y : Txn) (ys : List Txn) (r : Spot txns y) → AllIn (λ x. Has txns x) (xs ++ y ∷ ys) → IsDown order (txn_ids (xs ++ y ∷ ys))
-      → one procs y (table_after procs xs start) ≡ one procs y (table_after procs r.front start)
-  one_effect xs y ys r all down = ap (one procs y) (members_front xs y ys all down) ∙ same_one y r (is_among (txn_ids xs)) (past_in xs y ys down)
-
   -- two such lists with the same members end with equal tables
   pub one_set : (xs ys : List Txn) → AllIn (λ x. Has txns x) xs → AllIn (λ x. Has txns x) ys → IsDown order (txn_ids xs) → IsDown order (txn_ids ys)
       → ((i : TxnId) → Has (txn_ids xs) i ↔ Has (txn_ids ys) i) → table_after procs xs start ≡ table_after procs ys start
@@ -218,13 +213,6 @@ module _ (procs : List ProcTree) (order : TxnId → TxnId → Type 0) (start : T
   pub moves_front : (xs : List Txn) (key : Bytes) → AllIn (λ x. Has txns x) xs → IsDown order (txn_ids xs) → IsFront (moves_of (table_after procs xs start) key) (moves_of (table_after procs txns start) key)
   moves_front xs key all down = subst (λ l. IsFront l (moves_of (table_after procs txns start) key)) (sym (ap (λ t. moves_of t key) (one_table xs all down) ∙ replayed_moves procs order start txns h (is_among (txn_ids xs)) key))
       (front_filtered _ _ (closed_front procs order start txns h (is_among (txn_ids xs)) (closed_in xs down) key))
-
-  -- namely as many of them as there are
-  pub moves_taken : (xs : List Txn) (key : Bytes) → AllIn (λ x. Has txns x) xs → IsDown order (txn_ids xs)
-      → take (counter_of (table_after procs xs start) key) (moves_of (table_after procs txns start) key) ≡ moves_of (table_after procs xs start) key
-  moves_taken xs key all down =
-      let front : IsFront (moves_of (table_after procs xs start) key) (moves_of (table_after procs txns start) key) = moves_front xs key all down in
-      ap (take (counter_of (table_after procs xs start) key)) (sym front.1) ∙ take-append_seam (moves_of (table_after procs xs start) key) front.0
 
   -- the next mover of a transaction's entry is that of the history's last table, if it precedes the transaction
   pub flag_up : (xs : List Txn) (y : Txn) (ys : List Txn) (a : Access) (by : TxnId) → AllIn (λ x. Has txns x) (xs ++ y ∷ ys) → IsDown order (txn_ids (xs ++ y ∷ ys)) → Has y.access a
@@ -303,11 +291,6 @@ module _ (procs : List ProcTree) (order : TxnId → TxnId → Type 0) (start : T
   -- each transaction has one outcome in the history
   pub single_outcome : (i : TxnId) (o p : Outcome) → Has (outcomes procs txns start) (i, o) → Has (outcomes procs txns start) (i, p) → o ≡ p
   single_outcome i o p a b = ap (λ r. r.1) (same_by_key (λ r. r.0) (outcomes procs txns start) (i, o) (i, p) (subst Distinct (sym (outcomes_ids procs txns start)) h.down.once) a b refl)
-
-  -- so an outcome in two such lists is one
-  pub one_outcome_each : (xs ys : List Txn) → AllIn (λ x. Has txns x) xs → AllIn (λ x. Has txns x) ys → IsDown order (txn_ids xs) → IsDown order (txn_ids ys) → (i : TxnId) (o p : Outcome)
-      → Has (outcomes procs xs start) (i, o) → Has (outcomes procs ys start) (i, p) → o ≡ p
-  one_outcome_each xs ys allx ally downx downy i o p a b = single_outcome i o p (all_get _ (outcomes procs xs start) (one_outcome xs allx downx) (i, o) a) (all_get _ (outcomes procs ys start) (one_outcome ys ally downy) (i, p) b)
 
   -- a transaction whose outcome in the history is not stale is live where it ran
   live_there : (x : Txn) (s : Spot txns x) (o : Outcome) → Has (outcomes procs txns start) (x.id, o) → ¬ (IsStaleOutcome o) → IsLive x (table_after procs s.front start)

@@ -1,5 +1,5 @@
 -- Serial runs and replays: they go on where a front of them ends; moves only get more; and what a replay reads.
-use Rattle.std.proofs.Common.{◌≡◌, ◌<◌, ◌≤◌, ◌⊎◌, ℕ, zero, suc, ◌+◌, Bool, true, false, cond, List, [], ◌∷◌, ◌++◌, length, map}
+use Rattle.std.proofs.Common.{◌≡◌, ◌<◌, ◌≤◌, ◌⊎◌, ℕ, ◌+◌, Bool, true, false, cond, List, [], ◌∷◌, ◌++◌, length, map}
 use Rattle.std.proofs.Common.{slice_get, Some, refl, sym, ap, ap₂, subst, ◌∙◌, append-nil, length-append, inl, inr, arith}
 use Rattle.std.specs.Prelude.{filter}
 use Rattle.std.proofs.lemmas.Bool.{cases_Bool, cases_lt}
@@ -16,7 +16,7 @@ use Rattle.dt_txn.specs.declared.txn.Txn.{Txn}
 use Rattle.dt_txn.specs.declared.outcome.Outcome.{Outcome}
 use Rattle.dt_txn.specs.Execution.{one}
 use Rattle.dt_txn.specs.Serial.{after, outcomes, table_after}
-use Rattle.dt_serial.specs.Order.{txn_ids, FollowsMove, Changes}
+use Rattle.dt_serial.specs.Order.{txn_ids, Changes}
 use Rattle.dt_serial.specs.Replay.{replay}
 use Rattle.dt_table.proofs.Callers.{move_at, moves_of-apply, version-apply}
 use Rattle.dt_serial.proofs.Rows.{apply_value, apply_keeps_value, apply_swap}
@@ -71,11 +71,6 @@ after_moves procs version x t key is = moves_of-apply (one procs x t).1 t key �
 pub moves_grow : (procs : List ProcTree) (xs : List Txn) (t : Table) (key : Bytes) → IsFront (moves_of t key) (moves_of (table_after procs xs t) key)
 moves_grow procs [] t key = front_refl (moves_of t key)
 moves_grow procs (x ∷ xs) t key = front_trans _ _ _ (move_at t.version key (one procs x t).1.moved, sym (after_moves procs t.version x t key refl)) (moves_grow procs xs (after procs x t) key)
-
--- what follows a move goes on following it while more moves are made
-pub follows_longer : (order : TxnId → TxnId → Type 0) (ms ns : List Moved) (c : ℕ) (t : TxnId) → IsFront ms ns → FollowsMove order ms c t → FollowsMove order ns c t
-follows_longer order ms ns zero t front f = f
-follows_longer order ms ns (suc c) t front f = (f.0, get_front ms ns c f.0 front f.1, f.2)
 
 -- where in a run the move of this number was made
 pub record IsMoveAt (procs : List ProcTree) (version : ℕ) (xs : List Txn) (t : Table) (key : Bytes) (i : ℕ) (m : Moved) : Type 0 where

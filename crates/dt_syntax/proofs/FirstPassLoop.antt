@@ -85,18 +85,6 @@ pub record Reading (text : List ℕ) (tokens : List Placed) (stack : List Sym) (
   pub counted : counts ≡ counts_of (backwards tokens [])
   pub short : length tokens ≤ place
 
-pub first_tokens : (text : List ℕ) (place : ℕ) (counts : Counts) (stack : List Sym) → place ≤ length text → BeginsToken (drop place text) →
-    tokens_from 0 0 (drop 0 text) ≡ tokens_from 0 place (drop place text) → counts ≡ counts_of [] → stack ≡ expect.Procs ∷ [] → Reading text [] stack counts place
-first_tokens text place counts stack within starts same counted is = record {
-  within = within;
-  starts = starts;
-  lexed = same;
-  read = ap Some (sym is);
-  few = tt;
-  counted = counted;
-  short = omega arith;
-}
-
 -- at the end of the text there are no more tokens
 no_more : (text : List ℕ) (place : ℕ) → length text ≤ place → tokens_from 0 place (drop place text) ≡ record { tokens = []; bad = None }
 unfolding tokens_from

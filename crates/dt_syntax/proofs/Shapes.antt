@@ -1,6 +1,6 @@
 -- What the first token of a part of the grammar says of the part, and where a part ends.
-use Rattle.std.proofs.Common.{◌≡◌, inl, inr, ℕ, suc, ◌+◌, ◌<◌, ◌≤◌, List, [], ◌∷◌, ◌++◌, Ok, Err, refl, sym, ap, ◌∙◌, subst, arith, append_assoc, take, drop}
-use Rattle.std.proofs.Common.{get_or, length, length-append, add-one, Bool, true, false, ℤ, ◌-◌, append-nil, map, Result, OnOk, MatchResult, cond, nat_eq, ◌⊎◌}
+use Rattle.std.proofs.Common.{◌≡◌, inl, inr, ℕ, suc, ◌+◌, ◌<◌, ◌≤◌, List, [], ◌∷◌, ◌++◌, refl, sym, ap, ◌∙◌, subst, arith, append_assoc, take, drop}
+use Rattle.std.proofs.Common.{get_or, length, length-append, add-one, Bool, true, false, ◌-◌, ◌⊎◌}
 use Rattle.std.proofs.Math.Seq.{take-length}
 use Rattle.dt_syntax.specs.declared.token.Token.{Token}
 use Rattle.dt_syntax.specs.declared.token.Token.TheVariants as tok
@@ -10,10 +10,10 @@ use Rattle.dt_syntax.specs.declared.operator.Op.TheVariants as op
 use Rattle.dt_syntax.specs.Grammar.{front_place, at, Bracketed, bracketed_tokens, Syntax, chain, minus, denial, int, text, truth, name, parens, of_key, made}
 use Rattle.dt_syntax.specs.Grammar.{Links, no_link, link, syntax_tokens, links_tokens, level_of, IsLevel, AreLinks, reads_int, reads_text, reads_presence}
 use Rattle.dt_syntax.specs.Grammar.{makes_length, makes_text, Item, item_tokens, items_tokens, IsItem, KeyPart, text_part, name_part, show_part, part_tokens}
-use Rattle.dt_syntax.specs.Grammar.{KeySyntax, key_tokens, mode_token, params, params_tokens, statements_tokens, ProcSyntax, proc_tokens, Statement, let_new}
+use Rattle.dt_syntax.specs.Grammar.{KeySyntax, key_tokens, mode_token, params_tokens, statements_tokens, ProcSyntax, proc_tokens, Statement, let_new}
 use Rattle.dt_syntax.specs.Grammar.{set_key, clear_key, when, choose, abort, give, Statements, nothing, first, statement_tokens, IsStatement, AreStatements}
 use Rattle.dt_syntax.specs.FrontsInner.{Stops, FrontStops, joined_part, NoElse}
-use Rattle.std.specs.List.{flat_map, list_any}
+use Rattle.std.specs.List.{flat_map}
 use Rattle.dt_lists.specs.Lists.{AllIn}
 
 pub up : (n : ℕ) (x : Syntax) → IsLevel (suc n) x → IsLevel (n + 1) x
@@ -77,21 +77,6 @@ left_is t ts = ap (λ n. take n ts) (let e : suc (length ts) - 1 ≡ length ts =
 pub cut_first : (ts : List Placed) (one : Placed) → 1 ≤ length ts → one ≡ get_or ts 0 one → ts ≡ one ∷ left_of ts
 cut_first [] one some is = absurd (omega arith)
 cut_first (t ∷ ts) one some is = ap (λ v. v ∷ ts) (sym is) ∙ ap (λ v. one ∷ v) (sym (left_is t ts))
-
-pub some_tokens : (x : Syntax) → 0 < length (syntax_tokens x)
-some_tokens (chain head links) = omega (arith, some_tokens head, length-append (syntax_tokens head) (links_tokens links))
-some_tokens (minus p x) = omega arith
-some_tokens (denial p x) = omega arith
-some_tokens (int p z) = omega arith
-some_tokens (text p z) = omega arith
-some_tokens (truth p z) = omega arith
-some_tokens (name p z) = omega arith
-some_tokens (parens p x q) = omega arith
-some_tokens (of_key p r b) = omega arith
-some_tokens (made p m o x q) = omega arith
-
-pub not_empty : (x : Syntax) (rest ts : List Placed) → length ts < 1 → syntax_tokens x ++ rest ≡ ts → ⊥
-not_empty x rest ts none e = omega (arith, some_tokens x, length-append (syntax_tokens x) rest, ap length e)
 
 -- where one does, it is the first
 pub record IsLinked (n : ℕ) (p : ℕ) (o : Op) (after : List Placed) (ls : Links) (rest : List Placed) : Type 0 where

@@ -2,4 +2,4 @@
 -- transaction, after writes and after an effect, when two tables are equal, when a home is a region, and when a place is
 -- left for a move.
 pub use Rattle.dt_table.proofs.TableLaws.{all_written-keeps, counter_of-apply, get-put, home_after-below, home_of-below, homes-apply, move_at, moves_of-apply, moves_of-opening}
-pub use Rattle.dt_table.proofs.TableLaws.{place_for, regions-apply, same_table, value_of-maybe_moved, version-apply}
+pub use Rattle.dt_table.proofs.TableLaws.{regions-apply, same_table, version-apply}

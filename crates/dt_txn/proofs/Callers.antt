@@ -3,7 +3,7 @@
 -- that what a body gives is never stale, and what the fronts of logs come to.
 pub use Rattle.dt_txn.proofs.Asking.{ask_length}
 pub use Rattle.dt_txn.proofs.FewPlaces.{few_places}
-pub use Rattle.dt_txn.proofs.Formed.{can_run, formed, moves_unit}
+pub use Rattle.dt_txn.proofs.Formed.{can_run, moves_unit}
 pub use Rattle.dt_txn.proofs.Fronts.{fronts_at, fronts_grown}
 pub use Rattle.dt_txn.proofs.HomeSets.{set_of_ascending, with_number_all}
 pub use Rattle.dt_txn.proofs.PartKeys.{annotated_uses}

@@ -53,11 +53,6 @@ mapped_get f [] i x e = cc
 mapped_get f (y ∷ ys) zero x e = let s : y ≡ x = cc in ap (λ z. Some (f z)) s
 mapped_get f (y ∷ ys) (suc i) x e = mapped_get f ys i x e
 
-get_mapped : {A B : Type 0} (f : A → B) (xs : List A) (i : ℕ) (b : B) → slice_get (map f xs) i ≡ Some b → (x : A) × (slice_get xs i ≡ Some x) × (f x ≡ b)
-get_mapped f [] i b e = cc
-get_mapped f (y ∷ ys) zero b e = (y, refl, some_same e)
-get_mapped f (y ∷ ys) (suc i) b e = get_mapped f ys i b e
-
 -- nothing leaves
 leaves_none : (g : GraphView) → Leaves [] g g
 leaves_none g = record {

@@ -7,7 +7,7 @@ use Rattle.dt_lists.specs.Lists.{AnyIn, AllIn, Has, Distinct}
 use Rattle.dt_lists.proofs.Callers.{all_get, all_put, any_get, any_put, has_filter, has_of_filtered, has_place}
 use Rattle.dt_access.specs.declared.TxnId.{TxnId}
 use Rattle.dt_sched.specs.Views.{View, IsWellFormed}
-use Rattle.dt_queue.specs.Queues.{Waiting, HasDistinctSlots, neighbours}
+use Rattle.dt_queue.specs.Queues.{Waiting, neighbours}
 use Rattle.dt_waits.specs.Left.{IsFree}
 use Rattle.dt_waits.specs.Waits.{id_at, AreUses, HoldsUp, others, degree}
 use Rattle.dt_waits.proofs.Nearest.{neighbour_waits, slot_other, slot_same}

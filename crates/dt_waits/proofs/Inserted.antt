@@ -25,7 +25,7 @@ use Rattle.dt_waits.proofs.Test.{executable_in_resolved, executable_of_free, fre
 use Rattle.dt_waits.proofs.Uses.{part_there, uses_inserted}
 use Rattle.dt_waits.proofs.Nearest.{slot_other}
 use Rattle.dt_waits.proofs.Degrees.{degree_pushed}
-use Rattle.dt_waits.proofs.Free.{free_by_degree, id_has, same_place, zero_sum}
+use Rattle.dt_waits.proofs.Free.{free_by_degree, id_has, same_place}
 use Rattle.dt_waits.proofs.Complete.{all_lacking, complete_of_none, filter_whole, lacking_beside, lacking_less, none_lacking}
 
 -- whether t is in a resolved class

@@ -1,11 +1,11 @@
 -- What the scheduler with queues keeps is the graph of what was inserted, resolved and done, at first and after each call; and
 -- what its calls read off it is what may be executed.
-use Rattle.std.proofs.Common.{◌≡◌, ◌<◌, ◌+◌, ◌⊎◌, ◌↔◌, ◌∙◌, ℕ, zero, suc, List, [], ◌∷◌, ◌++◌, length, map, replicate, set, slice_get, Option, None, Some, MatchOption, IsSome}
-use Rattle.std.proofs.Common.{option_to_list, Result, Ok, Err, OnOk, OnErr, is_err, true, false, ◌-◌, ap₂, refl, sym, ap, subst, inl, inr, arith}
+use Rattle.std.proofs.Common.{◌≡◌, ◌<◌, ◌+◌, ◌↔◌, ◌∙◌, ℕ, zero, suc, List, [], ◌∷◌, ◌++◌, length, map, replicate, set, slice_get, Option, None, Some, MatchOption}
+use Rattle.std.proofs.Common.{◌-◌, refl, sym, ap, subst, inl, inr, arith}
 use Rattle.std.proofs.lemmas.List.{length-append, set-get_or}
 use Rattle.std.proofs.lemmas.Option.{get_or_from_slice_get, slice_get-get_or}
 use Rattle.dt_lists.specs.Lists.{AllIn, Has, EachThen}
-use Rattle.dt_lists.proofs.Callers.{any_at, any_from_at, any_get, pairwise_length, place_within, same_head, same_tail}
+use Rattle.dt_lists.proofs.Callers.{any_at, any_from_at, any_get, pairwise_length, place_within}
 use Rattle.dt_access.specs.Orders.{AreAscendingHomes}
 use Rattle.dt_access.specs.declared.TxnId.{TxnId}
 use Rattle.dt_access.specs.declared.Part.{Part}
