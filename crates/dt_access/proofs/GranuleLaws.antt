@@ -8,7 +8,7 @@ use Rattle.std.proofs.lemmas.Bool.Decides.{nat_tests}
 use Rattle.std.proofs.lemmas.List.{take_all, length-take, take-append-drop}
 use Rattle.std.proofs.lemmas.List.Folds.{list_all-append}
 use Rattle.std.proofs.lemmas.List.Sums.{take_while-cons}
-use Rattle.dt_lists.proofs.Callers.{same_tail}
+use Rattle.dt_lists.proofs.Callers.{same_tail, true_of_not}
 use Rattle.dt_text.specs.Texts.{IsKey, is_key_byte}
 use Rattle.dt_access.specs.Granules.{Bytes, granule_of, unit_of}
 
@@ -22,10 +22,6 @@ step_inner b bs e = take_while-cons inner b bs ∙ ap (λ t. cond t (b ∷ take_
 
 step_slash : (b : ℕ) (bs : Bytes) → inner b ≡ false → take_while inner (b ∷ bs) ≡ []
 step_slash b bs e = take_while-cons inner b bs ∙ ap (λ t. cond t (b ∷ take_while inner bs) []) e
-
-true_of_not : (t : Bool) → not t ≡ false → t ≡ true
-true_of_not true h = refl
-true_of_not false h = cc
 
 -- a byte is a `/` or is none
 by_byte : (P : Type 0) (b : ℕ) → (inner b ≡ true → P) → (inner b ≡ false → P) → P

@@ -4,8 +4,9 @@ use Rattle.std.specs.Prelude.{◌↔◌, MatchOption, Option, None}
 use Rattle.std.specs.Cmp.Lexicographic.{bytes_decides}
 use Rattle.std.proofs.lemmas.Bool.{true≢false}
 use Rattle.std.proofs.lemmas.List.{take-append-drop}
-use Rattle.std.proofs.Math.Seq.{drop-append_seam, drop-cons, take-append_seam}
+use Rattle.std.proofs.Math.Seq.{drop-cons, take-append_seam}
 use Rattle.dt_lists.specs.Lists.{AllIn}
+use Rattle.dt_lists.proofs.Callers.{same_rest}
 use Rattle.dt_text.specs.declared.Value.{Value}
 use Rattle.dt_access.specs.Clash.{Bytes, same_key}
 use Rattle.dt_proc.specs.declared.tree.KeyItem.{KeyItem}
@@ -28,9 +29,6 @@ pub front_cases : {X : Type 0} (front bytes : Bytes) (now : X → Bytes) (r : Op
     → MatchOption r ((rest : Bytes) → ¬ (bytes ≡ front ++ rest)) (λ x. bytes ≡ front ++ now x)
 front_cases front bytes now None h = front_absent front bytes h
 front_cases front bytes now (Some x) h = front_there front bytes (now x) h.0 h.1
-
-same_rest : (front a b : Bytes) → front ++ a ≡ front ++ b → a ≡ b
-same_rest front a b e = sym (drop-append_seam front a) ∙ ap (drop (length front)) e ∙ drop-append_seam front b
 
 -- what is known after the first parts of a key expression
 pub record Giving (args : List Value) (items : List KeyItem) (bytes : Bytes) (index : ℕ) (rest : Bytes) : Type 0 where

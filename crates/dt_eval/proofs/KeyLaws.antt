@@ -9,6 +9,7 @@ use Rattle.std.specs.Ordering.{nat_cmp, is_eq}
 use Rattle.std.specs.declared.cmp.Ordering.{Ordering}
 use Rattle.std.specs.declared.cmp.Ordering.TheVariants.{Less, Equal, Greater}
 use Rattle.std.specs.Cmp.Lexicographic.{slice_cmp, bytes_decides, texts_ties, nat_list_cmp_total}
+use Rattle.std.proofs.lemmas.Bool.{or_left, or_right}
 use Rattle.dt_lists.specs.Lists.{AnyIn, AllIn, Pairwise}
 use Rattle.dt_lists.proofs.Callers.{place_within}
 use Rattle.dt_lists.proofs.Callers.{all_map}
@@ -134,14 +135,6 @@ module _ (Q : Bytes × Bool → Type 0) (left : (key : Bytes) (m n : Bool) → Q
   uses_any : (proc : ProcTree) (args : List Value) → AnyIn Q (map (use_of args) proc.keys) → AnyIn Q (distinct_uses proc args)
   uses_any proc args h = fold_adds (map (use_of args) proc.keys) [] h
 
--- the first or the second use writes, and so do both as one
-left_writes : (m n : Bool) → m ≡ true → (m || n) ≡ true
-left_writes m n e = ap (λ x. x || n) e
-
-right_writes : (m n : Bool) → n ≡ true → (m || n) ≡ true
-right_writes true n e = refl
-right_writes false n e = e
-
 -- no key of a procedure takes a whole granule
 pub keys_narrow : (proc : ProcTree) (args : List Value) → AllIn (λ u. is_whole u.1 ≡ false) (keys_of proc args)
 keys_narrow proc args = narrow (distinct_uses proc args)
@@ -158,7 +151,7 @@ keys_narrow proc args = narrow (distinct_uses proc args)
 pub keys_write : (key : Bytes) (proc : ProcTree) (args : List Value) → AnyIn (λ u. (u.0 ≡ key) × (u.1 ≡ true)) (map (use_of args) proc.keys)
     → AnyIn (λ u. (u.0 ≡ key) × (u.1 ≡ Write)) (keys_of proc args)
 keys_write key proc args h = modes_any _ _ (λ u q. (q.0, ap mode_of q.1)) (distinct_uses proc args)
-    (uses_any (λ u. (u.0 ≡ key) × (u.1 ≡ true)) (λ k m n q. (q.0, left_writes m n q.1)) (λ k m n q. (q.0, right_writes m n q.1)) proc args h)
+    (uses_any (λ u. (u.0 ≡ key) × (u.1 ≡ true)) (λ k m n q. (q.0, or_left m n q.1)) (λ k m n q. (q.0, or_right m n q.1)) proc args h)
 
 -- a key that some declaration gives is there
 pub keys_there : (key : Bytes) (proc : ProcTree) (args : List Value) → AnyIn (λ u. u.0 ≡ key) (map (use_of args) proc.keys) → AnyIn (λ u. u.0 ≡ key) (keys_of proc args)

@@ -1,7 +1,7 @@
 -- Laws of fronts of lists, and of lists that are related place by place.
-use Rattle.std.proofs.Common.{◌≡◌, ◌≤◌, ℕ, zero, suc, List, [], ◌∷◌, ◌++◌, length, get_or, map, take, drop, refl, sym, ap, subst, ◌∙◌, append_assoc, append-nil}
+use Rattle.std.proofs.Common.{◌≡◌, ◌≤◌, ℕ, zero, suc, List, [], ◌∷◌, ◌++◌, length, get_or, map, take, drop, refl, sym, ap, subst, ◌∙◌, append_assoc, append-nil, ◌+◌}
 use Rattle.std.proofs.Common.{take-append-drop, inl, inr, arith}
-use Rattle.std.proofs.lemmas.List.{map-append}
+use Rattle.std.proofs.lemmas.List.{length-append, map-append}
 use Rattle.dt_lists.specs.Lists.{AnyIn, AllIn, SomeThen, EachThen, IsFront, Pairwise}
 use Rattle.dt_lists.proofs.Words.{any_append_left, some_append_left, all_append_left, each_append_left}
 use Rattle.dt_lists.proofs.Keys.{some_in_front}
@@ -19,6 +19,9 @@ front_append xs ys = (ys, refl)
 
 pub front_empty : {A : Type 0} (xs : List A) → IsFront [] xs
 front_empty xs = (xs, refl)
+
+pub front_length : {A : Type 0} (xs ys : List A) → IsFront xs ys → length xs ≤ length ys
+front_length xs ys f = let e : length (xs ++ f.0) ≡ length xs + length f.0 = length-append xs f.0 in omega (arith, e, ap length f.1)
 
 pub front_take : {A : Type 0} (n : ℕ) (xs : List A) → IsFront (take n xs) xs
 front_take n xs = (drop n xs, take-append-drop n xs)
@@ -74,3 +77,9 @@ pairwise_any R P Q [] ys f p e = absurd e
 pairwise_any R P Q (x ∷ xs) [] f p e = p
 pairwise_any R P Q (x ∷ xs) (y ∷ ys) f p (inl a) = inl (f x y p.0 a)
 pairwise_any R P Q (x ∷ xs) (y ∷ ys) f p (inr e) = inr (pairwise_any R P Q xs ys f p.1 e)
+
+pub pairwise_more : {A B : Type 0} (R : A → B → Type 0) (xs : List A) (ys : List B) (x : A) (y : B) → Pairwise R xs ys → R x y → Pairwise R (xs ++ x ∷ []) (ys ++ y ∷ [])
+pairwise_more R [] [] x y p r = (r, tt)
+pairwise_more R [] (b ∷ ys) x y p r = absurd p
+pairwise_more R (a ∷ xs) [] x y p r = absurd p
+pairwise_more R (a ∷ xs) (b ∷ ys) x y p r = (p.0, pairwise_more R xs ys x y p.1 r)

@@ -172,3 +172,6 @@ each_across R (z ∷ zs) ys x y a (inr h) hy = each_across R zs ys x y a.1 h hy
 
 pub within_get : {A : Type 0} (xs ys : List A) → IsWithin xs ys → (x : A) → Has xs x → Has ys x
 within_get xs ys w x h = all_get (Has ys) xs w x h
+
+pub within_refl : {A : Type 0} (xs : List A) → IsWithin xs xs
+within_refl xs = all_put (Has xs) xs (λ x h. h)

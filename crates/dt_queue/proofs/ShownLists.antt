@@ -1,10 +1,10 @@
 -- The list of entries that is shown of the cells in their order: what stands before and after an entry, and what is nearest.
-use Rattle.std.proofs.Common.{◌≡◌, ◌≢◌, ℕ, ◌<◌, ◌≤◌, Bool, true, false, cond, not, ◌==◌, ◌&&◌, ◌||◌}
+use Rattle.std.proofs.Common.{◌≡◌, ◌≢◌, ℕ, ◌<◌, ◌≤◌, Bool, true, false, cond, not, ◌==◌, ◌&&◌, ◌||◌, eqb-true, lt-ltb}
 use Rattle.std.proofs.Common.{nat_lt, List, [], ◌∷◌, map, Some, refl, ap, sym, subst, inl, inr, arith, ◌∙◌}
 use Rattle.std.specs.List.{filter, list_any}
 use Rattle.slab.specs.Slab.{Slab, get}
 use Rattle.dt_lists.specs.Lists.{AllIn, EachThen, Has}
-use Rattle.dt_lists.proofs.Callers.{all_get, all_map, all_put, any_of_test, any_put, any_get, test_of_any}
+use Rattle.dt_lists.proofs.Callers.{all_get, all_map, all_put, any_of_test, any_put, any_get, test_of_any, filter_none}
 use Rattle.dt_access.specs.Clash.{Bytes}
 use Rattle.dt_queue.specs.declared.cell.Cell.{Cell}
 use Rattle.dt_queue.specs.Kept.{entry}
@@ -38,14 +38,6 @@ lesser n K = filter (λ (p : ℕ × Cell). nat_lt p.1.number n) K
 abbrev pub greater : ℕ → List (ℕ × Cell) → List (ℕ × Cell)
 greater n K = filter (λ (p : ℕ × Cell). nat_lt n p.1.number) K
 
-filter_out : (test : ℕ × Cell → Bool) (xs : List (ℕ × Cell)) → AllIn (λ x. test x ≡ false) xs → filter test xs ≡ []
-filter_out test [] all = refl
-filter_out test (x ∷ xs) all = by (test x) all.0 (filter_out test xs all.1)
-  where
-    by : (t : Bool) → t ≡ false → filter test xs ≡ [] → cond t (x ∷ filter test xs) (filter test xs) ≡ []
-    by true e rest = cc
-    by false e rest = rest
-
 filter_in : (test : ℕ × Cell → Bool) (xs : List (ℕ × Cell)) → AllIn (λ x. test x ≡ true) xs → filter test xs ≡ xs
 filter_in test [] all = refl
 filter_in test (x ∷ xs) all = by (test x) all.0 (filter_in test xs all.1)
@@ -67,14 +59,8 @@ tail_has : (x p : ℕ × Cell) (xs : List (ℕ × Cell)) → Has (x ∷ xs) p �
 tail_has x p xs (inl e) ne = absurd (ne (slot_of x p e))
 tail_has x p xs (inr h) ne = h
 
-equal : (a b : ℕ) → (a == b) ≡ true → a ≡ b
-equal a b e = grind (arith, e)
-
 unequal : (a b : ℕ) → (a == b) ≡ false → a ≢ b
 unequal a b e f = absurd (grind (arith, e, f))
-
-below_true : (a b : ℕ) → a < b → nat_lt a b ≡ true
-below_true a b lt = grind (arith, lt)
 
 below_false : (a b : ℕ) → b ≤ a → nat_lt a b ≡ false
 below_false a b le = grind (arith, le)
@@ -86,7 +72,7 @@ module _ (names : List (ℕ × Bytes)) where
   entry_is (x ∷ xs) p s h = by (x.0 == p.0) refl (λ g. entry_is xs p s.1 g)
     where
       by : (t : Bool) → (x.0 == p.0) ≡ t → (Has xs p → entry_at (map (entry names) xs) p.0 ≡ entry names p) → cond t (entry names x) (entry_at (map (entry names) xs) p.0) ≡ entry names p
-      by true e rest = ap (entry names) (head_is x p xs s h (equal x.0 p.0 e))
+      by true e rest = ap (entry names) (head_is x p xs s h (eqb-true x.0 p.0 e))
       by false e rest = rest (tail_has x p xs h (unequal x.0 p.0 e))
 
   -- what stands before an entry are those with lesser numbers
@@ -97,8 +83,8 @@ module _ (names : List (ℕ × Bytes)) where
       by : (t : Bool) → (x.0 == p.0) ≡ t → (Has xs p → pushed_before (map (entry names) xs) p.0 ≡ map (entry names) (lesser p.1.number xs))
           → cond t [] (entry names x ∷ pushed_before (map (entry names) xs) p.0) ≡ map (entry names) (lesser p.1.number (x ∷ xs))
       by true e rest =
-          let same = head_is x p xs s h (equal x.0 p.0 e) in
-          sym (ap (map (entry names)) (filter_out (λ (q : ℕ × Cell). nat_lt q.1.number p.1.number) (x ∷ xs)
+          let same = head_is x p xs s h (eqb-true x.0 p.0 e) in
+          sym (ap (map (entry names)) (filter_none (λ (q : ℕ × Cell). nat_lt q.1.number p.1.number) (x ∷ xs)
           (own same, all_map (Rise x) (λ (q : ℕ × Cell). nat_lt q.1.number p.1.number ≡ false) xs (λ q lt. higher same q lt) num.0)))
         where
           own : x ≡ p → nat_lt x.1.number p.1.number ≡ false
@@ -106,7 +92,7 @@ module _ (names : List (ℕ × Bytes)) where
 
           higher : x ≡ p → (q : ℕ × Cell) → x.1.number < q.1.number → nat_lt q.1.number p.1.number ≡ false
           higher f q lt = let n : x.1.number ≡ p.1.number = ap (λ (y : ℕ × Cell). y.1.number) f in below_false _ _ (omega (arith, n, lt))
-      by false e rest = pass (nat_lt x.1.number p.1.number) (below_true _ _ (all_get (Rise x) xs num.0 p (tail_has x p xs h (unequal x.0 p.0 e)))) (rest (tail_has x p xs h (unequal x.0 p.0 e)))
+      by false e rest = pass (nat_lt x.1.number p.1.number) (lt-ltb _ _ (all_get (Rise x) xs num.0 p (tail_has x p xs h (unequal x.0 p.0 e)))) (rest (tail_has x p xs h (unequal x.0 p.0 e)))
         where
           pass : (t : Bool) → t ≡ true → pushed_before (map (entry names) xs) p.0 ≡ map (entry names) (lesser p.1.number xs)
               → entry names x ∷ pushed_before (map (entry names) xs) p.0 ≡ map (entry names) (cond t (x ∷ lesser p.1.number xs) (lesser p.1.number xs))
@@ -121,7 +107,7 @@ module _ (names : List (ℕ × Bytes)) where
       by : (t : Bool) → (x.0 == p.0) ≡ t → (Has xs p → pushed_after (map (entry names) xs) p.0 ≡ map (entry names) (greater p.1.number xs))
           → cond t (map (entry names) xs) (pushed_after (map (entry names) xs) p.0) ≡ map (entry names) (greater p.1.number (x ∷ xs))
       by true e rest =
-          let same = head_is x p xs s h (equal x.0 p.0 e) in
+          let same = head_is x p xs s h (eqb-true x.0 p.0 e) in
           ap (map (entry names)) (sym (pass (nat_lt p.1.number x.1.number) (own same)
           (filter_in (λ (q : ℕ × Cell). nat_lt p.1.number q.1.number) xs (all_map (Rise x) (λ (q : ℕ × Cell). nat_lt p.1.number q.1.number ≡ true) xs (λ q lt. higher same q lt) num.0))))
         where
@@ -129,7 +115,7 @@ module _ (names : List (ℕ × Bytes)) where
           own f = let n : x.1.number ≡ p.1.number = ap (λ (y : ℕ × Cell). y.1.number) f in below_false _ _ (omega (arith, n))
 
           higher : x ≡ p → (q : ℕ × Cell) → x.1.number < q.1.number → nat_lt p.1.number q.1.number ≡ true
-          higher f q lt = let n : x.1.number ≡ p.1.number = ap (λ (y : ℕ × Cell). y.1.number) f in below_true _ _ (omega (arith, n, lt))
+          higher f q lt = let n : x.1.number ≡ p.1.number = ap (λ (y : ℕ × Cell). y.1.number) f in lt-ltb _ _ (omega (arith, n, lt))
 
           pass : (t : Bool) → t ≡ false → greater p.1.number xs ≡ xs → cond t (x ∷ greater p.1.number xs) (greater p.1.number xs) ≡ xs
           pass true f g = cc

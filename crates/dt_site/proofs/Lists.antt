@@ -14,6 +14,7 @@ use Rattle.dt_sched.specs.Views.{View, log_at}
 use Rattle.dt_sched.specs.Sched.{parts_in}
 use Rattle.dt_txn.specs.declared.Txn.{Txn}
 use Rattle.dt_txn.specs.Replica.{fronts}
+use Rattle.dt_sched.proofs.Callers.{parts_cons}
 use Rattle.dt_region.specs.Region.{find_txn}
 use Rattle.dt_region.specs.Rules.{keep, keep_all}
 use Rattle.dt_session.specs.World.{Submission}
@@ -27,9 +28,6 @@ fronts_set (m ∷ lengths) (l ∷ logs) zero n log lt = refl
 fronts_set (m ∷ lengths) (l ∷ logs) (suc home) n log lt = ap (λ v. take m l ∷ v) (fronts_set lengths logs home n log (omega arith))
 
 -- how many parts there are
-
-parts_cons : (l : List Part) (logs : View) → parts_in (l ∷ logs) ≡ length l + parts_in logs
-parts_cons l logs = sum_by-cons length l logs
 
 pub parts_set : (logs : View) (home : ℕ) (part : Part) → parts_in (set logs home (log_at logs home ++ part ∷ [])) ≤ parts_in logs + 1
 parts_set [] home part = omega arith
