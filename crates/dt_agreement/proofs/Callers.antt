@@ -85,7 +85,7 @@ module _ (cluster : Cluster) (ok : IsValidCluster cluster) (workload : Workload)
 
 pub submits : (cluster : Cluster) → IsValidCluster cluster → (workload : Workload) (w : World) (order : List TxnId) (region : ℕ) (name : Bytes)
     → MaySubmit cluster w region (session_at workload.sessions w.places region name) → Inv cluster workload w order → Submits cluster workload w region name
-submits cluster ok workload w order region name may i = rule1.submits i ok region name may
+submits cluster ok workload w order region name may i = rule1.next_call_submits i ok region name may
 
 pub executable_known : (cluster : Cluster) (workload : Workload) (w : World) (order : List TxnId) (region : ℕ) (id : TxnId) → region < cluster.regions
     → MayStep (received_logs w region) (node_at w region).here (Execute region id) → Inv cluster workload w order → WasSubmitted w id

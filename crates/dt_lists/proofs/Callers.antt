@@ -5,13 +5,13 @@ pub use Rattle.dt_lists.proofs.Words.{all_put, any_append, any_append_left, any_
 pub use Rattle.dt_lists.proofs.Words.{any_of_image, any_put, each_across, each_append, each_append_left, each_append_right, each_image, each_map}
 pub use Rattle.dt_lists.proofs.Words.{each_of_image, has_map, some_across, some_append_left, some_get, some_map, some_of_two, within_get, within_refl}
 pub use Rattle.dt_lists.proofs.Distinct.{distinct_push, distinct_within, two_of_different}
-pub use Rattle.dt_lists.proofs.Keys.{KeyBefore, key_before_irreflexive, key_before_transitive, key_first, key_second, some_in_front}
+pub use Rattle.dt_lists.proofs.Keys.{HasKeyBefore, key_before_irreflexive, key_before_transitive, key_first, key_second, some_in_front}
 pub use Rattle.dt_lists.proofs.Fronts.{all_front, any_front, each_front, front_append, front_empty, front_map, front_refl, front_take, front_takes}
 pub use Rattle.dt_lists.proofs.Fronts.{front_length, front_trans, pairwise_any, pairwise_at, pairwise_length, pairwise_more, pairwise_refl, some_back, some_front}
 pub use Rattle.dt_lists.proofs.Tests.{any_of_test, either_side, test_of_any, true_of_not}
 pub use Rattle.dt_lists.proofs.Decided.{either_all, either_and, either_and3, either_any, either_has, either_implies, either_le, either_list}
 pub use Rattle.dt_lists.proofs.Decided.{either_nat, either_not, either_or, either_same, either_some, either_true}
-pub use Rattle.dt_lists.proofs.Least.{IsLeast, least}
+pub use Rattle.dt_lists.proofs.Least.{IsMinimal, least}
 pub use Rattle.dt_lists.proofs.Ascending.{IsPicked, ascending_same, pick}
 pub use Rattle.dt_lists.proofs.Before.{PassesAtFront, Spot, all_of_gets, before_has, each_at, each_of_steps, filter_none, front_filtered}
 pub use Rattle.dt_lists.proofs.Before.{get_filtered, get_front, get_seam, has_before, has_middle, if_passes, same_by_key, some_each, spot, spot_has}

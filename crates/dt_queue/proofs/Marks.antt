@@ -185,8 +185,8 @@ none_past low high ms le = filter_none (is_between low high) ms (none ms)
 
 -- ---- what the searches answer
 
-pub past_end : (p n : ℕ) → (p < n → false ≡ true) → n ≤ p
-past_end p n h = elim (either_le n p) [ inl le ↦ le | inr more ↦ absurd (clash (h (omega (arith, more)))) ]
+pub past_all_places : (p n : ℕ) → (p < n → false ≡ true) → n ≤ p
+past_all_places p n h = elim (either_le n p) [ inl le ↦ le | inr more ↦ absurd (clash (h (omega (arith, more)))) ]
   where
     clash : false ≡ true → ⊥
     clash e = cc

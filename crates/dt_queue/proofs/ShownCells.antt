@@ -22,7 +22,7 @@ use Rattle.dt_queue.specs.Next.{IsFirstAfter}
 use Rattle.dt_queue.specs.Queues.{IsQueued, Waiting, follower_of, followers_after, is_at, is_neighbour, nearest, neighbours, taken_out}
 use Rattle.dt_queue.specs.Rows.{granule_at, granule_name, name_at}
 use Rattle.dt_queue.proofs.InOrder.{IsListed, Rise, listed, listed_less, listed_more, same_list}
-use Rattle.dt_queue.proofs.ShownLists.{Slots, after_is, before_is, entry_is, greater, lesser, meets, near_in, near_rises, nearest_is, of_near, slots_of, to_near, without_is}
+use Rattle.dt_queue.proofs.ShownLists.{Slots, after_is, before_is, entry_is, greater, lesser, meets, near_in, near_rises, nearest_is, of_near, slots_of_list, to_near, without_is}
 
 some_same : {A : Type 0} (a b : A) → Some a ≡ Some b → a ≡ b
 some_same a b e = cc
@@ -88,7 +88,7 @@ module _ (k : Kept) (kept : AreQueuesKept k) where
   the_list = listed k.cells kept.alone
 
   the_slots : Slots (in_order (entries k.cells))
-  the_slots = slots_of k.cells (in_order (entries k.cells)) the_list
+  the_slots = slots_of_list k.cells (in_order (entries k.cells)) the_list
 
   cell_there : (p : ℕ × Cell) → Has (in_order (entries k.cells)) p → get k.cells p.0 ≡ Some p.1
   cell_there p h = (the_list.members p).0 h

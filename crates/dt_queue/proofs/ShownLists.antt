@@ -15,8 +15,8 @@ use Rattle.dt_queue.proofs.InOrder.{IsListed, Rise}
 abbrev pub Slots : List (ℕ × Cell) → Type 0
 Slots K = EachThen (λ (p q : ℕ × Cell). ¬ (p.0 ≡ q.0)) K
 
-pub slots_of : (cells : Slab Cell) (K : List (ℕ × Cell)) → IsListed cells K → Slots K
-slots_of cells K l = by K (λ p h. (l.members p).0 h) l.numbered
+pub slots_of_list : (cells : Slab Cell) (K : List (ℕ × Cell)) → IsListed cells K → Slots K
+slots_of_list cells K l = by K (λ p h. (l.members p).0 h) l.numbered
   where
     apart : (p q : ℕ × Cell) → get cells p.0 ≡ Some p.1 → get cells q.0 ≡ Some q.1 → p.1.number < q.1.number → p.0 ≡ q.0 → ⊥
     apart p q a b lt e = let same : p.1 ≡ q.1 = some (sym a ∙ ap (get cells) e ∙ b) in omega (arith, lt, ap (λ (c : Cell). c.number) same)
@@ -171,8 +171,8 @@ module _ (names : List (ℕ × Bytes)) where
       by false e = e
 
   -- nothing of a list with a greater number clashes with both
-  abbrev pub IsFree : ℕ × Cell → List (ℕ × Cell) → ℕ × Cell → Type 0
-  IsFree x B b = (m : ℕ × Cell) → Has B m → b.1.number < m.1.number → meets b m ≡ true → ¬ (meets m x ≡ true)
+  abbrev pub IsFreeOfBoth : ℕ × Cell → List (ℕ × Cell) → ℕ × Cell → Type 0
+  IsFreeOfBoth x B b = (m : ℕ × Cell) → Has B m → b.1.number < m.1.number → meets b m ≡ true → ¬ (meets m x ≡ true)
 
   and_both : (s t : Bool) → s ≡ true → t ≡ true → (s && t) ≡ true
   and_both true true e f = refl
@@ -203,39 +203,39 @@ module _ (names : List (ℕ × Bytes)) where
   free_to x b later f = true_of_not _ (λ e. let r = any_get (λ m. (meets b m && meets m x) ≡ true) later (any_of_test (λ m. meets b m && meets m x) later e) in
       f r.0 r.1 (and_left (meets b r.0) (meets r.0 x) r.2) (and_right (meets b r.0) (meets r.0 x) r.2))
 
-  pub of_near : (x : ℕ × Cell) (B : List (ℕ × Cell)) → EachThen Rise B → (b : ℕ × Cell) → Has (near_in x B) b → Has B b × (meets b x ≡ true) × IsFree x B b
+  pub of_near : (x : ℕ × Cell) (B : List (ℕ × Cell)) → EachThen Rise B → (b : ℕ × Cell) → Has (near_in x B) b → Has B b × (meets b x ≡ true) × IsFreeOfBoth x B b
   of_near x [] num b h = absurd h
   of_near x (y ∷ later) num b h = by (meets y x && is_free x y later) refl h (λ g. of_near x later num.1 b g)
     where
       lower : Has later b → y.1.number < b.1.number
       lower g = all_get (Rise y) later num.0 b g
 
-      by : (t : Bool) → (meets y x && is_free x y later) ≡ t → Has (cond t (y ∷ near_in x later) (near_in x later)) b → (Has (near_in x later) b → Has later b × (meets b x ≡ true) × IsFree x later b)
-          → Has (y ∷ later) b × (meets b x ≡ true) × IsFree x (y ∷ later) b
+      by : (t : Bool) → (meets y x && is_free x y later) ≡ t → Has (cond t (y ∷ near_in x later) (near_in x later)) b → (Has (near_in x later) b → Has later b × (meets b x ≡ true) × IsFreeOfBoth x later b)
+          → Has (y ∷ later) b × (meets b x ≡ true) × IsFreeOfBoth x (y ∷ later) b
       by true e (inl f) rest = (
         inl f,
         subst (λ z. meets z x ≡ true) f (and_left _ _ e),
-        subst (IsFree x (y ∷ later)) f (λ m g lt s. elim g [ inl same ↦ absurd (self m same lt) | inr k ↦ free_of x y later (and_right (meets y x) _ e) m k s ]),
+        subst (IsFreeOfBoth x (y ∷ later)) f (λ m g lt s. elim g [ inl same ↦ absurd (self m same lt) | inr k ↦ free_of x y later (and_right (meets y x) _ e) m k s ]),
       )
         where
           self : (m : ℕ × Cell) → y ≡ m → y.1.number < m.1.number → ⊥
           self m same lt = omega (arith, lt, ap (λ (z : ℕ × Cell). z.1.number) same)
       by true e (inr g) rest = more (rest g)
         where
-          more : Has later b × (meets b x ≡ true) × IsFree x later b → Has (y ∷ later) b × (meets b x ≡ true) × IsFree x (y ∷ later) b
+          more : Has later b × (meets b x ≡ true) × IsFreeOfBoth x later b → Has (y ∷ later) b × (meets b x ≡ true) × IsFreeOfBoth x (y ∷ later) b
           more r = (inr r.0, r.1, λ m k lt s. elim k [ inl same ↦ absurd (behind m same lt (lower r.0)) | inr j ↦ r.2 m j lt s ])
             where
               behind : (m : ℕ × Cell) → y ≡ m → b.1.number < m.1.number → y.1.number < b.1.number → ⊥
               behind m same lt le = omega (arith, lt, le, ap (λ (z : ℕ × Cell). z.1.number) same)
       by false e g rest = more (rest g)
         where
-          more : Has later b × (meets b x ≡ true) × IsFree x later b → Has (y ∷ later) b × (meets b x ≡ true) × IsFree x (y ∷ later) b
+          more : Has later b × (meets b x ≡ true) × IsFreeOfBoth x later b → Has (y ∷ later) b × (meets b x ≡ true) × IsFreeOfBoth x (y ∷ later) b
           more r = (inr r.0, r.1, λ m k lt s. elim k [ inl same ↦ absurd (behind m same lt (lower r.0)) | inr j ↦ r.2 m j lt s ])
             where
               behind : (m : ℕ × Cell) → y ≡ m → b.1.number < m.1.number → y.1.number < b.1.number → ⊥
               behind m same lt le = omega (arith, lt, le, ap (λ (z : ℕ × Cell). z.1.number) same)
 
-  pub to_near : (x : ℕ × Cell) (B : List (ℕ × Cell)) → EachThen Rise B → (b : ℕ × Cell) → Has B b → meets b x ≡ true → IsFree x B b → Has (near_in x B) b
+  pub to_near : (x : ℕ × Cell) (B : List (ℕ × Cell)) → EachThen Rise B → (b : ℕ × Cell) → Has B b → meets b x ≡ true → IsFreeOfBoth x B b → Has (near_in x B) b
   to_near x [] num b h e free = absurd h
   to_near x (y ∷ later) num b h e free = by (meets y x && is_free x y later) refl h (λ g. to_near x later num.1 b g e (λ m k. free m (inr k)))
     where

@@ -67,8 +67,8 @@ fronts_few lengths [] = omega arith
 fronts_few [] (log ∷ logs) = let later = fronts_few [] logs in rw (parts_cons [] (fronts [] logs), parts_cons log logs) (omega (arith, later))
 fronts_few (n ∷ lengths) (log ∷ logs) = let first = take_few log n in let later = fronts_few lengths logs in rw (parts_cons (take n log) (fronts lengths logs), parts_cons log logs) (omega (arith, first, later))
 
-pub parts_with : (logs : View) (part : Part) → part.home < length logs → parts_in (with_part logs part) ≡ parts_in logs + 1
-parts_with logs part lt =
+pub parts_one_more : (logs : View) (part : Part) → part.home < length logs → parts_in (with_part logs part) ≡ parts_in logs + 1
+parts_one_more logs part lt =
     let e = sum_by-set length logs part.home (log_at logs part.home ++ part ∷ []) [] lt in
     let f = length-append (log_at logs part.home) (part ∷ []) in
     omega (arith, e, f)

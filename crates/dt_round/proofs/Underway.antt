@@ -19,7 +19,7 @@ use Rattle.dt_round.specs.Rounds.{CanRound}
 use Rattle.dt_round.specs.Steps.{IsOwnStep, steps_left, steps_of}
 use Rattle.dt_round.specs.Underway.{IsUnderway}
 use Rattle.dt_round.proofs.Counting.{few_done, few_steps}
-use Rattle.dt_round.proofs.Effects.{IsCounted, step_counted}
+use Rattle.dt_round.proofs.Effects.{IsOneStepOn, step_counted}
 use Rattle.dt_round.proofs.Going.{continues_more, continues_none}
 
 pub at_first : (procs : List ProcTree) (r : RegionView) → CanRound procs r → IsSoundRegion r.state → IsUnderway procs r r
@@ -86,8 +86,8 @@ module _ (procs : List ProcTree) (entry now : RegionView) (u : IsUnderway procs 
 
   -- one step more
   module _ (next : RegionView) (step : IsOwnStep procs now next) (sound : IsSoundRegion next.state) where
-    counts : IsCounted now.state.here next.state.here
-    counts = subst (λ (r : RegionView). IsCounted now.state.here r.state.here) (sym step.makes.1) (step_counted procs now.state u.sound step.event step.makes.0)
+    counts : IsOneStepOn now.state.here next.state.here
+    counts = subst (λ (r : RegionView). IsOneStepOn now.state.here r.state.here) (sym step.makes.1) (step_counted procs now.state u.sound step.event step.makes.0)
 
     latest : latest_stamp next ≡ latest_stamp now + 1
     latest = ap latest_stamp step.makes.1 ∙ latest_more now (after_step procs now.state step.event) step.event

@@ -1,7 +1,7 @@
 -- Where nothing is left to do, all that is closed is done; and what is complete with all its preceders done is closed.
 use Rattle.std.proofs.Common.{◌≤◌, ◌⊎◌, ◌↔◌, List, [], ◌∷◌, length, refl, sym, subst, inl, inr}
 use Rattle.dt_lists.specs.Lists.{AllIn, Has, Either}
-use Rattle.dt_lists.proofs.Callers.{all_get, all_put, either_not, either_and, either_le, IsLeast, least, IsPicked, chain_join}
+use Rattle.dt_lists.proofs.Callers.{all_get, all_put, either_not, either_and, either_le, IsMinimal, least, IsPicked, chain_join}
 use Rattle.dt_access.specs.Ids.{Before}
 use Rattle.dt_access.specs.declared.TxnId.{TxnId}
 use Rattle.dt_sched.specs.Views.{View, Reaches, IsComplete, IsClosed, IsSooner, PrecedesBy, IsClass}
@@ -72,7 +72,7 @@ module _ (order : View → TxnId → TxnId → Type 0) (ties : BreaksTies order)
           from [] m = absurd ((m t).1 (listed t closed, (closed, waiting)))
           from (x ∷ xs) m = first (least (PrecedesBy order view) (λ t p. p.0 refl) (transitive_by order ties view) (decided_by order ties view) x xs)
             where
-              first : (s : TxnId) × IsLeast (PrecedesBy order view) (x ∷ xs) s → IsSomethingToDo order view resolved done
+              first : (s : TxnId) × IsMinimal (PrecedesBy order view) (x ∷ xs) s → IsSomethingToDo order view resolved done
               first s = elim (executable_or_resolvable view resolved done s.0 its.1.0 its.1.1 before) [ inl e ↦ inl (s.0, e) | inr c ↦ inr c ]
                 where
                   its : Has (ids_in view) s.0 × (IsClosed view s.0 × ¬ (Has done s.0))

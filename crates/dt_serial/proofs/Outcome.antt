@@ -30,9 +30,10 @@ use Rattle.dt_serial.specs.Order.{txn_ids, Ordered, IsDown, FollowsMove, IsLive,
 use Rattle.dt_serial.specs.Replay.{replay}
 use Rattle.dt_serial.proofs.Rows.{either_changes}
 use Rattle.dt_serial.proofs.One.{clash_of_change, mover_at, one_alike, live_entries, live_of_outcome, change_of_one}
-use Rattle.dt_serial.proofs.Runs.{table_after_append, outcomes_ids, outcome_at, AlongRun, along_put, replay_append, replay_version, replay_alike, replay_none, replay_value, replay_swap}
+use Rattle.dt_serial.proofs.Runs.{table_after_append, outcomes_ids, has_outcome_at, AlongRun, along_put, replay_append, replay_version, replay_alike, replay_none, replay_value, replay_swap}
 use Rattle.dt_serial.proofs.Past.{among_same, IsPast, past_of_down, same_past, down_front, down_closed, filter_ids, down_filter}
-use Rattle.dt_serial.proofs.History.{down_at, past_at, apart_at, replay_at, keys_at, anchor_at, IsMoveNumber, index, follower, live_before, same_movers, across, closed_front, replayed_moves, replayed_mover}
+use Rattle.dt_serial.proofs.History.{down_at, past_at, apart_at, replay_before, keys_at, anchor_at, IsMoveNumber, index, follower, live_before, same_movers, across, closed_front, replayed_moves}
+use Rattle.dt_serial.proofs.History.{replayed_mover}
 
 module _ (procs : List ProcTree) (order : TxnId → TxnId → Type 0) (start : Table) (txns : List Txn) (h : IsHistory procs order start txns) where
   -- two live transactions that change one row are ordered
@@ -67,7 +68,7 @@ module _ (procs : List ProcTree) (order : TxnId → TxnId → Type 0) (start : T
   same_one y r p pp =
       let q : TxnId → Bool = is_among (txn_ids r.front) in
       let pq : IsPast order q y.id = past_at procs order start txns h y r in
-      let before : replay procs q txns start start ≡ table_after procs r.front start = replay_at procs order start txns h y r in
+      let before : replay procs q txns start start ≡ table_after procs r.front start = replay_before procs order start txns h y r in
       one_alike procs y (replay procs p txns start start) (replay procs q txns start start)
       (replay_version procs start.version p txns start start refl ∙ sym (replay_version procs start.version q txns start start refl))
       (same_movers procs order start txns h y p q (spot_has txns y r) pp pq)
@@ -162,7 +163,7 @@ module _ (procs : List ProcTree) (order : TxnId → TxnId → Type 0) (start : T
   walk_outcomes xs (y ∷ ys) all down =
       let r : Spot txns y = spot txns y all.0 in
       let same : one procs y (canon xs) ≡ one procs y (table_after procs r.front start) = same_one y r (is_among (txn_ids xs)) (past_in xs y ys down) in (
-        subst (λ o. Has (outcomes procs txns start) (y.id, o)) (sym (ap (λ e. e.0) same)) (outcome_at procs txns start y r),
+        subst (λ o. Has (outcomes procs txns start) (y.id, o)) (sym (ap (λ e. e.0) same)) (has_outcome_at procs txns start y r),
         subst (λ t. AllIn (λ r. Has (outcomes procs txns start) r) (outcomes procs ys t)) (sym (canon_step xs y ys all.0 down))
             (walk_outcomes (xs ++ y ∷ []) ys all.1 (subst (λ l. IsDown order (txn_ids l)) (sym (append_assoc xs (y ∷ []) ys)) down)),
       )
@@ -294,7 +295,7 @@ module _ (procs : List ProcTree) (order : TxnId → TxnId → Type 0) (start : T
 
   -- a transaction whose outcome in the history is not stale is live where it ran
   live_there : (x : Txn) (s : Spot txns x) (o : Outcome) → Has (outcomes procs txns start) (x.id, o) → ¬ (IsStaleOutcome o) → IsLive x (table_after procs s.front start)
-  live_there x s o k fresh = live_of_outcome procs x (table_after procs s.front start) (λ w. fresh (subst IsStaleOutcome (single_outcome x.id _ o (outcome_at procs txns start x s) k) w))
+  live_there x s o k fresh = live_of_outcome procs x (table_after procs s.front start) (λ w. fresh (subst IsStaleOutcome (single_outcome x.id _ o (has_outcome_at procs txns start x s) k) w))
 
   -- across moves: of two transactions that are not stale, and whose uses clash, one precedes the other
   pub across_moves : (x y : Txn) (o p : Outcome) → Has txns x → Has txns y → x.id ≢ y.id → Has (outcomes procs txns start) (x.id, o) → Has (outcomes procs txns start) (y.id, p) → ¬ (IsStaleOutcome o)

@@ -37,8 +37,8 @@ pub outcomes_ids : (procs : List ProcTree) (xs : List Txn) (t : Table) → map (
 outcomes_ids procs [] t = refl
 outcomes_ids procs (x ∷ xs) t = ap (λ l. x.id ∷ l) (outcomes_ids procs xs (after procs x t))
 
-pub outcome_at : (procs : List ProcTree) (xs : List Txn) (t : Table) (x : Txn) (s : Spot xs x) → Has (outcomes procs xs t) (x.id, (one procs x (table_after procs s.front t)).0)
-outcome_at procs xs t x s = subst (λ l. Has (outcomes procs l t) (x.id, (one procs x (table_after procs s.front t)).0)) (sym s.is)
+pub has_outcome_at : (procs : List ProcTree) (xs : List Txn) (t : Table) (x : Txn) (s : Spot xs x) → Has (outcomes procs xs t) (x.id, (one procs x (table_after procs s.front t)).0)
+has_outcome_at procs xs t x s = subst (λ l. Has (outcomes procs l t) (x.id, (one procs x (table_after procs s.front t)).0)) (sym s.is)
     (subst (λ l. Has l (x.id, (one procs x (table_after procs s.front t)).0)) (sym (outcomes_append procs s.front (x ∷ s.rest) t)) (any_append_right _ (outcomes procs s.front t) _ (inl refl)))
 
 -- whose outcome it is, and where that one ran
@@ -107,14 +107,14 @@ numbered_move procs version (x ∷ xs) t key i m is low e = go (cases_lt i (coun
         record { mover = r.mover; at = record { front = x ∷ r.at.front; rest = r.at.rest; is = ap (λ l. x ∷ l) r.at.is }; number = r.number; makes = r.makes }
 
 -- the mover of a later move is among those that ran
-pub mover_in : (procs : List ProcTree) (xs : List Txn) (t : Table) (key : Bytes) (i : ℕ) (m : Moved) → counter_of t key ≤ i → slice_get (moves_of (table_after procs xs t) key) i ≡ Some m → Has (txn_ids xs) m.by
-mover_in procs xs t key i m low e =
+pub mover_ran : (procs : List ProcTree) (xs : List Txn) (t : Table) (key : Bytes) (i : ℕ) (m : Moved) → counter_of t key ≤ i → slice_get (moves_of (table_after procs xs t) key) i ≡ Some m → Has (txn_ids xs) m.by
+mover_ran procs xs t key i m low e =
     let r : IsMoveAt procs t.version xs t key i m = numbered_move procs t.version xs t key i m refl low e in
     subst (Has (txn_ids xs)) r.makes.by (has_map (λ x. x.id) xs r.mover (spot_has xs r.mover r.at))
 
 -- so after a run from a table without moves each mover is among those that ran
 pub movers_ran : (procs : List ProcTree) (xs : List Txn) (t : Table) (key : Bytes) → moves_of t key ≡ [] → AllIn (λ m. Has (txn_ids xs) m.by) (moves_of (table_after procs xs t) key)
-movers_ran procs xs t key none = all_of_gets _ (moves_of (table_after procs xs t) key) (λ i m e. mover_in procs xs t key i m (omega (arith, ap length none)) e)
+movers_ran procs xs t key none = all_of_gets _ (moves_of (table_after procs xs t) key) (λ i m e. mover_ran procs xs t key i m (omega (arith, ap length none)) e)
 
 -- what holds of each transaction of a run, on the table on which it ran
 abbrev pub AlongRun : List ProcTree → (Txn → Table → Type 0) → List Txn → Table → Type 0

@@ -91,11 +91,11 @@ pub no_name_outside : (word : Bytes) (place : ℕ) → first_outside is_name_byt
 no_name_outside word place found name = byte_outside is_name_byte word place found name.2
 
 -- where no session of a name can begin, its line is at fault for that
-pub no_session : (cluster : Cluster) (before : List Session) (name word : Bytes) (region : ℕ) (why : Refusal) → name ≡ word → IsName name
+pub no_beginning : (cluster : Cluster) (before : List Session) (name word : Bytes) (region : ℕ) (why : Refusal) → name ≡ word → IsName name
     → Refuses (IsNoBeginning cluster before name region) why → Refuses (IsSessionFault cluster before word region) why
-no_session cluster before name word region (Cause told) same is fault =
+no_beginning cluster before name word region (Cause told) same is fault =
     subst (λ w. IsSessionFault cluster before w region told) same (inr (is, fault))
-no_session cluster before name word region NoMemory same is fault = tt
+no_beginning cluster before name word region NoMemory same is fault = tt
 
 -- ---- forms by the word that begins a line
 
