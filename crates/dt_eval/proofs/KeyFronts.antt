@@ -1,4 +1,4 @@
--- A key expression compared part by part with the bytes of a key, and the place of the key among those that were read.
+-- A key expression compared part by part with the bytes of a key.
 use Rattle.std.proofs.Common.{◌≡◌, ◌<◌, ◌+◌, ℕ, suc, true, false, Some, List, ◌∷◌, ◌++◌, length, get_or, drop, take, add-one, sym, ap, ap₂, subst, ◌∙◌}
 use Rattle.std.specs.Prelude.{◌↔◌, MatchOption, Option, None}
 use Rattle.std.specs.Cmp.Lexicographic.{bytes_decides}
@@ -51,7 +51,3 @@ module _ (args : List Value) (items : List KeyItem) (bytes rest : Bytes) (index 
       λ h. known.left.1 (e ∙ ap (λ bs. item_text args item ++ bs) h ∙ sym cut_text),
     );
   }
-
--- places
-
-module _ (reads : List (Bytes × Option Value)) (name : Bytes) (index : ℕ) (read : Bytes × Option Value) (inside : index < length reads) (is : read ≡ get_or reads index read) where

@@ -1,6 +1,6 @@
 -- The stamp of the last of some events.
 use Rattle.std.proofs.Common.{◌≡◌, List, [], ◌∷◌, ◌++◌, refl}
-use Rattle.dt_events.specs.declared.Stamped.{Stamped}
+use Rattle.dt_events.specs.declared.event.Stamped.{Stamped}
 use Rattle.dt_events.specs.Stamps.{last_stamp}
 
 -- the event that was added last is the last one

@@ -17,7 +17,7 @@ use Rattle.dt_workload.specs.declared.Session.{Session}
 use Rattle.dt_gen.specs.Load.{account, account_numbers, account_row, load_call, load_calls, load_cluster, load_session, load_workload, session_name, session_numbers, wanted_by, transfer_call}
 use Rattle.dt_gen.proofs.Ranges.{all_in_row, distinct_row, once_in_row, sum_by-both, sum_by-same}
 use Rattle.dt_gen.proofs.AccountKeys.{account_apart, account_key, session_apart, session_name_is}
-use Rattle.dt_gen.proofs.Dealing.{calls_more, sessions_length}
+use Rattle.dt_gen.proofs.OneCallMore.{calls_more, sessions_length}
 
 -- what holds of each number of an account
 pub all_accounts : (P : ℕ → Type 0) → ((q : ℕ) → q < 100 → P q) → AllIn P account_numbers

@@ -3,7 +3,7 @@ use Rattle.std.proofs.Common.{◌≡◌, ◌≢◌, ◌<◌, ◌≤◌, ◌⊎�
 use Rattle.dt_lists.specs.Lists.{AllIn, Either}
 use Rattle.dt_lists.proofs.Callers.{all_map, either_nat, filter_none}
 use Rattle.dt_merge.specs.Regional.{Regions, after_all, AreLegalIn, AllChangeIn, Below, AreLocal, one_by_one, AreTurns, AreSideBySide}
-use Rattle.dt_merge.proofs.Reordering.{after_all_append, legal_together, change_together, not_here, good_after, below_refl, below_after, still}
+use Rattle.dt_merge.proofs.EventOrders.{after_all_append, legal_together, change_together, not_here, good_after, below_refl, below_after, still}
 
 pub below_other : (q n : ℕ) → q < suc n → (q < n) ⊎ (n ≡ q)
 below_other q n lt = grind arith

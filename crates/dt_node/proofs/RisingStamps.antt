@@ -1,6 +1,6 @@
 -- Stamps of a turn's events: each is above all that the node's region knew of, so they rise, and go no further than one for
 -- each event.
-use Rattle.std.proofs.Common.{◌≡◌, ◌<◌, ◌≤◌, ◌+◌, ℕ, List, [], ◌∷◌, ◌++◌, length, map, max, refl, sym, ap, subst, ◌∙◌, append-nil, append_assoc, arith}
+use Rattle.std.proofs.Common.{◌≡◌, ◌<◌, ◌≤◌, ◌+◌, ℕ, List, [], ◌∷◌, ◌++◌, length, map, max, sym, ap, subst, ◌∙◌, append-nil, append_assoc, arith}
 use Rattle.std.proofs.lemmas.List.{length-append, map-append}
 use Rattle.dt_lists.specs.Lists.{AllIn, EachThen}
 use Rattle.dt_lists.proofs.Callers.{all_append, all_map, each_append}
@@ -14,8 +14,6 @@ use Rattle.dt_merge.specs.Merge.{HasLowerStamp}
 use Rattle.dt_node.specs.NodeView.{NodeView, new_items}
 use Rattle.dt_node.specs.Turn.{StampsRise, greatest}
 use Rattle.dt_node.proofs.Greatest.{above_greatest, greatest_append, greatest_more, greatest_twice}
-
--- the stamp of the last of some events
 
 -- stamps rise along one way and then along another
 

@@ -18,7 +18,7 @@ use Rattle.dt_region.specs.Region.{RegionState, RegionView, find_txn, held}
 use Rattle.dt_region.specs.Rules.{id_for, txn_for, after_submit}
 use Rattle.dt_region.specs.Sound.{AreCounted, IsSoundRegion, IsHeldPart}
 use Rattle.dt_region.specs.RegionInner.{AreWell}
-use Rattle.dt_region.proofs.Seen.{IsSeenAs}
+use Rattle.dt_region.proofs.ViewOfRegion.{IsSeenAs}
 use Rattle.dt_region.proofs.Find.{found_or_none, find_left, find_right, find_only, counted_at, apart}
 use Rattle.dt_access.proofs.Callers.{test_of_other}
 use Rattle.dt_region.proofs.Tables.{annotate_valid}

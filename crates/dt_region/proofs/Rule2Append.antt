@@ -23,8 +23,8 @@ use Rattle.dt_region.specs.Rules.{keep, after_append, MakesAppend}
 use Rattle.dt_region.specs.Conditions.{CanAppend}
 use Rattle.dt_region.specs.Sound.{AreCounted, IsSoundRegion, IsHeldPart}
 use Rattle.dt_region.specs.RegionInner.{AreWell}
-use Rattle.dt_region.proofs.Seen.{IsSeenAs, kept_under, under}
-use Rattle.dt_region.proofs.Held.{hold_keeps, hold_holds, hold_foreign, hold_homes}
+use Rattle.dt_region.proofs.ViewOfRegion.{IsSeenAs, kept_under, under}
+use Rattle.dt_region.proofs.HeldTransactions.{hold_keeps, hold_holds, hold_foreign, hold_homes}
 use Rattle.dt_txn.proofs.Callers.{fronts_grown}
 use Rattle.dt_region.proofs.Logs.{log_few, parts_one_more}
 

@@ -23,8 +23,8 @@ use Rattle.dt_region.specs.Rules.{keep_all, past_end, with_entries, after_delive
 use Rattle.dt_region.specs.Conditions.{CanDeliver, Agrees, HasHomesIn, IsPartOf}
 use Rattle.dt_region.specs.Sound.{IsSoundRegion, IsHeldPart, AreCounted}
 use Rattle.dt_region.specs.RegionInner.{AreWell}
-use Rattle.dt_region.proofs.Seen.{IsSeenAs, kept_under, under}
-use Rattle.dt_region.proofs.Held.{hold_all_keeps, hold_all_holds, hold_all_foreign, hold_all_homes}
+use Rattle.dt_region.proofs.ViewOfRegion.{IsSeenAs, kept_under, under}
+use Rattle.dt_region.proofs.HeldTransactions.{hold_all_keeps, hold_all_holds, hold_all_foreign, hold_all_homes}
 use Rattle.dt_txn.proofs.Callers.{fronts_grown}
 use Rattle.dt_region.proofs.Logs.{log_few}
 

@@ -22,8 +22,8 @@ use Rattle.dt_region.specs.Region.{RegionState, RegionView, latest_stamp, held, 
 use Rattle.dt_region.specs.Rules.{after_step, MakesStep}
 use Rattle.dt_region.specs.Sound.{IsSoundRegion, IsHeldPart}
 use Rattle.dt_region.specs.RegionInner.{AreWell}
-use Rattle.dt_region.proofs.Seen.{IsSeenAs, kept_under, under}
-use Rattle.dt_region.proofs.Held.{held_homes, view_parts}
+use Rattle.dt_region.proofs.ViewOfRegion.{IsSeenAs, kept_under, under}
+use Rattle.dt_region.proofs.HeldTransactions.{held_homes, view_parts}
 use Rattle.dt_txn.proofs.Callers.{fronts_at}
 use Rattle.dt_region.proofs.Logs.{fronts_length, fronts_insert, fronts_few, parts_one_more, next_fresh, all_logs, log_few}
 

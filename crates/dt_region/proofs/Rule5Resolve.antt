@@ -9,7 +9,7 @@ use Rattle.dt_txn.specs.Replica.{view_of, done_ids}
 use Rattle.dt_region.specs.Region.{RegionState, RegionView, sched_of}
 use Rattle.dt_region.specs.Sound.{IsSoundRegion}
 use Rattle.dt_region.specs.RegionInner.{AreWell}
-use Rattle.dt_region.proofs.Seen.{IsSeenAs}
+use Rattle.dt_region.proofs.ViewOfRegion.{IsSeenAs}
 
 pub resolve_sound : (s : RegionState) → IsSoundRegion s → (ids : List TxnId) → CanResolve (sched_of s.logs s.here) ids → IsSoundRegion (record s { here = record s.here { resolved = s.here.resolved ++ ids ∷ [] } })
 resolve_sound s sound ids may = record {

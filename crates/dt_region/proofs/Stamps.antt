@@ -8,7 +8,7 @@ use Rattle.dt_events.specs.Stamps.{events_of, last_stamp}
 use Rattle.dt_events.proofs.Callers.{last_of_more}
 use Rattle.dt_region.specs.Region.{RegionState, RegionView, latest_stamp}
 use Rattle.dt_region.specs.Rules.{with_event}
-use Rattle.dt_region.proofs.Seen.{under}
+use Rattle.dt_region.proofs.ViewOfRegion.{under}
 
 -- the stamp of the last event, if there is one
 

@@ -18,9 +18,9 @@ use Rattle.dt_region.proofs.Callers.{fronts_few, latest_more}
 use Rattle.dt_round.specs.Rounds.{CanRound}
 use Rattle.dt_round.specs.Steps.{IsOwnStep, steps_left, steps_of}
 use Rattle.dt_round.specs.Underway.{IsUnderway}
-use Rattle.dt_round.proofs.Counting.{few_done, few_steps}
+use Rattle.dt_round.proofs.StepCounts.{few_done, few_steps}
 use Rattle.dt_round.proofs.Effects.{IsOneStepOn, step_counted}
-use Rattle.dt_round.proofs.Going.{continues_more, continues_none}
+use Rattle.dt_round.proofs.OneStepMore.{continues_more, continues_none}
 
 pub at_first : (procs : List ProcTree) (r : RegionView) → CanRound procs r → IsSoundRegion r.state → IsUnderway procs r r
 at_first procs r can sound = record {

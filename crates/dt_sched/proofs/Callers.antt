@@ -11,7 +11,7 @@ pub use Rattle.dt_sched.proofs.Ranks.{rank_of_part, sooner_breaks_ties}
 pub use Rattle.dt_sched.proofs.Classes.{class_alone, class_of, class_of_member, class_unique, in_own_class, several_in_class}
 pub use Rattle.dt_sched.proofs.Decisions.{has_class_decided, has_id_decided}
 pub use Rattle.dt_sched.proofs.NothingToDo.{done_where_closed}
-pub use Rattle.dt_sched.proofs.Growing.{empty_log, has_with_part, log_with_part, put_log, with_part_longer, with_part_well_formed}
+pub use Rattle.dt_sched.proofs.OnePartMore.{empty_log, has_with_part, log_with_part, put_log, with_part_longer, with_part_well_formed}
 pub use Rattle.dt_sched.proofs.Sound.{sound_at_first, sound_execute, sound_insert, sound_longer, sound_resolve}
 pub use Rattle.dt_sched.proofs.Staying.{resolvable_closed}
 pub use Rattle.dt_sched.proofs.OneHome.{class_single, none_resolvable}

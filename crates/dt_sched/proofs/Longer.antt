@@ -1,4 +1,4 @@
--- What a view has, a longer view has; and the shorter one is well formed where the longer is.
+-- What a view has, a longer view has; and the shorter one is well formed where the longer is. And what one log more adds.
 use Rattle.std.proofs.Common.{ℕ, List, [], ◌≡◌, ◌+◌, ◌∷◌, length}
 use Rattle.std.proofs.lemmas.List.Sums.{sum_by-cons}
 use Rattle.dt_lists.specs.Lists.{IsFront}

@@ -1,4 +1,4 @@
--- Where nothing is left to do, all that is closed is done; and what is complete with all its preceders done is closed.
+-- Where nothing is left to do, all that is closed is done.
 use Rattle.std.proofs.Common.{◌≤◌, ◌⊎◌, ◌↔◌, List, [], ◌∷◌, length, refl, sym, subst, inl, inr}
 use Rattle.dt_lists.specs.Lists.{AllIn, Has, Either}
 use Rattle.dt_lists.proofs.Callers.{all_get, all_put, either_not, either_and, either_le, IsMinimal, least, IsPicked, chain_join}

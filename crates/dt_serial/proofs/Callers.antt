@@ -12,4 +12,4 @@ pub use Rattle.dt_serial.proofs.Rows.{same_moves, test_of_key}
 pub use Rattle.dt_serial.proofs.Runs.{movers_ran, moves_grow, has_outcome_at, outcomes_append, outcomes_ids, table_after_append}
 pub use Rattle.dt_serial.proofs.SameOrder.{down_as, history_as}
 pub use Rattle.dt_serial.proofs.Valid.{valid_keeps}
-pub use Rattle.dt_serial.proofs.Unseen.{seen_apart}
+pub use Rattle.dt_serial.proofs.NoClash.{seen_apart}

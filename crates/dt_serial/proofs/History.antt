@@ -39,8 +39,8 @@ module _ (procs : List ProcTree) (order : TxnId → TxnId → Type 0) (start : T
   pub apart_at : (x : Txn) (s : Spot txns x) (i : TxnId) → Has (txn_ids s.front) i → ¬ (Has (x.id ∷ txn_ids s.rest) i)
   apart_at x s i a b = each_across _ (txn_ids s.front) (x.id ∷ txn_ids s.rest) i i (down_at x s).once a b refl
 
-  pub table_from_last : (x : Txn) (s : Spot txns x) → table_after procs txns start ≡ table_after procs (x ∷ s.rest) (table_after procs s.front start)
-  table_from_last x s = ap (λ l. table_after procs l start) s.is ∙ table_after_append procs s.front (x ∷ s.rest) start
+  pub table_from : (x : Txn) (s : Spot txns x) → table_after procs txns start ≡ table_after procs (x ∷ s.rest) (table_after procs s.front start)
+  table_from x s = ap (λ l. table_after procs l start) s.is ∙ table_after_append procs s.front (x ∷ s.rest) start
 
   -- the table before a transaction is the replay of those before it
   pub replay_before : (x : Txn) (s : Spot txns x) → replay procs (is_among (txn_ids s.front)) txns start start ≡ table_after procs s.front start
@@ -99,7 +99,7 @@ module _ (procs : List ProcTree) (order : TxnId → TxnId → Type 0) (start : T
           close (inl lt) = omega arith
           close (inr low) =
               let before : Has (txn_ids r.at.front) (f.0).by = down_preceders order (txn_ids r.at.front) r.mover.id (txn_ids r.at.rest) (f.0).by (down_at r.mover r.at) f.2 in
-              let later : slice_get (moves_of (table_after procs (r.mover ∷ r.at.rest) (table_after procs r.at.front start)) key) c ≡ Some f.0 = subst (λ t. slice_get (moves_of t key) c ≡ Some f.0) (table_from_last r.mover r.at) f.1 in
+              let later : slice_get (moves_of (table_after procs (r.mover ∷ r.at.rest) (table_after procs r.at.front start)) key) c ≡ Some f.0 = subst (λ t. slice_get (moves_of t key) c ≡ Some f.0) (table_from r.mover r.at) f.1 in
               let from : counter_of (table_after procs r.at.front start) key ≤ c = subst (λ n. n ≤ c) (sym r.number) low in
               absurd (apart_at r.mover r.at (f.0).by before (mover_ran procs (r.mover ∷ r.at.rest) (table_after procs r.at.front start) key c f.0 from later))
 
@@ -169,7 +169,7 @@ module _ (procs : List ProcTree) (order : TxnId → TxnId → Type 0) (start : T
         | inl r ↦ absurd (apart_at x s m.by
             (down_preceders order (txn_ids s.front) x.id (txn_ids s.rest) m.by (down_at x s) r)
             (mover_ran procs (x ∷ s.rest) (table_after procs s.front start) a.key a.counter m (all_get _ x.access (live_entries x (table_after procs s.front start) live) a ka)
-            (subst (λ t. slice_get (moves_of t a.key) a.counter ≡ Some m) (table_from_last x s) e)))
+            (subst (λ t. slice_get (moves_of t a.key) a.counter ≡ Some m) (table_from x s) e)))
         | inr r ↦ inr r
       ]
 

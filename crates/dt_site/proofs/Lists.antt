@@ -4,7 +4,6 @@ use Rattle.std.proofs.Common.{Some, refl, sym, ap, subst, ◌∙◌, inl, inr, a
 use Rattle.std.specs.Prelude.{is_some}
 use Rattle.std.proofs.lemmas.Bool.{cases_Bool}
 use Rattle.std.proofs.lemmas.List.{length_push}
-use Rattle.std.proofs.lemmas.List.Sums.{sum_by-cons}
 use Rattle.dt_lists.specs.Lists.{Has}
 use Rattle.dt_access.proofs.Callers.{id_of_test, test_of_id}
 use Rattle.dt_access.specs.Ids.{same_id}

@@ -58,11 +58,11 @@ pub text_ends : (line text : List ℕ) (end : ℕ) → end ≤ length line → (
 text_ends line text end within may = (refl, refl, by_end (nat_lt end (length line)) refl)
   where
     by_end : (inside : Bool) → nat_lt end (length line) ≡ inside → after_text text end (drop end line) ≡ with_word (Text text) (words_from end (drop end line))
-    by_end true e = let inside : end < length line = grind (arith, nat_tests) in rw (drop_more line end inside) (step.after_space text end _ _ (may inside))
+    by_end true e = let inside : end < length line = grind (arith, nat_tests) in rw (drop_more line end 0 inside) (step.after_space text end _ _ (may inside))
     by_end false e = let past : length line ≤ end = grind (arith, nat_tests) in rw (past_end line end past) (step.after_end text end)
 
 pub text_goes_on : (line text : List ℕ) (end : ℕ) → end < length line → get_or line end 0 ≢ 32 → TextEndsAt line text end None
-text_goes_on line text end inside no_space = rw (drop_more line end inside) (step.after_other text end _ _ no_space)
+text_goes_on line text end inside no_space = rw (drop_more line end 0 inside) (step.after_other text end _ _ no_space)
 
 -- the items of a text word
 pub plain_item : (line : List ℕ) (at : ℕ) → at < length line → get_or line at 0 ≢ 34 → get_or line at 0 ≢ 92 → is_text_byte (get_or line at 0) ≡ true → ItemAt line at (Some (get_or line at 0, at + 1))
@@ -81,7 +81,7 @@ escaped : (line text : List ℕ) (at : ℕ) → at + 1 < length line → get_or 
     → text_from text at (drop at line) ≡ cond ((get_or line (at + 1) 0 == 34 || get_or line (at + 1) 0 == 92) && nat_lt (length text) 256) (text_from (text ++ get_or line (at + 1) 0 ∷ []) (at + 1 + 1) (drop (at + 1 + 1) line)) None
 escaped line text at inside escape =
     let here : at < length line = omega arith in
-    rw (drop_more line at 0 here) (step.text_escape text at _ _ escape ∙ rw (drop_more line (at + 1) inside) (step.escape_more text (at + 1) _ _))
+    rw (drop_more line at 0 here) (step.text_escape text at _ _ escape ∙ rw (drop_more line (at + 1) 0 inside) (step.escape_more text (at + 1) _ _))
 
 pub escaped_item : (line : List ℕ) (at : ℕ) → at + 1 < length line → get_or line at 0 ≡ 92 → (get_or line (at + 1) 0 == 34 || get_or line (at + 1) 0 == 92) ≡ true → ItemAt line at (Some (get_or line (at + 1) 0, at + 2))
 escaped_item line at inside escape which =

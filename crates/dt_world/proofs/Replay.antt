@@ -3,7 +3,7 @@ use Rattle.std.proofs.Common.{◌≡◌, ◌<◌, ◌≤◌, ◌+◌, ℕ, Bool,
 use Rattle.std.proofs.Common.{Some, None, refl, sym, ap, ap₂, subst, ◌∙◌, append_assoc, append-nil, arith}
 use Rattle.std.specs.Prelude.{Option, option_map, option_and_then, option_to_list}
 use Rattle.std.specs.List.{position}
-use Rattle.std.proofs.lemmas.List.{length-append, length_push, length-map, map-set, get_or-set_same}
+use Rattle.std.proofs.lemmas.List.{length_push, length-map, map-set, get_or-set_same}
 use Rattle.std.proofs.lemmas.List.Quantifiers.{position-Some}
 use Rattle.std.proofs.lemmas.Option.{some_pair_parts}
 use Rattle.dt_lists.specs.Lists.{Has, IsFront}

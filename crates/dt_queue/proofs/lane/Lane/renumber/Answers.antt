@@ -4,7 +4,7 @@ use Rattle.dt_queue.specs.declared.mark.Mark.{Mark}
 use Rattle.dt_queue.specs.Lanes.{EndsBelow}
 use Rattle.dt_queue.specs.Numbers.{IsGap}
 use Rattle.dt_queue.proofs.Marks.{past_all_places}
-use Rattle.dt_queue.proofs.Renumbered.{marks_rise, not_placed, placed_at}
+use Rattle.dt_queue.proofs.NewNumbers.{marks_rise, not_placed, placed_at}
 use Rattle.dt_queue.proofs.lane.Lane.renumber.Goals as goal
 
 pub invariant_of-self : goal.invariant_of-self

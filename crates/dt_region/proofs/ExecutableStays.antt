@@ -19,7 +19,7 @@ use Rattle.dt_txn.specs.Replica.{done_ids, executed, view_of}
 use Rattle.dt_region.specs.Region.{RegionState, held, sched_of}
 use Rattle.dt_region.specs.Rules.{MayMake, after_step}
 use Rattle.dt_region.specs.Sound.{IsSoundRegion}
-use Rattle.dt_region.proofs.Held.{held_id}
+use Rattle.dt_region.proofs.HeldTransactions.{held_id}
 use Rattle.dt_region.proofs.Rule4Insert.{insert_sound, view_now}
 use Rattle.dt_region.proofs.Rule6Execute.{executable_held}
 use Rattle.dt_region.proofs.StepSound.{has_log}

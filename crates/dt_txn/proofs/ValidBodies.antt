@@ -1,4 +1,4 @@
--- A valid transaction has its keys in ascending order, each once, and what it moves is a unit.
+-- A body that fits can run, and what it moves is a unit.
 use Rattle.std.proofs.Common.{ℕ, zero, suc, List, [], ◌∷◌, Option, None, Some}
 use Rattle.dt_lists.specs.Lists.{AllIn}
 use Rattle.dt_text.specs.Texts.{IsKey}
