@@ -16,12 +16,12 @@ ghost use Rattle.dt_region.specs.Conditions.{IsTableFor, CanAppend, CanDeliver, 
 ghost use Rattle.dt_region.specs.Sound.{IsSoundRegion};
 
 use crate::ascent::are_ascending;
-use crate::asking::ask;
 use crate::entries::{keep_last, parts_and_txns, place, take};
 use crate::execution::note_outcome;
 use crate::foreign::Foreign;
 use crate::kept::Kept;
 use crate::opening::{no_counts, no_ids, no_parts};
+use crate::requests::ask;
 use dt_access::{Ids, TxnId};
 use dt_events::{Event, Stamped};
 use dt_log::{Log, Taken};

@@ -35,7 +35,7 @@ impl Name {
 
     /// Reads a name, which has exactly these bytes. The causes of a refusal are tried in the
     /// order of `KeyError`.
-    #[tactic(auto, using(crate::proofs::Allowed::none_outside))]
+    #[tactic(auto, using(crate::proofs::FirstBadByte::none_outside))]
     pub fn read(alloc: Global, bytes: &[u8]) -> Result<Self, KeyError>
         requires { length bytes.now < 2 ^ 32 }
         ensures ok { IfOk result (λ name. (name ≡ bytes.now) × IsName name) }

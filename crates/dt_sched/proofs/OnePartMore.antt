@@ -82,12 +82,12 @@ with_part_well_formed view part w c = record { once = once; homed = homed; alike
     ranked : (home other : ℕ) → AllIn (λ p. AllIn (λ q. p.id ≡ q.id → p.rank ≡ q.rank) (log_at (with_part view part) other)) (log_at (with_part view part) home)
     ranked = all_alike view part (λ p. p.rank) w.ranked c.ranked
 
--- a view of empty logs is well formed
-empty_log : (regions home : ℕ) → log_at (replicate regions []) home ≡ []
+pub empty_log : (regions home : ℕ) → log_at (replicate regions []) home ≡ []
 empty_log zero home = refl
 empty_log (suc regions) zero = refl
 empty_log (suc regions) (suc home) = empty_log regions home
 
+-- a view of empty logs is well formed
 pub empty_well_formed : (regions : ℕ) → IsWellFormed (replicate regions [])
 empty_well_formed regions = record {
   once = λ home. subst (λ log. Distinct (ids_of log)) (sym (empty_log regions home)) tt;

@@ -11,9 +11,9 @@ use Rattle.dt_merge.proofs.Cuts.{Cut, Part, cut_at, part_of_front, two_fronts, s
 -- lists of events
 
 module _ {W E O : Type 0} (g : Regions W E O) where
-  pub after_append : (w : W) (xs ys : List E) → after_all g w (xs ++ ys) ≡ after_all g (after_all g w xs) ys
-  after_append w [] ys = refl
-  after_append w (x ∷ xs) ys = after_append (g.next w x) xs ys
+  pub after_all_append : (w : W) (xs ys : List E) → after_all g w (xs ++ ys) ≡ after_all g (after_all g w xs) ys
+  after_all_append w [] ys = refl
+  after_all_append w (x ∷ xs) ys = after_all_append (g.next w x) xs ys
 
   pub legal_apart : (w : W) (xs ys : List E) → AreLegalIn g w (xs ++ ys) → AreLegalIn g w xs × AreLegalIn g (after_all g w xs) ys
   legal_apart w [] ys l = (tt, l)
@@ -81,7 +81,7 @@ module _ {W E O : Type 0} (g : Regions W E O) (law : AreLocal g) where
     where
       longer : (short long x : List E) → long ≡ short ++ x → those_of g q long ≡ those_of g q short → g.own (after_all g w long) q ≡ g.own (after_all g w short) q
       longer short long x is h =
-          ap (λ l. g.own (after_all g w l) q) is ∙ ap (λ v. g.own v q) (after_append g w short x)
+          ap (λ l. g.own (after_all g w l) q) is ∙ ap (λ v. g.own v q) (after_all_append g w short x)
           ∙ still (after_all g w short) x q (same_kept (λ y. eqb (g.region y) q) short x (ap (those_of g q) (sym is) ∙ h))
 
   -- rescheduling
@@ -95,7 +95,7 @@ module _ {W E O : Type 0} (g : Regions W E O) (law : AreLocal g) where
 
     below_end : (front rest : List E) → events ≡ front ++ rest → Below g (after_all g w front) (after_all g w events)
     below_end front rest is =
-        subst (Below g (after_all g w front)) (sym (ap (after_all g w) is ∙ after_append g w front rest))
+        subst (Below g (after_all g w front)) (sym (ap (after_all g w) is ∙ after_all_append g w front rest))
         (below_after (after_all g w front) rest (good_front front rest is) (legal_apart g w front rest (subst (AreLegalIn g w) is legal)).1)
 
     front_of : (others : List E) → IsRescheduling g w events others → (q : ℕ) → Part (λ y. eqb (g.region y) q) events (those_of g q others)
@@ -160,7 +160,7 @@ module _ {W E O : Type 0} (g : Regions W E O) (law : AreLocal g) where
           → g.own (after_all g w (others ++ e ∷ [])) (g.region e) ≡ g.own (after_all g w front) (g.region e)
       unfolding here there
       at_own front rest is h =
-          ap (λ v. g.own v (g.region e)) (after_append g w others (e ∷ [])) ∙ sym now.1 ∙ sym (ap (λ v. g.own v (g.region e)) (after_append g w cut.front (e ∷ [])))
+          ap (λ v. g.own v (g.region e)) (after_all_append g w others (e ∷ [])) ∙ sym now.1 ∙ sym (ap (λ v. g.own v (g.region e)) (after_all_append g w cut.front (e ∷ [])))
           ∙ same_own w (g.region e) (cut.front ++ e ∷ []) cut.rest front rest (append_assoc cut.front (e ∷ []) cut.rest ∙ sym cut.is ∙ is)
           (those_more g (g.region e) cut.front e refl ∙ ap (λ l. l ++ e ∷ []) cut.passed ∙ sym (those_more g (g.region e) others e refl) ∙ sym h)
 
@@ -172,7 +172,7 @@ module _ {W E O : Type 0} (g : Regions W E O) (law : AreLocal g) where
           by (inl same) =
               subst (λ x. those_of g x front ≡ those_of g x (others ++ e ∷ []) → g.own (after_all g w (others ++ e ∷ [])) x ≡ g.own (after_all g w front) x) same (at_own front rest is) h
           by (inr n) =
-              ap (λ v. g.own v q) (after_append g w others (e ∷ [])) ∙ law.frame (after_all g w others) e q n
+              ap (λ v. g.own v q) (after_all_append g w others (e ∷ [])) ∙ law.frame (after_all g w others) e q n
               ∙ r.ends q front rest is (h ∙ those_other g q others e n)
 
       -- where nothing changes here, nothing changed there

@@ -1,7 +1,5 @@
 -- What the tests of the scheduler decide.
-use Rattle.std.specs.Prelude.{Result, Ok, Err, IfOk}
-use Rattle.std.proofs.Common.{◌≡◌, ◌≤◌, ◌↔◌, Bool, true, false, List, length, get_or, sym, subst, inl, inr, arith, IsTrue}
-use Rattle.dt_text.specs.declared.NoMemory.{NoMemory}
+use Rattle.std.proofs.Common.{◌≡◌, ◌≤◌, ◌↔◌, Bool, false, List, length, get_or, sym, subst, inl, inr, arith, IsTrue}
 use Rattle.dt_lists.specs.Lists.{AllIn, Has, Either}
 use Rattle.dt_lists.proofs.Callers.{all_get, all_put, chain_join}
 use Rattle.dt_access.specs.declared.TxnId.{TxnId}
@@ -27,19 +25,11 @@ class_from view t behind ahead ids b a c =
           );
     }
 
-pub class_found : (view : View) (t : TxnId) (behind ahead : List TxnId) (r : Result (List TxnId) NoMemory) → AreBehind view t behind → AreAhead view t ahead → IfOk r (AreCommon behind ahead) → IfOk r (IsClass view t)
-class_found view t behind ahead (Ok ids) b a c = class_from view t behind ahead ids b a c
-class_found view t behind ahead (Err e) b a c = tt
-
 -- an answer of false
 pub no_answer : {P : Type 0} → ¬ P → IsTrue false ↔ P
 no_answer n = (λ h. cc, λ p. absurd (n p))
 
 module _ (view : View) (resolved : List (List TxnId)) (done : List TxnId) (t : TxnId) where
-  -- done ids are not executable
-  pub not_done : (b : Bool) → (IsTrue b ↔ Has done t) → b ≡ true → IsTrue false ↔ IsExecutable view resolved done t
-  not_done b k e = no_answer (λ x. x.waiting (k.0 e))
-
   -- what an executable id has behind it is no obstacle
   no_obstacle : (behind ahead : List TxnId) → AreBehind view t behind → AreAhead view t ahead → IsExecutable view resolved done t → (u : TxnId) → Has behind u → IsNoObstacle view ahead done t u
   no_obstacle behind ahead r a x u h = at (either_id u t) (has_id_decided ahead u) (sooner_breaks_ties.decided view u t)
@@ -80,9 +70,6 @@ module _ (view : View) (resolved : List (List TxnId)) (done : List TxnId) (t : T
       )
 
 module _ (view : View) (resolved : List (List TxnId)) (done ids : List TxnId) where
-  pub not_candidates : (b : Bool) → (IsTrue b ↔ AreCandidates view resolved ids) → b ≡ false → IsTrue false ↔ IsResolvable view resolved done ids
-  not_candidates b k e = no_answer (λ x. refuted b k e (x.several, x.complete, x.unresolved))
-
   pub unhindered_tells : (behind ahead class : List TxnId) (b : Bool) → AreCandidates view resolved ids → AreBehind view (get_or ids 0 no_id) behind → AreAhead view (get_or ids 0 no_id) ahead
       → AreCommon behind ahead class → (IsTrue b ↔ IsUnhindered behind class ids done) → IsTrue b ↔ IsResolvable view resolved done ids
   unhindered_tells behind ahead class b w r a c k =

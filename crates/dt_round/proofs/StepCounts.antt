@@ -1,17 +1,16 @@
 -- How many steps a region can make: each part in its logs is inserted once, and of each transaction that has a part there is
 -- one execution, and one resolution at most.
-use Rattle.std.proofs.Common.{◌≡◌, ◌≤◌, ◌+◌, ◌*◌, ℕ, zero, suc, List, [], ◌∷◌, ◌++◌, length, map, refl, sym, ap₂, subst, ◌∙◌, inl, arith}
+use Rattle.std.proofs.Common.{◌≡◌, ◌≤◌, ◌+◌, ◌*◌, ℕ, zero, suc, List, [], ◌∷◌, length, map, refl, sym, subst, ◌∙◌, inl, arith}
 use Rattle.std.specs.Prelude.{slice_index, sum}
-use Rattle.std.proofs.lemmas.List.{length-append, length-map}
+use Rattle.std.proofs.lemmas.List.{length-map}
 use Rattle.std.proofs.lemmas.List.Sums.{sum_by-cons}
 use Rattle.dt_lists.specs.Lists.{AllIn, Distinct, EachThen, Has}
 use Rattle.dt_lists.proofs.Callers.{all_get, all_image, all_map, all_put, distinct_within, each_image}
-use Rattle.dt_access.specs.declared.Part.{Part}
 use Rattle.dt_access.specs.declared.TxnId.{TxnId}
-use Rattle.dt_sched.specs.Views.{View, IsClass, IsClosed, ids_of, log_at}
+use Rattle.dt_sched.specs.Views.{View, IsClass, IsClosed, log_at}
 use Rattle.dt_sched.specs.Decide.{IsSound}
 use Rattle.dt_sched.specs.Sched.{parts_in}
-use Rattle.dt_sched.proofs.Callers.{class_unique, complete_of_closed, has_of_present, ids_in, present_of_complete}
+use Rattle.dt_sched.proofs.Callers.{class_unique, complete_of_closed, has_of_present, ids_in, present_of_complete, ids_in_length}
 use Rattle.dt_txn.specs.Replica.{done_ids, view_of}
 use Rattle.dt_region.specs.Region.{RegionState}
 use Rattle.dt_region.specs.Sound.{IsSoundRegion}
@@ -29,11 +28,6 @@ few_inserted (n ∷ counts) (log ∷ logs) e each =
     let p : sum (n ∷ counts) ≡ n + sum counts = sum_by-cons (λ y. y) n counts in
     let q : parts_in (log ∷ logs) ≡ length log + parts_in logs = sum_by-cons length log logs in
     omega (arith, first, rest, p, q)
-
--- as many ids as parts
-ids_count : (view : View) → length (ids_in view) ≡ parts_in view
-ids_count [] = refl
-ids_count (log ∷ view) = length-append (ids_of log) (ids_in view) ∙ ap₂ (λ a b. a + b) (length-map log (λ (p : Part). p.id)) (ids_count view) ∙ sym (sum_by-cons length log view)
 
 -- the first of a group
 abbrev first_in : List TxnId → TxnId
@@ -62,7 +56,7 @@ module _ (view : View) (resolved : List (List TxnId)) (done : List TxnId) (sound
   known id closed = has_of_present view id (present_of_complete view id (complete_of_closed view id closed))
 
   pub few_done : length done ≤ parts_in view
-  few_done = subst (λ n. length done ≤ n) (ids_count view) (distinct_within done (ids_in view) sound.done_once (all_map (IsClosed view) (Has (ids_in view)) done known sound.done_closed))
+  few_done = subst (λ n. length done ≤ n) (ids_in_length view) (distinct_within done (ids_in view) sound.done_once (all_map (IsClosed view) (Has (ids_in view)) done known sound.done_closed))
 
   first_known : (ids : List TxnId) → (2 ≤ length ids) × AllIn (IsClosed view) ids → Has (ids_in view) (first_in ids)
   first_known ids h = known (first_in ids) (all_get (IsClosed view) ids h.1 (first_in ids) (first_has ids h.0))
@@ -77,7 +71,7 @@ module _ (view : View) (resolved : List (List TxnId)) (done : List TxnId) (sound
       let firsts = each_image (λ a b. ¬ (a ≡ b)) first_in resolved (firsts_apart view resolved sound.resolved_several sound.resolved_classes sound.resolved_once) in
       let few : length (map first_in resolved) ≤ length (ids_in view) = distinct_within (map first_in resolved) (ids_in view) firsts firsts_known in
       let a : length (map first_in resolved) ≡ length resolved = length-map resolved first_in in
-      let b : length (ids_in view) ≡ parts_in view = ids_count view in
+      let b : length (ids_in view) ≡ parts_in view = ids_in_length view in
       omega (arith, few, a, b)
 
 pub few_steps : (s : RegionState) → IsSoundRegion s → steps_of s.here ≤ 3 * parts_in s.logs

@@ -4,7 +4,7 @@ use Rattle.std.specs.Option.{option_map}
 use Rattle.std.specs.Cmp.Lexicographic.{pointwise}
 use Rattle.std.specs.List.{list_any}
 use Rattle.dt_outside.specs.Faults.{next_count}
-use Rattle.dt_outside.specs.Folder.{StoredFolder, fails_next, file_in, stored_file}
+use Rattle.dt_outside.specs.Folder.{MemoryFolderView, fails_next, file_in, stored_file}
 
 -- the first file of a name is the first entry whose text is that name
 pub file_in-map : {A B : Type 0} (files : List (String A × Vec ℕ B)) (name : List ℕ)
@@ -20,6 +20,6 @@ file_in-map (file ∷ files) name =
 pub ruleset finding = (file_in-map)
 
 -- a load passes where its number is none of those that fail, and a file has the name
-pub fails_next-found : (seen folder : StoredFolder) (name bytes : List ℕ) (number : ℕ) → seen ≡ folder → number ≡ next_count seen.loads
+pub fails_next-found : (seen folder : MemoryFolderView) (name bytes : List ℕ) (number : ℕ) → seen ≡ folder → number ≡ next_count seen.loads
     → false ≡ list_any (λ failing. failing == number) seen.failing → Some bytes ≡ file_in seen.files name → fails_next folder name ≡ false
 fails_next-found seen folder name bytes number is_seen same passes found = rw (← is_seen, ← same, ← passes, ← found) refl

@@ -1,11 +1,11 @@
 -- Words and lines that are appended one after another.
 use Rattle.std.proofs.Common.{◌≡◌, ℕ, ◌+◌, ◌<◌, ◌≤◌, List, [], ◌∷◌, ◌++◌, length, map, drop, get_or, Option, refl, ap, sym, ◌∙◌, arith, add-one, append_assoc, append-nil, drop-cons}
-use Rattle.std.specs.List.{join_with_byte}
 use Rattle.std.proofs.lemmas.Grind.{common_steps}
+use Rattle.dt_text.specs.Words.{spaced}
 use Rattle.dt_text.specs.declared.Value.{Value}
 use Rattle.dt_table.specs.declared.Shown.{Shown}
 use Rattle.dt_report.specs.Report.{line_of, value_word, table_text, tables_text}
-use Rattle.dt_report.specs.WordsInner.{spaced}
+use Rattle.dt_text.proofs.Callers.{join_spaced}
 
 spaced-append : (ws vs : List (List ℕ)) → spaced (ws ++ vs) ≡ spaced ws ++ spaced vs
 spaced-append [] vs = refl
@@ -17,15 +17,11 @@ pub words_added : (start : List ℕ) (ws vs : List (List ℕ)) (before after : L
 words_added start ws vs before after so_far added =
     added ∙ ap (λ t. t ++ spaced vs) so_far ∙ append_assoc start (spaced ws) (spaced vs) ∙ ap (λ t. start ++ t) (sym (spaced-append ws vs))
 
-join-spaced : (w : List ℕ) (ws : List (List ℕ)) → join_with_byte 32 (w ∷ ws) ≡ w ++ spaced ws
-join-spaced w [] = sym (append-nil w)
-join-spaced w (v ∷ ws) = ap (λ t. w ++ 32 ∷ t) (join-spaced v ws)
-
 -- a first word, others after it, and the end of the line
 pub line_added : (old head : List ℕ) (ws : List (List ℕ)) (first before after : List ℕ) → first ≡ old ++ head → before ≡ first ++ spaced ws → after ≡ before ++ 10 ∷ [] → after ≡ old ++ line_of (head ∷ ws)
 line_added old head ws first before after begun so_far ended =
     ended ∙ ap (λ t. t ++ 10 ∷ []) (so_far ∙ ap (λ t. t ++ spaced ws) begun ∙ append_assoc old head (spaced ws)) ∙ append_assoc old (head ++ spaced ws) (10 ∷ [])
-    ∙ ap (λ t. old ++ (t ++ 10 ∷ [])) (sym (join-spaced head ws))
+    ∙ ap (λ t. old ++ (t ++ 10 ∷ [])) (sym (join_spaced head ws))
 
 from_place : {A : Type 0} (xs : List A) (k : ℕ) (x : A) → k < length xs → x ≡ get_or xs k x → drop k xs ≡ x ∷ drop (k + 1) xs
 from_place xs k x within is =

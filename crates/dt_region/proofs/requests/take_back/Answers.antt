@@ -1,6 +1,6 @@
 use Rattle.std.proofs.Common.{◌<◌, get_or, sym, ap, subst, ◌∙◌}
-use Rattle.dt_region.proofs.Asked.{taken_back}
-use Rattle.dt_region.proofs.asking.take_back.Goals as goal
+use Rattle.dt_region.proofs.RequestsUndone.{taken_back}
+use Rattle.dt_region.proofs.requests.take_back.Goals as goal
 
 pub returns-clause-taken : goal.returns-clause-taken
 returns-clause-taken c lists id e =

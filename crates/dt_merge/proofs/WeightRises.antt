@@ -28,7 +28,7 @@ use Rattle.dt_session.specs.Run.{world_from, AreLegalFrom}
 use Rattle.dt_session.specs.Eager.{AllChange}
 use Rattle.dt_agreement.specs.Invariant.{IsPlaceOf}
 use Rattle.dt_agreement.proofs.Callers.{WasSubmitted, Submits, append_cases, executable_known, next_keeps, ordered, received_own, session_found, submits}
-use Rattle.dt_merge.specs.Own.{Own, own}
+use Rattle.dt_merge.specs.Own.{own}
 use Rattle.dt_merge.specs.Weight.{sum_below, weight, world_weight}
 use Rattle.dt_merge.specs.WorldRegions.{HasInvariant}
 use Rattle.dt_merge.proofs.Frames.{frame}
@@ -118,15 +118,8 @@ module _ (cluster : Cluster) (ok : IsValidCluster cluster) (workload : Workload)
   room : region < length w.nodes
   room = subst (λ m. region < m) (sym g.inv.nodes) lr
 
-  o : Own
-  o = own workload w region
-
   Rises : World → Type 0
   Rises v = weight region (own workload w region) < weight region (own workload v region)
-
-  through : (v : World) (p : Own) → own workload v region ≡ p → weight region (own workload w region) < weight region p → Rises v
-  unfolding Rises
-  through v p e less = subst (λ x. weight region (own workload w region) < weight region x) (sym e) less
 
   in_own : (name : Bytes) (session : Session) (place : Place) → session.name ≡ name → session_at workload.sessions w.places region name ≡ Some (session, place)
       → session_at (local region workload.sessions) (own workload w region).places region session.name ≡ Some (session, place)

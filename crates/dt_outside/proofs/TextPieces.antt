@@ -1,5 +1,5 @@
 -- Pieces that are added one behind the other.
-use Rattle.std.proofs.Common.{◌≡◌, ℕ, ◌+◌, ◌≤◌, List, [], ◌++◌, take, drop, length, Option, None, Some, Result, Ok, Err, refl, ap, sym, ◌∙◌, append_assoc, append-nil, subst, arith}
+use Rattle.std.proofs.Common.{◌≡◌, ℕ, ◌+◌, ◌≤◌, List, ◌++◌, take, drop, length, Option, None, Some, Result, Ok, Err, refl, ap, sym, ◌∙◌, append_assoc, subst, arith}
 use Rattle.std.proofs.Math.Seq.{take-add, take-append-add, take-length}
 use Rattle.std.proofs.lemmas.List.{take_at, take-append-drop}
 use Rattle.dt_outside.specs.Sink.{SinkView, held_with, Adds, AddsPrefix, Writes}
@@ -10,11 +10,6 @@ use Rattle.dt_outside.specs.Faults.{Rose}
 pub held_with-append : (held : Option (List ℕ)) (first second : List ℕ) → held_with (held_with held first) second ≡ held_with held (first ++ second)
 held_with-append None first second = refl
 held_with-append (Some bytes) first second = ap Some (append_assoc bytes first second)
-
--- nothing that is added changes nothing
-held_with-nothing : (held : Option (List ℕ)) → held ≡ held_with held []
-held_with-nothing None = refl
-held_with-nothing (Some bytes) = ap Some (sym (append-nil bytes))
 
 -- a piece, and then another, is both
 pub Adds-append : (old mid new : Option (List ℕ)) (first second : List ℕ) → Adds old mid first → Adds mid new second → Adds old new (first ++ second)
@@ -76,10 +71,6 @@ module _ {E : Type 0} (old mid new : SinkView) (first second : List ℕ) where
   Writes-append x (Err e) r ok before after = cc
 
 module _ {E : Type 0} (old new : SinkView) where
-  -- a text that was added is written
-  pub Writes-done : (text : List ℕ) (x : Unit {0}) → HasAdded old new text → Writes {E = E} old new text (Ok x)
-  Writes-done text x is = record { added = is.added; prefix = tt; failed = tt; later = is.later }
-
   -- a text that was written in part: so a longer one is, of which it is the front
   pub Writes-longer : (first second : List ℕ) (error : E) (P : E → Type 0) (q r : Result (Unit {0}) E) → q ≡ Err error → IsErrAnd r P → Writes old new first q → Writes old new (first ++ second) r
   Writes-longer first second error P (Ok x) r failed handed before = cc
@@ -106,16 +97,6 @@ pub record HasAddedUpTo (whole rest : List ℕ) (old new : SinkView) : Type 0 wh
   pub done : List ℕ
   pub added : HasAdded old new done
   pub all : done ++ rest ≡ whole
-
--- at first nothing was
-pub HasAddedUpTo-start : (whole : List ℕ) (old : SinkView) → HasAddedUpTo whole whole old old
-HasAddedUpTo-start whole old = record { done = []; added = record { added = held_with-nothing old.held; later = omega arith }; all = refl }
-
--- in the end all was
-pub HasAddedUpTo-end : {E : Type 0} (whole rest : List ℕ) (old new : SinkView) (x : Unit {0}) → rest ≡ [] → HasAddedUpTo whole rest old new → Writes {E = E} old new whole (Ok x)
-HasAddedUpTo-end {E} whole rest old new x none so_far =
-    let all : so_far.done ≡ whole = sym (append-nil so_far.done) ∙ ap (λ left. so_far.done ++ left) (sym none) ∙ so_far.all in
-    subst (λ text. Writes {E = E} old new text (Ok x)) all (Writes-done {E = E} old new so_far.done x so_far.added)
 
 module _ {E : Type 0} (whole rest piece others : List ℕ) (old mid new : SinkView) (q : Result (Unit {0}) E) (cut : rest ≡ piece ++ others) (so_far : HasAddedUpTo whole rest old mid) (next : Writes mid new piece q) where
   -- what was added, the next piece, and what is left are all

@@ -3,7 +3,6 @@ use Rattle.std.proofs.Common.{◌≡◌, ◌+◌, ℕ, List, [], ◌∷◌, ◌+
 use Rattle.std.proofs.lemmas.List.{append_assoc, append-nil}
 use Rattle.dt_access.specs.declared.TxnId.{TxnId}
 use Rattle.dt_events.specs.declared.Event.{Event}
-use Rattle.dt_events.specs.declared.Stamped.{Stamped}
 use Rattle.dt_events.specs.Events.{region_of}
 use Rattle.dt_events.specs.Stamps.{stamped_from}
 use Rattle.dt_sched.specs.Views.{View}
@@ -12,10 +11,8 @@ use Rattle.dt_txn.specs.declared.txn.Txn.{Txn}
 use Rattle.dt_txn.specs.Replica.{IsContinuation, MayStep, Replica, stepped}
 use Rattle.dt_region.specs.Region.{RegionView, held, latest_stamp}
 use Rattle.dt_region.specs.Rules.{MakesStep, after_step}
+use Rattle.dt_region.proofs.Callers.{under}
 use Rattle.dt_round.specs.Rounds.{Continues, after_steps}
-
-abbrev under : ℕ → Event → Stamped
-under stamp event = record { stamp = stamp; event = event }
 
 module _ (procs : List ProcTree) (txn_of : TxnId → Option Txn) where
   after_more : (here : Replica) (events : List Event) (event : Event) → after_steps procs txn_of here (events ++ event ∷ []) ≡ stepped procs txn_of (after_steps procs txn_of here events) event

@@ -88,13 +88,13 @@ off_behind : (n : ℕ) (x : Mark) (xs : List Mark) → n ≤ x.number → AllIn 
 off_behind n x xs le all = all_map (λ (m : Mark). x.number < m.number) (λ (m : Mark). m.number ≢ n) xs (λ m lt e. omega (arith, le, lt, e)) all
 
 -- the mark of a number got another at its place
-pub placed : (n i : ℕ) (ms : List Mark) (p : ℕ) (d : Mark) → HasRisingNumbers ms → EndsBelow n ms p → p < length ms → (slice_index_or ms p d).number ≡ n
+pub renumbered_at : (n i : ℕ) (ms : List Mark) (p : ℕ) (d : Mark) → HasRisingNumbers ms → EndsBelow n ms p → p < length ms → (slice_index_or ms p d).number ≡ n
     → slice_set ms p (record (slice_index_or ms p d) { number = i }) ≡ map (renumbered n i) ms
-placed n i [] p d num ends lt same = absurd (omega arith)
-placed n i (x ∷ xs) zero d num ends lt same = ap₂ (λ y ys. y ∷ ys) (sym (mark_at n i x same)) (sym (all_off n i xs (off_behind n x xs (omega (arith, same)) num.0)))
-placed n i (x ∷ xs) (suc p) d num ends lt same =
+renumbered_at n i [] p d num ends lt same = absurd (omega arith)
+renumbered_at n i (x ∷ xs) zero d num ends lt same = ap₂ (λ y ys. y ∷ ys) (sym (mark_at n i x same)) (sym (all_off n i xs (off_behind n x xs (omega (arith, same)) num.0)))
+renumbered_at n i (x ∷ xs) (suc p) d num ends lt same =
     let rest : EndsBelow n xs p = record { within = omega (arith, ends.within); lesser = ends.lesser.1; others = ends.others } in
-    ap₂ (λ y ys. y ∷ ys) (sym (mark_off n i x (λ e. omega (arith, ends.lesser.0, e)))) (placed n i xs p d num.1 rest (omega arith) same)
+    ap₂ (λ y ys. y ∷ ys) (sym (mark_off n i x (λ e. omega (arith, ends.lesser.0, e)))) (renumbered_at n i xs p d num.1 rest (omega arith) same)
 
 default_free : (ms : List Mark) (p : ℕ) (d m : Mark) → p < length ms → slice_index_or ms p m ≡ slice_index_or ms p d
 default_free [] p d m lt = absurd (omega arith)
@@ -106,7 +106,7 @@ pub placed_at : (n i : ℕ) (ms : List Mark) (p : ℕ) (d m : Mark) → HasRisin
     → slice_set ms p (record m { number = i }) ≡ map (renumbered n i) ms
 placed_at n i ms p d m num ends lt is same value =
     let number : (slice_index_or ms p m).number ≡ n = ap (λ (x : Mark). x.number) (default_free ms p d m lt ∙ sym is) ∙ same in
-    subst (λ (x : Mark). slice_set ms p (record x { number = i }) ≡ map (renumbered n i) ms) (sym value) (placed n i ms p m num ends lt number)
+    subst (λ (x : Mark). slice_set ms p (record x { number = i }) ≡ map (renumbered n i) ms) (sym value) (renumbered_at n i ms p m num ends lt number)
 
 -- no mark has the number
 pub not_placed : (n i : ℕ) (ms : List Mark) (p : ℕ) (d : Mark) → HasRisingNumbers ms → EndsBelow n ms p → (p < length ms → (slice_index_or ms p d).number ≢ n) → ms ≡ map (renumbered n i) ms

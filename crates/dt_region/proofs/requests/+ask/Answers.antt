@@ -1,7 +1,7 @@
 use Rattle.std.proofs.Common.{◌<◌, ◌∷◌, List, ℕ, length, subst, sym, arith}
 use Rattle.std.specs.Vec.{vec_len}
 use Rattle.dt_lists.specs.Lists.{AllIn}
-use Rattle.dt_region.proofs.asking.+ask.Goals as goal
+use Rattle.dt_region.proofs.requests.+ask.Goals as goal
 
 pub ask-requires : goal.ask-requires
 ask-requires n c =

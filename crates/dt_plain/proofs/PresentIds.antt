@@ -1,6 +1,5 @@
 -- The ids that have a part in a view, gathered from its logs.
 use Rattle.std.proofs.Common.{List, [], ◌∷◌, ◌++◌, sym, inl, inr}
-use Rattle.dt_lists.specs.Lists.{Distinct}
 use Rattle.dt_lists.proofs.Callers.{any_append, any_append_left, any_append_right}
 use Rattle.dt_access.specs.declared.TxnId.{TxnId}
 use Rattle.dt_access.specs.declared.Part.{Part}
@@ -8,9 +7,6 @@ use Rattle.dt_sched.specs.Views.{View}
 use Rattle.dt_sched.specs.IdLists.{AddsOnce}
 use Rattle.dt_plain.specs.Graphs.{GetsIds}
 use Rattle.dt_sched.specs.Surroundings.{ArePresent}
-
-pub gets_none : (ids : List TxnId) → Distinct ids → GetsIds [] ids ids
-gets_none ids d = record { distinct = d; members = λ u. (λ k. inl k, λ k. elim k [ inl a ↦ a | inr z ↦ absurd z ]) }
 
 -- one more part
 pub gets_more : (log : List Part) (p : Part) (old mid new : List TxnId) → GetsIds log old mid → AddsOnce mid p.id new → GetsIds (log ++ p ∷ []) old new
@@ -29,9 +25,6 @@ gets_more log p old mid new g a =
             ]),
           );
     }
-
-pub present_none : ArePresent [] []
-present_none = record { distinct = tt; members = λ u. (λ k. k, λ k. k) }
 
 -- one more log
 pub present_more : (view : View) (log : List Part) (old new : List TxnId) → ArePresent view old → GetsIds log old new → ArePresent (view ++ log ∷ []) new

@@ -1,10 +1,8 @@
--- A valid transaction has its keys in ascending order, each once, and what it moves is a unit.
-use Rattle.std.proofs.Common.{ℕ, zero, suc, List, [], ◌∷◌, Option, None, Some, sym, subst}
+-- A body that fits can run, and what it moves is a unit.
+use Rattle.std.proofs.Common.{ℕ, zero, suc, List, [], ◌∷◌, Option, None, Some}
 use Rattle.dt_lists.specs.Lists.{AllIn}
 use Rattle.dt_text.specs.Texts.{IsKey}
 use Rattle.dt_access.specs.Clash.{Bytes}
-use Rattle.dt_access.specs.Orders.{HasAscendingKeys}
-use Rattle.dt_access.specs.declared.Mode.{Mode}
 use Rattle.dt_proc.specs.Tree.{ProcTree}
 use Rattle.dt_access.specs.declared.TxnId.{TxnId}
 use Rattle.dt_text.specs.declared.Value.{Value}
@@ -13,29 +11,16 @@ use Rattle.dt_eval.specs.Meaning.{IsFirstBadKey}
 use Rattle.dt_eval.specs.Calls.{call_meaning}
 use Rattle.dt_eval.specs.declared.Finish.{Finish}
 use Rattle.dt_eval.specs.declared.finish.Finish.TheVariants as finish
-use Rattle.dt_eval.proofs.Callers.{call_keys_ascend}
 use Rattle.dt_txn.specs.declared.txn.Body.{Body}
 use Rattle.dt_txn.specs.declared.txn.Body.TheVariants.{Call, Move}
 use Rattle.dt_txn.specs.declared.txn.Txn.{Txn}
 use Rattle.dt_txn.specs.declared.outcome.Outcome.{Outcome}
 use Rattle.dt_txn.specs.Execution.{of_finish, one, reads_of, result_of, see, stale_of, unless_stale}
-use Rattle.dt_txn.specs.Transaction.{uses_of, BodyFits, CanRun, IsTransaction, IsValid}
+use Rattle.dt_txn.specs.Transaction.{BodyFits, CanRun, IsValid}
 
 pub can_run : (procs : List ProcTree) (version regions : ℕ) (body : Body) → BodyFits procs version regions body → CanRun procs body
 can_run procs version regions (Call proc args) fits = fits
 can_run procs version regions (Move key target) fits = tt
-
--- a body uses its keys in ascending order
-pub uses_ascend : (procs : List ProcTree) (version : ℕ) (body : Body) → HasAscendingKeys (uses_of procs version body)
-uses_ascend procs version (Call proc args) = call_keys_ascend procs proc args
-uses_ascend procs version (Move key target) = (tt, tt)
-
--- what is valid for some procedures is a transaction
-pub formed : (procs : List ProcTree) (version regions : ℕ) (txn : Txn) → IsValid procs version regions txn → IsTransaction regions txn
-formed procs version regions txn valid = record {
-  ascending = subst (λ (us : List (Bytes × Mode)). HasAscendingKeys us) (sym valid.uses) (uses_ascend procs version txn.body);
-  homes = valid.homes;
-}
 
 -- what a body moves is a unit, where the body fits
 finish_moves : (version : ℕ) (f : Finish) → MovesUnit version (of_finish f).1.moved
