@@ -19,7 +19,6 @@
 //! round, and the procedures. Read next: `specs/Held.antt`, for what the lock keeps.
 #![tactic(auto)]
 
-mod acting;
 mod by;
 mod claim;
 mod clashes;
@@ -27,9 +26,10 @@ mod gate;
 mod held;
 mod jobs;
 mod named;
+mod round;
 mod running;
 mod statements;
-mod threaded;
+mod work;
 
 pub use by::By;
 pub use claim::{Claim, Finished};
@@ -37,4 +37,4 @@ pub use gate::{Gate, NoGate};
 pub use held::Held;
 pub use named::Named;
 pub use running::Running;
-pub use threaded::round;
+pub use round::round;

@@ -78,7 +78,7 @@ filter_same p q (x ∷ xs) e = by (filter_same p q xs (λ y h. e y (inr h))) (ca
     by rest (inl a) = rw (e x (inl refl), a) (ap (λ l. x ∷ l) rest)
     by rest (inr a) = rw (e x (inl refl), a) rest
 
--- a choice that does not hang on the item
+-- a choice that does not depend on the item
 pub sum_chosen : {A : Type 0} (b : Bool) (f : A → ℕ) (xs : List A) → sum_by (λ x. if b then f x else 0) xs ≡ (if b then sum_by f xs else 0)
 sum_chosen true f xs = refl
 sum_chosen false f xs = sum_of_zeros xs
