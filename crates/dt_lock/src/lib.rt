@@ -20,13 +20,13 @@
 #![tactic(auto)]
 
 mod by;
+mod by_threads;
 mod claim;
 mod clashes;
 mod gate;
 mod held;
 mod jobs;
 mod named;
-mod round;
 mod running;
 mod statements;
 mod work;
@@ -37,4 +37,4 @@ pub use gate::{Gate, NoGate};
 pub use held::Held;
 pub use named::Named;
 pub use running::Running;
-pub use round::round;
+pub use by_threads::round;

@@ -2,7 +2,7 @@ use Rattle.std.proofs.Common.{ap₂, sym, subst, ◌∙◌}
 use Rattle.dt_region.specs.Conditions.{IsTableFor}
 use Rattle.dt_table.specs.Table.{opening}
 use Rattle.dt_site.proofs.Opening.{opening_is_for}
-use Rattle.dt_site.proofs.first_table.first_table.Goals as goal
+use Rattle.dt_site.proofs.tables.first_table.Goals as goal
 
 pub returns-clause-sized : goal.returns-clause-sized
 returns-clause-sized c =
