@@ -1,4 +1,4 @@
--- Two lists of uses clash where some use of the one clashes with some use of the other, and it does not hang on which list
+-- Two lists of uses clash where some use of the one clashes with some use of the other, and it does not depend on which list
 -- comes first.
 use Rattle.std.proofs.Common.{◌≡◌, true, List, ◌∙◌}
 use Rattle.std.specs.List.{list_any}

@@ -5,10 +5,10 @@ use Rattle.std.proofs.Common.{length, take, drop, position, Some, None, refl, ap
 use Rattle.std.specs.List.{take_while, prefix_len, list_all}
 use Rattle.std.proofs.lemmas.Bool.{and_parts, and_from}
 use Rattle.std.proofs.lemmas.Bool.Decides.{nat_tests}
-use Rattle.std.proofs.lemmas.List.{take_all, length-append, length-take, take-append-drop}
+use Rattle.std.proofs.lemmas.List.{take_all, length-take, take-append-drop}
 use Rattle.std.proofs.lemmas.List.Folds.{list_all-append}
 use Rattle.std.proofs.lemmas.List.Sums.{take_while-cons}
-use Rattle.dt_lists.proofs.Callers.{same_tail}
+use Rattle.dt_lists.proofs.Callers.{same_tail, true_of_not}
 use Rattle.dt_text.specs.Texts.{IsKey, is_key_byte}
 use Rattle.dt_access.specs.Granules.{Bytes, granule_of, unit_of}
 
@@ -22,10 +22,6 @@ step_inner b bs e = take_while-cons inner b bs ∙ ap (λ t. cond t (b ∷ take_
 
 step_slash : (b : ℕ) (bs : Bytes) → inner b ≡ false → take_while inner (b ∷ bs) ≡ []
 step_slash b bs e = take_while-cons inner b bs ∙ ap (λ t. cond t (b ∷ take_while inner bs) []) e
-
-true_of_not : (t : Bool) → not t ≡ false → t ≡ true
-true_of_not true h = refl
-true_of_not false h = cc
 
 -- a byte is a `/` or is none
 by_byte : (P : Type 0) (b : ℕ) → (inner b ≡ true → P) → (inner b ≡ false → P) → P
@@ -128,10 +124,3 @@ granule_is_key (b ∷ bs) k =
     let short : length (take n bs) ≤ length bs = omega (arith, length-take n bs) in
     let parts : (is_key_byte b ≡ true) × (list_all is_key_byte bs ≡ true) = and_parts _ _ k.2 in
     (omega arith, omega (arith, short, k), and_from _ _ parts.0 (list_all_take is_key_byte n bs parts.1))
-
--- a key is its own granule where the two have the same length
-pub same_length : (key : Bytes) → length (granule_of key) ≡ length key → granule_of key ≡ key
-same_length key e = elim (key_of_granule key) [
-  | inl s ↦ sym s
-  | inr s ↦ absurd (omega (arith, e, ap length s.1, length-append (granule_of key) (47 ∷ s.0)))
-]

@@ -1,7 +1,11 @@
 -- Ids: their order is a strict total order and decided, and the tests on them say what they test.
-use Rattle.std.proofs.Common.{◌≡◌, ◌≢◌, ◌⊎◌, true, false, List, eqb-true, eq-eqb, sym, subst, ap, arith}
+use Rattle.std.proofs.Common.{◌≡◌, ◌≢◌, ◌⊎◌, true, false, List, eqb-true, eq-eqb, sym, subst, ap, arith, ◌<◌, refl, ℕ, inl, inr}
 use Rattle.std.proofs.lemmas.Bool.{and_parts, and_from, false_from_ne_true}
 use Rattle.std.proofs.lemmas.Bool.Decides.{nat_tests}
+use Rattle.std.specs.declared.cmp.Ordering.{Ordering}
+use Rattle.std.specs.declared.cmp.Ordering.TheVariants.{Less, Equal}
+use Rattle.std.specs.Ordering.{nat_cmp, ordering_then, is_lt}
+use Rattle.std.specs.Cmp.{nat_cmp_is}
 use Rattle.dt_lists.specs.Lists.{Has, Either}
 use Rattle.dt_lists.proofs.Callers.{any_map, any_of_test, test_of_any, either_nat, either_and, either_same}
 use Rattle.dt_access.specs.Ids.{Before, same_id, is_among}
@@ -21,9 +25,6 @@ before_transitive a b c h k = grind arith
 
 pub before_total : (a b : TxnId) → a ≢ b → Before a b ⊎ Before b a
 before_total a b ne = grind (arith, same_by_parts a b)
-
-pub before_asymmetric : (a b : TxnId) → Before a b → ¬ (Before b a)
-before_asymmetric a b h k = before_irreflexive a (before_transitive a b a h k)
 
 pub before_decided : (a b : TxnId) → Either (Before a b)
 before_decided a b = grind arith
@@ -59,3 +60,17 @@ among_of_has ids id h = test_of_any (same_id id) ids (any_map _ _ ids (λ i s. t
 
 pub not_among : (ids : List TxnId) (id : TxnId) → ¬ (Has ids id) → is_among ids id ≡ false
 not_among ids id n = false_from_ne_true _ (λ e. n (has_of_among ids id e))
+
+-- the order in which a sort compares ids
+abbrev pub by_parts : TxnId → TxnId → Ordering
+by_parts a b = ordering_then (nat_cmp a.seq b.seq) (nat_cmp a.region b.region)
+
+compare_less : (m n : ℕ) → m < n → nat_cmp m n ≡ Less
+compare_less m n h = sym (nat_cmp_is m n Less h)
+
+compare_same : (n : ℕ) → nat_cmp n n ≡ Equal
+compare_same n = sym (nat_cmp_is n n Equal refl)
+
+pub before_less : (a b : TxnId) → Before a b → is_lt (by_parts a b) ≡ true
+before_less a b (inl h) = rw (compare_less a.seq b.seq h) refl
+before_less a b (inr h) = rw (h.0, compare_same b.seq, compare_less a.region b.region h.1) refl

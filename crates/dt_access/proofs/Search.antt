@@ -1,6 +1,6 @@
 -- How a key of a granule is found in an ascending list of keys: the first key that is not less than the granule is the
 -- granule itself, or the first that is not less than the granule with a `/` behind it begins so, where there is one.
-use Rattle.std.proofs.Common.{◌≡◌, ◌⊎◌, ℕ, zero, suc, ◌-◌, ◌<◌, Bool, true, false, cond, ◌&&◌, ◌||◌, nat_lt, nat_eq, List, [], ◌∷◌}
+use Rattle.std.proofs.Common.{◌≡◌, ◌⊎◌, ℕ, zero, suc, ◌-◌, Bool, true, false, cond, ◌&&◌, ◌||◌, nat_lt, nat_eq, List, [], ◌∷◌}
 use Rattle.std.proofs.Common.{◌++◌, length, take, drop, slice_index_or, refl, ap, ap₂, sym, ◌∙◌, subst, inl, inr, arith}
 use Rattle.std.specs.List.Sorted.{IsPartitionedBy}
 use Rattle.std.specs.Ordering.{nat_cmp, is_lt, ordering_then}
@@ -11,14 +11,13 @@ use Rattle.std.specs.Cmp.Lexicographic.{slice_cmp, pointwise, nat_list_cmp_total
 use Rattle.std.proofs.lemmas.Map.Lookups.{exact_unsigned}
 use Rattle.std.proofs.lemmas.Bool.{or_left, or_right}
 use Rattle.std.proofs.lemmas.List.{take-append-drop, append-nil, take_all, length-drop}
-use Rattle.dt_lists.specs.Lists.{AnyIn, AllIn, Has}
-use Rattle.dt_lists.proofs.Callers.{all_get, any_get, any_append_right, any_of_test, test_of_any}
+use Rattle.dt_lists.specs.Lists.{AnyIn, Has}
+use Rattle.dt_lists.proofs.Callers.{all_get, any_get, any_append_right, any_of_test, test_of_any, all_index, either_side}
 use Rattle.dt_access.specs.declared.access.Mode.{Mode}
 use Rattle.dt_access.specs.Granules.{Bytes, granule_of}
 use Rattle.dt_access.specs.Clash.{same_key}
 use Rattle.dt_access.specs.Meeting.{EndsAt, has_granule, begins_with, is_below}
 use Rattle.dt_access.specs.Orders.{KeyBefore, HasAscendingKeys}
-use Rattle.dt_access.proofs.Units.{either_case}
 use Rattle.dt_access.proofs.GranuleLaws.{key_of_granule, granule_of_row}
 
 -- ---- comparing with a granule
@@ -76,12 +75,6 @@ between (c ∷ g) (y ∷ ys) r low high = by (nat_cmp y c) refl low high (betwee
 
 -- ---- searching an ascending list
 
--- at a place of a list where each item has P
-at : {A : Type 0} (P : A → Type 0) (xs : List A) (i : ℕ) (d : A) → AllIn P xs → i < length xs → P (slice_index_or xs i d)
-at P [] i d all lt = absurd (omega arith)
-at P (x ∷ xs) zero d all lt = all.0
-at P (x ∷ xs) (suc i) d all lt = at P xs i d all.1 (omega arith)
-
 less_of : (o : Ordering) → is_lt o ≡ true → o ≡ Less
 less_of Less e = refl
 less_of Equal e = cc
@@ -92,7 +85,7 @@ pub parted : (bound : Bytes) (xs : List (Bytes × Mode)) → HasAscendingKeys xs
 parted bound [] asc i j d le lt e = absurd (omega arith)
 parted bound (x ∷ xs) asc zero zero d le lt e = e
 parted bound (x ∷ xs) asc zero (suc j) d le lt e =
-    let before : KeyBefore x.0 (slice_index_or xs j d).0 = at (λ y. KeyBefore x.0 y.0) xs j d asc.0 (omega arith) in
+    let before : KeyBefore x.0 (slice_index_or xs j d).0 = all_index (λ y. KeyBefore x.0 y.0) xs j d asc.0 (omega arith) in
     ap is_lt (nat_list_cmp_total.trans x.0 (slice_index_or xs j d).0 bound before (less_of _ e))
 parted bound (x ∷ xs) asc (suc i) zero d le lt e = absurd (omega arith)
 parted bound (x ∷ xs) asc (suc i) (suc j) d le lt e = parted bound xs asc.1 i j d (omega arith) (omega arith) e
@@ -175,7 +168,7 @@ row_first xs i g rest asc ends x here of is =
 pub found : (xs : List (Bytes × Mode)) (i j : ℕ) (g : Bytes) → HasAscendingKeys xs → EndsAt g xs i → EndsAt (g ++ 47 ∷ []) xs j
     → (begins_with (drop i xs) g || begins_with (drop j xs) g) ≡ has_granule xs g
 found xs i j g asc ends rows = same_tests (begins_with (drop i xs) g || begins_with (drop j xs) g) (has_granule xs g)
-    (λ e. elim (either_case (begins_with (drop i xs) g) (begins_with (drop j xs) g) e) [ inl h ↦ begins_has xs i g h | inr h ↦ begins_has xs j g h ])
+    (λ e. elim (either_side (begins_with (drop i xs) g) (begins_with (drop j xs) g) e) [ inl h ↦ begins_has xs i g h | inr h ↦ begins_has xs j g h ])
     (λ e.
     let r : (x : Bytes × Mode) × Has xs x × (same_key g (granule_of x.0) ≡ true) = any_get _ xs (any_of_test (λ a. same_key g (granule_of a.0)) xs e) in
     let of : granule_of (r.0).0 ≡ g = sym ((bytes_decides g (granule_of (r.0).0)).0 r.2) in

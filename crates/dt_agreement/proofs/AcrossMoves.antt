@@ -16,7 +16,7 @@ use Rattle.dt_txn.specs.Staleness.{IsStaleOutcome}
 use Rattle.dt_txn.specs.Execution.{one}
 use Rattle.dt_txn.specs.Serial.{table_after}
 use Rattle.dt_serial.specs.Order.{IsLive, IsHistory, Ordered, uses_in}
-use Rattle.dt_serial.proofs.Callers.{across_fewer, across_moves, live_of_outcome, looked_has, outcome_at, single_outcome}
+use Rattle.dt_serial.proofs.Callers.{across_fewer, across_moves, live_of_outcome, looked_has, has_outcome_at, single_outcome}
 use Rattle.dt_cluster.specs.declared.Cluster.{Cluster}
 use Rattle.dt_workload.specs.declared.Workload.{Workload}
 use Rattle.dt_session.specs.World.{World, opening_table, logs_of, txn_of, outcome_in}
@@ -26,7 +26,7 @@ use Rattle.dt_agreement.specs.LegalRun.{IsLegalRun}
 use Rattle.dt_agreement.specs.Invariant.{Rooted, Inv}
 use Rattle.dt_agreement.proofs.Submissions.{txn_id}
 use Rattle.dt_agreement.proofs.LegalWorlds.{legal_keeps}
-use Rattle.dt_agreement.proofs.MoveHistory.{history}
+use Rattle.dt_agreement.proofs.MoveHistory.{order_is_history}
 use Rattle.dt_agreement.proofs.RootedWorlds.{legal_roots}
 use Rattle.dt_agreement.proofs.AllAgree.{has_lookup, outcomes_in_order, outcome_ids, outcomes_once}
 
@@ -40,7 +40,7 @@ record RanFresh (cluster : Cluster) (w : World) (order : List TxnId) (a : TxnId)
 
 module _ {cluster : Cluster} {workload : Workload} {w : World} {order : List TxnId} (i : Inv cluster workload w order) (rooted : Rooted cluster w order) where
   past : IsHistory cluster.procs (Precedes (logs_of w)) (opening_table cluster) (txns_of w order)
-  past = history i rooted
+  past = order_is_history i rooted
 
   -- an executed attempt has an outcome in the serial run
   outcome_of_executed : (a : TxnId) → Has order a → (o : Outcome) × Has (outcomes_in_order cluster w order) (a, o) × (outcome_in (outcomes_in_order cluster w order) a ≡ Some o)
@@ -88,7 +88,7 @@ module _ {cluster : Cluster} {workload : Workload} {w : World} {order : List Txn
 
       same : p.outcome ≡ (one cluster.procs x seen).0
       same = single_outcome cluster.procs (Precedes (logs_of w)) (opening_table cluster) (txns_of w order) past x.id p.outcome (one cluster.procs x seen).0 p.gave
-          (outcome_at cluster.procs (txns_of w order) (opening_table cluster) x s)
+          (has_outcome_at cluster.procs (txns_of w order) (opening_table cluster) x s)
 
       live : IsLive x seen
       live = live_of_outcome cluster.procs x seen (subst (λ o. ¬ (IsStaleOutcome o)) same p.fresh)

@@ -49,7 +49,7 @@ use Rattle.dt_agreement.proofs.RegionViews.{view_fronts, order_known}
 use Rattle.dt_agreement.proofs.Annotations.{moves_its_unit, txns_valid, unmoved_at_first}
 use Rattle.dt_agreement.proofs.Runs.{with_executed_front, run_front, order_of_more}
 use Rattle.dt_agreement.proofs.LegalWorlds.{legal_keeps}
-use Rattle.dt_agreement.proofs.MoveHistory.{order_ids, done_txn_ids, history, region_members, region_down}
+use Rattle.dt_agreement.proofs.MoveHistory.{order_ids, done_txn_ids, order_is_history, region_members, region_down}
 use Rattle.dt_agreement.proofs.RootedAnnotations.{next_unknown}
 use Rattle.dt_agreement.proofs.RootedWorlds.{legal_roots}
 
@@ -111,7 +111,7 @@ IsDrainedAt w region = IsDrained (received_logs w region) (node_at w region).her
 -- a world that keeps the invariant, and in which every annotation is rooted
 module _ {cluster : Cluster} {workload : Workload} {w : World} {order : List TxnId} (i : Inv cluster workload w order) (rooted : Rooted cluster w order) where
   past : IsHistory cluster.procs (Precedes (logs_of w)) (opening_table cluster) (txns_of w order)
-  past = history i rooted
+  past = order_is_history i rooted
 
   pub outcome_ids : map (λ e. e.0) (outcomes_in_order cluster w order) ≡ order
   outcome_ids = outcomes_ids cluster.procs (txns_of w order) (opening_table cluster) ∙ order_ids i

@@ -35,7 +35,6 @@ use Rattle.dt_session.specs.Agreement.{Agree}
 use Rattle.dt_agreement.specs.LegalRun.{IsLegalRun}
 use Rattle.dt_agreement.specs.Invariant.{IsPlaceOf, Inv}
 use Rattle.dt_agreement.specs.Reports.{IsAccounted, IsAnswered}
-use Rattle.dt_agreement.proofs.Submissions.{txn_found}
 use Rattle.dt_agreement.proofs.Logs.{log_once}
 use Rattle.dt_agreement.proofs.RegionViews as views
 use Rattle.dt_agreement.proofs.Rule1Submit as rule1
@@ -86,7 +85,7 @@ module _ (cluster : Cluster) (ok : IsValidCluster cluster) (workload : Workload)
 
 pub submits : (cluster : Cluster) → IsValidCluster cluster → (workload : Workload) (w : World) (order : List TxnId) (region : ℕ) (name : Bytes)
     → MaySubmit cluster w region (session_at workload.sessions w.places region name) → Inv cluster workload w order → Submits cluster workload w region name
-submits cluster ok workload w order region name may i = rule1.submits i ok region name may
+submits cluster ok workload w order region name may i = rule1.next_call_submits i ok region name may
 
 pub executable_known : (cluster : Cluster) (workload : Workload) (w : World) (order : List TxnId) (region : ℕ) (id : TxnId) → region < cluster.regions
     → MayStep (received_logs w region) (node_at w region).here (Execute region id) → Inv cluster workload w order → WasSubmitted w id
@@ -126,9 +125,6 @@ module _ (cluster : Cluster) (workload : Workload) (w : World) (order : List Txn
   -- what a region executed was submitted
   pub done_known : (region : ℕ) → region < cluster.regions → AllIn (WasSubmitted w) (done_ids (node_at w region).here)
   done_known = views.done_known i
-
-  pub transaction_found : (region : ℕ) (s : Submission) → Has (node_at w region).submitted s → txn_of w s.txn.id ≡ Some s.txn
-  transaction_found region s h = txn_found cluster.regions w i.nodes i.ids s (from_region w region s h)
 
   -- a submitted transaction is valid, and has the id by which it is found
   pub transaction_valid : (id : TxnId) (txn : Txn) → txn_of w id ≡ Some txn → IsValid cluster.procs cluster.version cluster.regions txn × (txn.id ≡ id) × (id.region < cluster.regions)

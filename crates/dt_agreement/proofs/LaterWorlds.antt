@@ -21,7 +21,7 @@ use Rattle.dt_session.specs.Run.{world_after, order_of}
 use Rattle.dt_agreement.specs.LegalRun.{IsLegalRun}
 use Rattle.dt_agreement.specs.Invariant.{Inv}
 use Rattle.dt_agreement.proofs.Submissions.{WasSubmitted, Keeps, submission_same, txn_stays}
-use Rattle.dt_agreement.proofs.Rule1Submit.{Submits, attempt_made, submits, made_found}
+use Rattle.dt_agreement.proofs.Rule1Submit.{Submits, attempt_made, next_call_submits, made_found}
 use Rattle.dt_agreement.proofs.Rule2Append.{append_cases, submitted_placed}
 use Rattle.dt_agreement.proofs.Rule6Execute.{executable_known, executed_more}
 use Rattle.dt_agreement.proofs.Runs.{world_after_more, run_front, run_more}
@@ -46,7 +46,7 @@ module _ {cluster : Cluster} {workload : Workload} (ok : IsValidCluster cluster)
   pub next_found : (w : World) (order : List TxnId) (event : Event) → IsLegal cluster workload w event → Inv cluster workload w order
       → (id : TxnId) (s : Submission) → submission_of w id ≡ Some s → submission_of (next cluster workload w event) id ≡ Some s
   next_found w order (Submit region name) l i id s e =
-      let r : Submits cluster workload w region name = submits i ok region name l.allowed in
+      let r : Submits cluster workload w region name = next_call_submits i ok region name l.allowed in
       subst (λ x. submission_of x id ≡ Some s) (sym r.next) (made_found i ok region name fits l.regions r id s e)
   next_found w order (Append home source number) l i id s e = elim (append_cases i home source number l.regions.0 l.regions.1 l.allowed) [
     | inl same ↦ subst (λ x. submission_of x id ≡ Some s) (sym same) e
@@ -98,7 +98,7 @@ answer_done workload w region (Some (session, place)) = λ q. refl
 next_done : {cluster : Cluster} {workload : Workload} → IsValidCluster cluster → (w : World) (order : List TxnId) (event : Event) → IsLegal cluster workload w event
     → Inv cluster workload w order → (region : ℕ) → IsDoneMore w (next cluster workload w event) region
 next_done {cluster = cluster} {workload = workload} ok w order (Submit region name) l i =
-    let r : Submits cluster workload w region name = submits i ok region name l.allowed in
+    let r : Submits cluster workload w region name = next_call_submits i ok region name l.allowed in
     done_kept w (next cluster workload w (Submit region name)) (subst (Keeps (λ n. done_ids n.here) w) (sym r.next)
     (field_of_set (λ n. done_ids n.here) w.nodes region (node_submitted (node_at w region) (attempt_made r)) no_node refl))
 next_done {cluster = cluster} {workload = workload} ok w order (Append home source number) l i =

@@ -220,8 +220,8 @@ module _ {cluster : Cluster} {workload : Workload} {w : World} {order : List Txn
         subst₂ (λ u t. Ordered (Precedes (logs_of w)) u t) p.2 q.2 (comparable_in_log (logs_of w) a.home p.0 q.0 p.1 q.1 apart (subst₂ (λ k l. clash k l ≡ true) (sym left) (sym right) clashes))
 
     -- the order is a history
-    pub history : IsHistory cluster.procs (Precedes (logs_of w)) (opening_table cluster) (txns_of w order)
-    history = record {
+    pub order_is_history : IsHistory cluster.procs (Precedes (logs_of w)) (opening_table cluster) (txns_of w order)
+    order_is_history = record {
       transitive = precedes_transitive (logs_of w);
       unmoved = unmoved_at_first cluster;
       keys = keep_to_keys;

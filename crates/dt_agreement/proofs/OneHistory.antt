@@ -32,7 +32,7 @@ use Rattle.dt_agreement.specs.OneHistory.{AreOneHistory, SeesMover, executions_a
 use Rattle.dt_agreement.proofs.Annotations.{unmoved_at_first}
 use Rattle.dt_agreement.proofs.LaterWorlds.{later_done, later_found}
 use Rattle.dt_agreement.proofs.LegalWorlds.{legal_keeps}
-use Rattle.dt_agreement.proofs.MoveHistory.{done_txn_ids, history, region_down, region_members}
+use Rattle.dt_agreement.proofs.MoveHistory.{done_txn_ids, order_is_history, region_down, region_members}
 use Rattle.dt_agreement.proofs.RegionViews.{done_known}
 use Rattle.dt_agreement.proofs.RootedWorlds.{legal_roots}
 use Rattle.dt_agreement.proofs.Rule6Execute.{executed_txns}
@@ -55,7 +55,7 @@ says_so (inr n) q = absurd (n q)
 
 module _ {cluster : Cluster} {workload : Workload} {w : World} {order : List TxnId} (i : Inv cluster workload w order) (rooted : Rooted cluster w order) where
   past : IsHistory cluster.procs (Precedes (logs_of w)) (opening_table cluster) (txns_of w order)
-  past = history i rooted
+  past = order_is_history i rooted
 
   abbrev test : TxnId → TxnId → Bool
   test u t = says (precedes_decided (logs_of w) u t)
@@ -125,14 +125,14 @@ module _ {cluster : Cluster} {workload : Workload} {first : List Event} {region 
   i : Inv cluster workload early (order_of first)
   i = legal_keeps run
 
-  abbrev pub ran : List Txn
-  ran = executions_at early region
+  abbrev pub ran_early : List Txn
+  ran_early = executions_at early region
 
-  pub table_was : (node_at early region).here.table ≡ table_after cluster.procs ran (opening_table cluster)
+  pub table_was : (node_at early region).here.table ≡ table_after cluster.procs ran_early (opening_table cluster)
   table_was = (i.tables region legal.regions).table
 
-  ran_now : executions_at now region ≡ ran ++ x ∷ []
-  ran_now = subst (λ u. executions_at u region ≡ ran ++ x ∷ []) (sym (world_after_more cluster workload first (Execute region id)))
+  ran_now : executions_at now region ≡ ran_early ++ x ∷ []
+  ran_now = subst (λ u. executions_at u region ≡ ran_early ++ x ∷ []) (sym (world_after_more cluster workload first (Execute region id)))
       (executed_txns i region id legal.regions legal.allowed x found)
 
   all : IsLegalRun cluster workload here
@@ -141,22 +141,22 @@ module _ {cluster : Cluster} {workload : Workload} {first : List Event} {region 
   rooted_now : Rooted cluster now (order_of here)
   rooted_now = legal_roots all
 
-  members_now : AllIn (λ y. Has (txns_of now (order_of here)) y) (ran ++ x ∷ [])
+  members_now : AllIn (λ y. Has (txns_of now (order_of here)) y) (ran_early ++ x ∷ [])
   members_now = subst (AllIn (λ y. Has (txns_of now (order_of here)) y)) ran_now (region_members (legal_keeps all) rooted_now region legal.regions)
 
-  down_now : IsDown (Precedes (logs_of now)) (txn_ids (ran ++ x ∷ []))
+  down_now : IsDown (Precedes (logs_of now)) (txn_ids (ran_early ++ x ∷ []))
   down_now = subst (λ xs. IsDown (Precedes (logs_of now)) (txn_ids xs)) ran_now (region_down (legal_keeps all) rooted_now region legal.regions)
 
   -- no key's unit has been moved less often than the attempt was annotated with
   pub counters_were : AllIn (λ a. a.counter ≤ counter_of (node_at early region).here.table a.key) x.access
   counters_were = subst (λ t. AllIn (λ a. a.counter ≤ counter_of t a.key) x.access) (sym table_was)
-      (counters_reached cluster.procs (Precedes (logs_of now)) (opening_table cluster) (txns_of now (order_of here)) (history (legal_keeps all) rooted_now) ran x [] members_now down_now)
+      (counters_reached cluster.procs (Precedes (logs_of now)) (opening_table cluster) (txns_of now (order_of here)) (order_is_history (legal_keeps all) rooted_now) ran_early x [] members_now down_now)
 
   -- and where it is not stale, just as often
   pub counters_same : ¬ (IsStaleOutcome (one cluster.procs x (node_at early region).here.table).0) → AllIn (λ a. counter_of (node_at early region).here.table a.key ≡ a.counter) x.access
   counters_same fresh = subst (λ t. AllIn (λ a. counter_of t a.key ≡ a.counter) x.access) (sym table_was)
-      (counters_exact cluster.procs (Precedes (logs_of now)) (opening_table cluster) (txns_of now (order_of here)) (history (legal_keeps all) rooted_now) ran x [] members_now down_now
-      (live_of_outcome cluster.procs x (table_after cluster.procs ran (opening_table cluster))
+      (counters_exact cluster.procs (Precedes (logs_of now)) (opening_table cluster) (txns_of now (order_of here)) (order_is_history (legal_keeps all) rooted_now) ran_early x [] members_now down_now
+      (live_of_outcome cluster.procs x (table_after cluster.procs ran_early (opening_table cluster))
       (subst (λ t. ¬ (IsStaleOutcome (one cluster.procs x t).0)) table_was fresh)))
 
   module _ (last : List Event) (whole : IsLegalRun cluster workload (first ++ Execute region id ∷ [] ++ last)) where
@@ -169,12 +169,12 @@ module _ {cluster : Cluster} {workload : Workload} {first : List Event} {region 
     abbrev pub then_ran : List Txn
     then_ran = txns_of w more.0
 
-    still : txns_of w (done_ids (node_at now region).here) ≡ ran ++ x ∷ []
+    still : txns_of w (done_ids (node_at now region).here) ≡ ran_early ++ x ∷ []
     still = txns_stay now w (txn_stays now w (later_found here last whole)) (done_ids (node_at now region).here) (done_known (legal_keeps all) region legal.regions) ∙ ran_now
 
-    pub ran_all : executions_at w region ≡ ran ++ x ∷ then_ran
+    pub ran_all : executions_at w region ≡ ran_early ++ x ∷ then_ran
     ran_all = ap (txns_of w) (sym more.1) ∙ filter_map-append (txn_of w) (done_ids (node_at now region).here) more.0
-        ∙ ap (λ l. l ++ then_ran) still ∙ append_assoc ran (x ∷ []) then_ran
+        ∙ ap (λ l. l ++ then_ran) still ∙ append_assoc ran_early (x ∷ []) then_ran
 
     k : Inv cluster workload w (order_of (here ++ last))
     k = legal_keeps whole
@@ -183,21 +183,21 @@ module _ {cluster : Cluster} {workload : Workload} {first : List Event} {region 
     rooted = legal_roots whole
 
     past_then : IsHistory cluster.procs (Precedes (logs_of w)) (opening_table cluster) (txns_of w (order_of (here ++ last)))
-    past_then = history k rooted
+    past_then = order_is_history k rooted
 
-    members : AllIn (λ y. Has (txns_of w (order_of (here ++ last))) y) (ran ++ x ∷ then_ran)
+    members : AllIn (λ y. Has (txns_of w (order_of (here ++ last))) y) (ran_early ++ x ∷ then_ran)
     members = subst (AllIn (λ y. Has (txns_of w (order_of (here ++ last))) y)) ran_all (region_members k rooted region legal.regions)
 
-    down : IsDown (Precedes (logs_of w)) (txn_ids (ran ++ x ∷ then_ran))
+    down : IsDown (Precedes (logs_of w)) (txn_ids (ran_early ++ x ∷ then_ran))
     down = subst (λ xs. IsDown (Precedes (logs_of w)) (txn_ids xs)) ran_all (region_down k rooted region legal.regions)
 
     -- the next mover that the attempt sees
     pub sees_mover : AllIn (SeesMover cluster w (order_of (here ++ last)) (node_at early region).here.table id) x.access
     sees_mover = subst (λ t. AllIn (SeesMover cluster w (order_of (here ++ last)) t id) x.access) (sym table_was)
-        (subst (λ u. AllIn (SeesMover cluster w (order_of (here ++ last)) (table_after cluster.procs ran (opening_table cluster)) u) x.access) (txn_id early id x found)
+        (subst (λ u. AllIn (SeesMover cluster w (order_of (here ++ last)) (table_after cluster.procs ran_early (opening_table cluster)) u) x.access) (txn_id early id x found)
         (all_put _ x.access (λ a ka by. (
-          flag_down cluster.procs (Precedes (logs_of w)) (opening_table cluster) (txns_of w (order_of (here ++ last))) past_then ran x then_ran a by members down ka,
-          λ r. flag_up cluster.procs (Precedes (logs_of w)) (opening_table cluster) (txns_of w (order_of (here ++ last))) past_then ran x then_ran a by members down ka r.0 r.1,
+          flag_down cluster.procs (Precedes (logs_of w)) (opening_table cluster) (txns_of w (order_of (here ++ last))) past_then ran_early x then_ran a by members down ka,
+          λ r. flag_up cluster.procs (Precedes (logs_of w)) (opening_table cluster) (txns_of w (order_of (here ++ last))) past_then ran_early x then_ran a by members down ka r.0 r.1,
         ))))
 
 -- of a legal list, in which an execution stands

@@ -28,7 +28,7 @@ use Rattle.dt_agreement.proofs.Submissions.{Keeps, WasSubmitted, txn_there, numb
 use Rattle.dt_agreement.proofs.RegionViews.{closed_full, present_known, executed_closed}
 use Rattle.dt_agreement.proofs.OpeningWorld.{opening_submissions}
 use Rattle.dt_agreement.proofs.Annotations.{opening_home_stays, unmoved_at_first}
-use Rattle.dt_agreement.proofs.MoveHistory.{done_txn_ids, region_members, region_down, history}
+use Rattle.dt_agreement.proofs.MoveHistory.{done_txn_ids, region_members, region_down, order_is_history}
 
 -- where logs and the history of each key stay, so does what roots an entry
 pub entries_kept : (cluster : Cluster) (l k : View) (m n : Bytes → List Moved) → k ≡ l → ((key : Bytes) → n key ≡ m key) → (t : TxnId) (access : List Access)
@@ -128,7 +128,7 @@ module _ {cluster : Cluster} {workload : Workload} {w : World} {order : List Txn
         same = ap (λ t. moves_of t used.0) table
 
         front : IsFront moves (history_of cluster w order used.0)
-        front = moves_front cluster.procs (Precedes (logs_of w)) (opening_table cluster) (txns_of w order) (history i rooted) ran used.0 (region_members i rooted region lr) (region_down i rooted region lr)
+        front = moves_front cluster.procs (Precedes (logs_of w)) (opening_table cluster) (txns_of w order) (order_is_history i rooted) ran used.0 (region_members i rooted region lr) (region_down i rooted region lr)
 
         closed : AllIn (λ m. IsClosed (logs_of w) m.by) moves
         closed = all_map _ _ moves (λ m h. closed_full i region m.by lr (executed_closed i region m.by lr (subst (λ l. Has l m.by) (done_txn_ids i region lr) h)))

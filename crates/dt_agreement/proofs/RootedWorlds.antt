@@ -38,7 +38,7 @@ use Rattle.dt_agreement.specs.LegalRun.{IsLegalRun}
 use Rattle.dt_agreement.specs.Invariant.{history_of, HasRoot, IsRooted, Rooted, Inv}
 use Rattle.dt_agreement.proofs.Submissions.{Keeps, WasSubmitted, txns_stay, txns_same}
 use Rattle.dt_agreement.proofs.RegionViews.{order_known}
-use Rattle.dt_agreement.proofs.Rule1Submit.{Submits, world_made, submits, made_logs, made_was, made_txns}
+use Rattle.dt_agreement.proofs.Rule1Submit.{Submits, world_made, next_call_submits, made_logs, made_was, made_txns}
 use Rattle.dt_agreement.proofs.Rule2Append.{IsNextRequest, append_cases, logs_placed, submissions_placed, submitted_placed, placed_longer, placed_well_formed}
 use Rattle.dt_agreement.proofs.Rule6Execute.{executable_known, txns_more}
 use Rattle.dt_agreement.proofs.Runs.{ordered, world_after_more, run_more, order_of_more}
@@ -54,7 +54,7 @@ module _ {cluster : Cluster} {workload : Workload} {w : World} {order : List Txn
   submit_roots ok fits region name lr may = subst (λ x. Rooted cluster x order) (sym r.next) (all_put _ (submissions v) each)
     where
       r : Submits cluster workload w region name
-      r = submits i ok region name may
+      r = next_call_submits i ok region name may
 
       v : World
       v = world_made r

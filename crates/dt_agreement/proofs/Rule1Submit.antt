@@ -390,8 +390,8 @@ world_made {workload = workload} {w = w} {region = region} r = world_submitted w
 
 module _ {cluster : Cluster} {workload : Workload} {w : World} {order : List TxnId} (i : Inv cluster workload w order) (ok : IsValidCluster cluster) (region : ℕ) (name : Bytes) where
   -- where a session may submit, it has a call that comes next
-  pub submits : MaySubmit cluster w region (session_at workload.sessions w.places region name) → Submits cluster workload w region name
-  submits may = go (session_at workload.sessions w.places region name) refl may
+  pub next_call_submits : MaySubmit cluster w region (session_at workload.sessions w.places region name) → Submits cluster workload w region name
+  next_call_submits may = go (session_at workload.sessions w.places region name) refl may
     where
       go : (o : Option (Session × Place)) → session_at workload.sessions w.places region name ≡ o → MaySubmit cluster w region o → Submits cluster workload w region name
       go None e m = absurd m
@@ -434,4 +434,4 @@ module _ {cluster : Cluster} {workload : Workload} {w : World} {order : List Txn
 
   pub submit_keeps : IsValidWorkload cluster workload → region < cluster.regions → MaySubmit cluster w region (session_at workload.sessions w.places region name)
       → Inv cluster workload (submitted cluster workload w region (session_at workload.sessions w.places region name)) order
-  submit_keeps fits lr may = let r : Submits cluster workload w region name = submits may in subst (λ x. Inv cluster workload x order) (sym r.next) (made_keeps fits lr r)
+  submit_keeps fits lr may = let r : Submits cluster workload w region name = next_call_submits may in subst (λ x. Inv cluster workload x order) (sym r.next) (made_keeps fits lr r)

@@ -1,6 +1,6 @@
 -- Submissions by their ids: each id has one, and it is found.
-use Rattle.dt_access.proofs.Callers.{id_of_test, test_of_id, test_of_other}
-use Rattle.std.proofs.Common.{◌≡◌, ◌≢◌, ◌<◌, ◌+◌, ◌⊎◌, ℕ, true, false, List, [], ◌∷◌, length, slice_get, Some, None, refl, sym, ap, ap₂, subst, ◌∙◌, inl, inr, arith}
+use Rattle.dt_access.proofs.Callers.{id_of_test, test_of_id}
+use Rattle.std.proofs.Common.{◌≡◌, ◌<◌, ◌+◌, ◌⊎◌, ℕ, true, false, List, [], ◌∷◌, length, slice_get, Some, None, refl, sym, ap, ap₂, subst, ◌∙◌, inl, inr, arith}
 use Rattle.std.specs.Prelude.{Option, option_map}
 use Rattle.std.specs.List.{cons_option}
 use Rattle.std.proofs.lemmas.Bool.{cases_Bool}
@@ -43,10 +43,6 @@ find_of_has (x ∷ xs) s one h = go (cases_Bool (same_id x.txn.id s.txn.id)) (λ
     go (inl p) f k = rw p (ap Some (one x s (inl refl) k (id_of_test x.txn.id s.txn.id p)))
     go (inr n) f (inl e) = absurd (cc (test_of_id x.txn.id s.txn.id (ap (λ y. y.txn.id) e)))
     go (inr n) f (inr k) = rw n (f k)
-
-pub find_none : (xs : List Submission) (id : TxnId) → ((s : Submission) → Has xs s → s.txn.id ≢ id) → find_submission xs id ≡ None
-find_none [] id n = refl
-find_none (x ∷ xs) id n = rw (test_of_other x.txn.id id (n x (inl refl))) (find_none xs id (λ s h. n s (inr h)))
 
 -- the submissions of the regions
 

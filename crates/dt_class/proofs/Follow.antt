@@ -1,7 +1,8 @@
 -- The walk over the links of one vertex, from its newest to its oldest.
-use Rattle.std.proofs.Common.{◌≡◌, ◌≢◌, ℕ, zero, suc, ◌+◌, ◌<◌, ◌≤◌, ◌⊎◌, ◌↔◌, ◌∙◌, List, [], ◌∷◌, length, get_or, Option, Some, None, refl, sym, ap, subst, inl, inr, arith}
+use Rattle.std.proofs.Common.{◌≡◌, ◌≢◌, ℕ, zero, suc, ◌+◌, ◌<◌, ◌≤◌, ◌⊎◌, ◌↔◌, ◌∙◌, List, [], ◌∷◌, length, Option, Some, None, sym, ap, subst, inl}
+use Rattle.std.proofs.Common.{inr, arith}
 use Rattle.dt_lists.specs.Lists.{Either, Has, IsFront}
-use Rattle.dt_lists.proofs.Callers.{any_at, either_le, either_nat, front_refl, front_trans}
+use Rattle.dt_lists.proofs.Callers.{any_at, either_le, either_nat, front_trans}
 use Rattle.dt_class.specs.Links.{near_end, far_end, earlier_link, link_at, IsStep, IsNewest, AreChained}
 use Rattle.dt_class.specs.Finds.{FoundView, AddsVertex, GainsSteps}
 use Rattle.dt_class.specs.declared.link.Link.{Link}
@@ -18,7 +19,7 @@ IsStepFrom way links place v t =
     (i : ℕ) × (place ≤ i) × (i < length links) × (near_end way (link_at links i) ≡ v) × (far_end way (link_at links i) ≡ t)
 
 -- of the links from v those past `at` were followed, and the one at it is the next one
-pub record IsFollowed (way : Way) (links : List Link) (v : ℕ) (old new : FoundView) (at : Option ℕ) : Type 0 where
+pub record IsFollowedPast (way : Way) (links : List Link) (v : ℕ) (old new : FoundView) (at : Option ℕ) : Type 0 where
   pub next : IsNewest way links v (bound at) at
   pub short : bound at ≤ length links
   pub vertices : length new.marks ≡ length old.marks
@@ -38,31 +39,8 @@ step_places way links v t = (
   λ s. step_of_place way links v t s.0 s.2 s.3 s.4,
 )
 
--- the newest link, if there is one, is followed first
-begins_at : (way : Way) (links : List Link) (v : ℕ) (old : FoundView) (at : Option ℕ) → IsNewest way links v (length links) at → IsFollowed way links v old old at
-begins_at way links v old None newest =
-    record {
-      next = λ i lt. absurd (omega arith);
-      short = omega arith;
-      vertices = refl;
-      front = front_refl old.order;
-      members = λ t. (λ h. inl h, λ h. elim h [ inl k ↦ k | inr s ↦ absurd (newest s.0 s.2 s.3) ]);
-    }
-begins_at way links v old (Some k) newest =
-    record {
-      next = (omega arith, newest.1, λ i low lt. absurd (omega arith));
-      short = omega (arith, newest.0);
-      vertices = refl;
-      front = front_refl old.order;
-      members = λ t. (λ h. inl h, λ h. elim h [ inl k ↦ k | inr s ↦ absurd (newest.2 s.0 (omega (arith, s.1)) s.2 s.3) ]);
-    }
-
-pub follow_begins : (way : Way) (links : List Link) (newest : List (Option ℕ)) (v : ℕ) (old : FoundView) → AreChained way links newest → v < length newest
-    → IsFollowed way links v old old (get_or newest v None)
-follow_begins way links newest v old chained lt = begins_at way links v old (get_or newest v None) (chained.newest_first v lt)
-
 -- one more link is followed, and then the newest one before it
-module _ (way : Way) (links : List Link) (v k : ℕ) (old new more : FoundView) (f : IsFollowed way links v old new (Some k)) (adds : AddsVertex new (far_end way (link_at links k)) more) where
+module _ (way : Way) (links : List Link) (v k : ℕ) (old new more : FoundView) (f : IsFollowedPast way links v old new (Some k)) (adds : AddsVertex new (far_end way (link_at links k)) more) where
   -- what the followed links lead to, where none between the two places leads from v
   steps_more : (place : ℕ) → place ≤ k → ((i : ℕ) → place ≤ i → i < k → near_end way (link_at links i) ≢ v) → (t : ℕ) → Has more.order t ↔ (Has old.order t ⊎ IsStepFrom way links place v t)
   steps_more place le none t = (down, up)
@@ -81,7 +59,7 @@ module _ (way : Way) (links : List Link) (v k : ℕ) (old new more : FoundView) 
       up : Has old.order t ⊎ IsStepFrom way links place v t → Has more.order t
       up h = elim h [ inl o ↦ (adds.members t).1 (inl ((f.members t).1 (inl o))) | inr s ↦ at s (either_le (k + 1) s.0) (either_nat s.0 k) ]
 
-  goes_on_at : (at : Option ℕ) → IsNewest way links v k at → IsFollowed way links v old more at
+  goes_on_at : (at : Option ℕ) → IsNewest way links v k at → IsFollowedPast way links v old more at
   goes_on_at None newest =
       record {
         next = λ i lt. absurd (omega arith);
@@ -99,12 +77,12 @@ module _ (way : Way) (links : List Link) (v k : ℕ) (old new more : FoundView) 
         members = steps_more (j + 1) (omega (arith, newest.0)) (λ i low lt. newest.2 i (omega arith) lt);
       }
 
-  pub follow_goes_on : (newest : List (Option ℕ)) → AreChained way links newest → IsFollowed way links v old more (earlier_link way (link_at links k))
+  pub follow_goes_on : (newest : List (Option ℕ)) → AreChained way links newest → IsFollowedPast way links v old more (earlier_link way (link_at links k))
   follow_goes_on newest chained =
       let next : IsNewest way links (near_end way (link_at links k)) k (earlier_link way (link_at links k)) = chained.earlier_next k (omega (arith, f.short)) in
       goes_on_at (earlier_link way (link_at links k)) (subst (λ u. IsNewest way links u k (earlier_link way (link_at links k))) f.next.1 next)
 
-pub follow_ends : (way : Way) (links : List Link) (v : ℕ) (old new : FoundView) → IsFollowed way links v old new None → GainsSteps way links v old new
+pub follow_ends : (way : Way) (links : List Link) (v : ℕ) (old new : FoundView) → IsFollowedPast way links v old new None → GainsSteps way links v old new
 follow_ends way links v old new f =
     record {
       vertices = f.vertices;

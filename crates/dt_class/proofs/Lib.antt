@@ -1,4 +1,4 @@
-pub mod Kept
+pub mod NewestLinks
 pub mod Marks
 pub mod Follow
 pub mod Walk

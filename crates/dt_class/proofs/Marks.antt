@@ -4,8 +4,8 @@ use Rattle.std.proofs.Common.{◌≡◌, ℕ, zero, suc, ◌+◌, ◌<◌, ◌�
 use Rattle.std.proofs.Common.{◌++◌, length, get_or, set, refl, sym, ap, subst, inl, inr, arith, length-set, true≢false}
 use Rattle.std.proofs.lemmas.List.{get_or-set_same, get_or-set_other}
 use Rattle.dt_lists.specs.Lists.{AllIn, EachThen, Either, Has}
-use Rattle.dt_lists.proofs.Callers.{all_put, distinct_push, distinct_within, each_append, either_nat, has_more, has_last, has_longer, front_append, front_refl}
-use Rattle.dt_class.specs.Finds.{FoundView, IsMarked, IsFoundOf, AddsVertex, AreMarked}
+use Rattle.dt_lists.proofs.Callers.{all_put, distinct_push, distinct_within, each_append, either_nat, has_more, has_last, has_longer, front_append}
+use Rattle.dt_class.specs.Finds.{FoundView, IsMarked, IsFoundOf, AddsVertex}
 
 -- past the last mark nothing is marked
 pub marked_within : (marks : List Bool) (v : ℕ) → IsMarked marks v → v < length marks
@@ -30,15 +30,6 @@ found_more marks order v found lt unmarked =
           λ m. has_longer order (v ∷ []) u ((found.members u).0 (sym same ∙ m)),
           λ h. same ∙ elim (has_more order v u h) [ inl k ↦ (found.members u).1 k | inr e ↦ absurd (ne (sym e)) ],
         )
-
--- a found vertex that was there already, and one that was not
-pub adds_none : (found : FoundView) (v : ℕ) → IsFoundOf found.marks found.order → get_or found.marks v false ≡ true → AddsVertex found v found
-adds_none found v is m =
-    record {
-      vertices = refl;
-      front = front_refl found.order;
-      members = λ u. (λ h. inl h, λ h. elim h [ inl k ↦ k | inr e ↦ subst (Has found.order) (sym e) ((is.members v).0 m) ]);
-    }
 
 pub adds_one : (found : FoundView) (v : ℕ) → AddsVertex found v (record { marks = set found.marks v true; order = found.order ++ v ∷ [] })
 adds_one found v =
@@ -77,9 +68,6 @@ pub record AreMarkedBelow (marks : List Bool) (n : ℕ) (list : List ℕ) : Type
   pub ascending : EachThen (λ u v. u < v) list
   pub members : (v : ℕ) → Has list v ↔ ((v < n) × IsMarked marks v)
 
-pub below_begins : (marks : List Bool) → AreMarkedBelow marks 0 []
-below_begins marks = record { ascending = tt; members = λ v. (λ h. absurd h, λ h. absurd (omega (arith, h.0))) }
-
 pub below_more : (marks : List Bool) (n : ℕ) (list : List ℕ) → AreMarkedBelow marks n list → IsMarked marks n → AreMarkedBelow marks (n + 1) (list ++ n ∷ [])
 below_more marks n list below m =
     record {
@@ -109,11 +97,4 @@ below_past marks n list below unmarked =
               | inr ne ↦ (below.members v).1 (omega (arith, h.0, ne), h.1)
             ],
           );
-    }
-
-pub below_ends : (marks : List Bool) (n : ℕ) (list : List ℕ) → AreMarkedBelow marks n list → length marks ≤ n → AreMarked marks list
-below_ends marks n list below le =
-    record {
-      ascending = below.ascending;
-      members = λ v. (λ h. ((below.members v).0 h).1, λ m. (below.members v).1 (omega (arith, marked_within marks v m), m));
     }

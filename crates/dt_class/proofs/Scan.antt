@@ -1,5 +1,5 @@
 -- A search that goes on from each vertex in turn that is not found yet.
-use Rattle.std.proofs.Common.{◌≡◌, ◌∙◌, ℕ, ◌+◌, ◌<◌, ◌≤◌, ◌⊎◌, true, false, List, length, take, Option, Some, None, refl, sym, ap, subst, inl, inr, arith, length-append}
+use Rattle.std.proofs.Common.{◌≡◌, ◌∙◌, ℕ, ◌+◌, ◌<◌, ◌≤◌, ◌⊎◌, true, false, List, length, take, Option, Some, None, refl, sym, ap, subst, inl, inr, arith}
 use Rattle.std.proofs.lemmas.List.{take_at}
 use Rattle.dt_lists.specs.Lists.{AllIn, Has}
 use Rattle.dt_lists.specs.Chain.{Chain, here}
@@ -16,11 +16,6 @@ module _ (way : Way) (links : List Link) where
   followed_still old more v closed adds =
       let front : take (length old.order) more.order ≡ old.order = ap (take (length old.order)) (sym adds.front.1) ∙ take_at old.order adds.front.0 (length old.order) refl in
       rw front (all_put _ old.order (λ u h t e. (adds.members t).1 (inl (closed u h t e))))
-
-  pub short_still : (old more : FoundView) (v : ℕ) → AddsVertex old v more → length old.order ≤ length more.order
-  short_still old more v adds =
-      let l : length more.order ≡ length old.order + length adds.front.0 = ap length (sym adds.front.1) ∙ length-append old.order adds.front.0 in
-      omega (arith, l)
 
   -- one more vertex is found, and the search goes on from it
   pub goes_on : (old more new : FoundView) (v : ℕ) → IsClosedUnder way links old.order → AddsVertex old v more → Spreads way links more new → GoesOn way links old v new

@@ -12,10 +12,10 @@ use Rattle.dt_class.specs.declared.link.Way.{Way}
 use Rattle.dt_class.proofs.Marks.{marked_within}
 
 -- where nothing is read the list has ended
-pub past_end : {A : Type 0} (xs : List A) (i : ℕ) → slice_get xs i ≡ None → length xs ≤ i
-past_end [] i e = omega arith
-past_end (x ∷ xs) zero e = cc
-past_end (x ∷ xs) (suc i) e = let r : length xs ≤ i = past_end xs i e in omega arith
+pub ended_where_none : {A : Type 0} (xs : List A) (i : ℕ) → slice_get xs i ≡ None → length xs ≤ i
+ended_where_none [] i e = omega arith
+ended_where_none (x ∷ xs) zero e = cc
+ended_where_none (x ∷ xs) (suc i) e = let r : length xs ≤ i = ended_where_none xs i e in omega arith
 
 -- what was found are vertices
 pub found_within : (found : FoundView) (count place v : ℕ) → IsFoundOf found.marks found.order → length found.marks ≡ count → slice_get found.order place ≡ Some v → v < count
@@ -86,10 +86,6 @@ pub record IsBegun (count : ℕ) (starts : List ℕ) (place : ℕ) (found : Foun
   pub members : (v : ℕ) → Has found.order v ↔ Has (take place starts) v
 
 module _ (count : ℕ) (starts : List ℕ) where
-  pub none_begun : (empty : FoundView) → empty.order ≡ [] → length empty.marks ≡ count → IsBegun count starts 0 empty
-  none_begun empty none vertices =
-      record { vertices = vertices; members = λ v. (λ h. subst (λ order. Has order v) none h, λ h. absurd h) }
-
   pub one_more_begun : (found more : FoundView) (place : ℕ) → place < length starts → IsBegun count starts place found → AddsVertex found (get_or starts place 0) more → IsBegun count starts (place + 1) more
   one_more_begun found more place lt begun adds =
       let v : ℕ = get_or starts place 0 in

@@ -1,7 +1,7 @@
 -- Every file is a cluster or has a fault: what each step of the reading comes to is decided, in the order in which faults are reported.
 -- That the tables of a document are in order, is what `TomlTables` gives.
 use Rattle.std.proofs.Common.{◌≡◌, ◌⊎◌, inl, inr, ℕ, ◌<◌, pos, negsuc, Bool, true, false, Ordering, Less, Equal, Greater, nat_cmp, List, [], ◌∷◌}
-use Rattle.std.proofs.Common.{map, length, ◌≤◌, ◌^◌, Option, Some, None, Ok, Err, codes, refl, sym, ap, ◌∙◌, subst, arith}
+use Rattle.std.proofs.Common.{map, length, ◌≤◌, ◌^◌, Option, Some, None, Ok, Err, codes, refl, sym, ◌∙◌, subst, arith}
 use Rattle.std.proofs.lemmas.Option.{none-some, same_Some}
 use Rattle.std.proofs.lemmas.Bool.{false≢true}
 use Rattle.std.proofs.lemmas.Str.{IsUtf8-from_is_utf8, is_utf8-from_IsUtf8}
@@ -23,7 +23,7 @@ use Rattle.dt_proc.specs.Outcome.{Outcome}
 use Rattle.dt_proc.specs.SecondPass.{Checked}
 use Rattle.dt_proc.specs.declared.error.ProcError.TheVariants as refused
 use Rattle.dt_proc.proofs.Callers.{every_text}
-use Rattle.toml.specs.Data.{Data, string, integer, float, boolean, datetime, array, table, Members, no_members, member, get_member, as_str}
+use Rattle.toml.specs.Data.{Data, string, integer, float, boolean, datetime, array, table, Members, no_members, member, get_member}
 use Rattle.toml.specs.Parse.{parse_document}
 use Rattle.dt_cluster.specs.Document.{Entry, IsDocument, entries_of, AreEntries, AreEntriesAt, IsNoTable, IsFirstFaulty}
 use Rattle.dt_cluster.specs.Numbers.{NumberEntry, GivesNumber, IsAtFault, HasNumber, HasBadNumber}
@@ -37,7 +37,7 @@ use Rattle.dt_cluster.specs.declared.error.ClusterCause.{ClusterCause}
 use Rattle.dt_cluster.specs.declared.error.ClusterCause.TheVariants as cause
 use Rattle.dt_cluster.specs.declared.error.ClusterPlace.TheVariants as place
 use Rattle.dt_cluster.specs.declared.error.ClusterFault.{ClusterFault}
-use Rattle.dt_cluster.proofs.TomlTables.{AreInOrder, InOrder, IsBelow, document_ordered}
+use Rattle.dt_cluster.proofs.TomlTables.{AreMembersInOrder, InOrder, IsBelowNames, document_ordered}
 
 -- ---- lists of which the first faulty item is reported
 
@@ -67,25 +67,25 @@ chosen Is (x ∷ xs) all = let rest = chosen Is xs all.1 in (all.0.0 ∷ rest.0,
 
 -- ---- entries
 
-names_below : (k : Bytes) (ms : Members) → IsBelow k ms → AllByRecursion (λ y. slice_cmp nat_cmp k y ≡ Less) (map (λ (e : Entry). e.0) (entries_of ms))
+names_below : (k : Bytes) (ms : Members) → IsBelowNames k ms → AllByRecursion (λ y. slice_cmp nat_cmp k y ≡ Less) (map (λ (e : Entry). e.0) (entries_of ms))
 names_below k no_members h = h
 names_below k (member l d ms) h = (h.0, names_below k ms h.1)
 
-names_ascend : (n : ℕ) (ms : Members) → AreInOrder n ms → IsStrictlySortedBy (slice_cmp nat_cmp) (map (λ (e : Entry). e.0) (entries_of ms))
+names_ascend : (n : ℕ) (ms : Members) → AreMembersInOrder n ms → IsStrictlySortedBy (slice_cmp nat_cmp) (map (λ (e : Entry). e.0) (entries_of ms))
 unfolding IsStrictlySortedBy
 names_ascend n no_members h = tt
 names_ascend n (member k d ms) h = (names_below k ms h.0, names_ascend n ms h.2)
 
 -- the entries of a table in order are listed
-table_listed : (n : ℕ) (ms : Members) → AreInOrder n ms → AreEntries ms (entries_of ms)
+table_listed : (n : ℕ) (ms : Members) → AreMembersInOrder n ms → AreEntries ms (entries_of ms)
 table_listed n ms h = record { ascending = names_ascend n ms h; same = refl }
 
-each_in_order : (n : ℕ) (ms : Members) → AreInOrder n ms → AllIn (λ (e : Entry). InOrder n e.1) (entries_of ms)
+each_in_order : (n : ℕ) (ms : Members) → AreMembersInOrder n ms → AllIn (λ (e : Entry). InOrder n e.1) (entries_of ms)
 each_in_order n no_members h = tt
 each_in_order n (member k d ms) h = (h.1, each_in_order n ms h.2)
 
 -- what stands at a name of a table in order is in order
-pub member_in_order : (n : ℕ) (k : Bytes) (ms : Members) (d : Data) → AreInOrder n ms → get_member k ms ≡ Some d → InOrder n d
+pub member_in_order : (n : ℕ) (k : Bytes) (ms : Members) (d : Data) → AreMembersInOrder n ms → get_member k ms ≡ Some d → InOrder n d
 member_in_order n k no_members d h e = absurd (none-some d e)
 member_in_order n k (member l x ms) d h e = by (slice_cmp nat_cmp k l) (member_in_order n k ms d h.2) e
   where
@@ -126,7 +126,7 @@ told_unknown [] name c h = h
 told_unknown (e ∷ entries) name c (inl (is, (why, not_so))) = inl (is, (refl, not_so))
 told_unknown (e ∷ entries) name c (inr (known, later)) = inr (known, told_unknown entries name c later)
 
-names_or : (n : ℕ) (top : Members) → AreInOrder n top → AreKnown top ⊎ ((fault : ClusterFault) × IsUnknownFault top fault)
+names_or : (n : ℕ) (top : Members) → AreMembersInOrder n top → AreKnown top ⊎ ((fault : ClusterFault) × IsUnknownFault top fault)
 names_or n top order = by (judge (λ (e : Entry). e.0) (λ e. Unit {0}) IsKnown IsUnknown (λ e known. known_or e) (entries_of top) (all_items (entries_of top)))
   where
     by : Judged (λ (e : Entry). e.0) IsKnown IsUnknown (entries_of top) → AreKnown top ⊎ ((fault : ClusterFault) × IsUnknownFault top fault)
@@ -236,7 +236,7 @@ home_or version regions (name, d) = by (either_and _ _ (either_key name) (either
 abbrev HomesOr : Members → ℕ → ℕ → Type 0
 HomesOr top version regions = ((homes : List (Bytes × ℕ)) × HasHomes top version regions homes) ⊎ ((fault : ClusterFault) × IsHomesFault top version regions fault)
 
-homes_or : (n version regions : ℕ) (top : Members) → AreInOrder n top → HomesOr top version regions
+homes_or : (n version regions : ℕ) (top : Members) → AreMembersInOrder n top → HomesOr top version regions
 homes_or n version regions top order = by (listed_at n (get_member (codes "homes") top) (λ d is. member_in_order n (codes "homes") top d order is))
   where
     judged : (entries : List Entry) → AreEntriesAt (get_member (codes "homes") top) entries
@@ -278,7 +278,7 @@ row_or n (name, d) fits = by (either_key name)
 abbrev RowsOr : Members → Type 0
 RowsOr top = ((rows : List (Bytes × Value)) × HasRows top rows) ⊎ ((fault : ClusterFault) × IsRowsFault top fault)
 
-rows_or : (n : ℕ) (top : Members) → AreInOrder n top → RowsOr top
+rows_or : (n : ℕ) (top : Members) → AreMembersInOrder n top → RowsOr top
 rows_or n top order = by (listed_at n (get_member (codes "rows") top) (λ d is. member_in_order n (codes "rows") top d order is))
   where
     judged : (entries : List Entry) → AreEntriesAt (get_member (codes "rows") top) entries → Judged (λ (e : Entry). e.0) (λ e. (r : Bytes × Value) × IsRow e r) IsBadRow entries → RowsOr top
@@ -318,7 +318,7 @@ last_steps top known numbers (inl procs) (inl homes) (inl rows) =
       record { known = known; numbers = numbers.1; procs = procs.1; homes = homes.1; rows = rows.1 },
     )
 
-every_document : (n : ℕ) (top : Members) → AreInOrder n top → ClusterOr top
+every_document : (n : ℕ) (top : Members) → AreMembersInOrder n top → ClusterOr top
 every_document n top order = by (names_or n top order) (numbers_or top)
   where
     by : AreKnown top ⊎ ((fault : ClusterFault) × IsUnknownFault top fault) → Numbered top ⊎ ((fault : ClusterFault) × IsNumberFault top fault) → ClusterOr top
@@ -349,12 +349,3 @@ string_within file top k s doc is = member_in_order (length file) k top (string 
 -- the text at `procs` of a short document is short
 pub short_procs : (file : Bytes) (top : Members) → IsDocument file top → length file < 2 ^ 32 → HasShortProcs top
 short_procs file top doc short = λ text is. omega (arith, short, string_within file top (codes "procs") text doc is)
-
-pub as_str_is : (d : Data) (s : Bytes) → as_str d ≡ Some s → d ≡ string s
-as_str_is (string t) s e = ap string (same_Some t s e)
-as_str_is (integer z) s e = absurd (none-some s e)
-as_str_is (float x) s e = absurd (none-some s e)
-as_str_is (boolean b) s e = absurd (none-some s e)
-as_str_is (datetime t) s e = absurd (none-some s e)
-as_str_is (array ds) s e = absurd (none-some s e)
-as_str_is (table ms) s e = absurd (none-some s e)

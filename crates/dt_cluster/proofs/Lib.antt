@@ -1,4 +1,4 @@
-mod Listing
+mod MapEntries
 pub mod OneCluster
 mod TomlTexts
 mod TomlTables

@@ -11,6 +11,7 @@ use Rattle.dt_proc.specs.declared.error.ProcError.{ProcError}
 use Rattle.dt_proc.specs.declared.error.ProcError.TheVariants as refused
 use Rattle.dt_proc.proofs.Callers.{one_outcome}
 use Rattle.toml.specs.Data.{Data, string, integer, float, boolean, datetime, array, table, Members, get_member}
+use Rattle.dt_lists.proofs.Callers.{some_same}
 use Rattle.dt_text.specs.Texts.{Bytes}
 use Rattle.dt_cluster.specs.Document.{Entry, IsDocument, AreEntries, AreEntriesAt, IsNoTable, IsFirstFaulty}
 use Rattle.dt_cluster.specs.Numbers.{NumberEntry, GivesNumber, IsAtFault, HasNumber, HasBadNumber, regions_entry, version_entry, workers_entry, tries_entry, drop_entry, repeat_entry}
@@ -23,9 +24,6 @@ use Rattle.dt_cluster.specs.declared.error.ClusterCause.{ClusterCause}
 use Rattle.dt_cluster.specs.declared.error.ClusterCause.TheVariants as cause
 use Rattle.dt_cluster.specs.declared.error.ClusterPlace.TheVariants as place
 use Rattle.dt_cluster.specs.declared.error.ClusterFault.{ClusterFault}
-
-some-is : {A : Type 0} {x y : A} → Some x ≡ Some y → x ≡ y
-some-is e = cc
 
 none-some : {A : Type 0} {x : A} {o : Option A} → o ≡ None → o ≡ Some x → ⊥
 none-some a b = cc
@@ -46,7 +44,7 @@ ok-is : (a b : Result (List ProcTree) ProcError) (x y : List ProcTree) → a ≡
 ok-is a b x y e f g = cc
 
 one_document : (bytes : Bytes) (a b : Members) → IsDocument bytes a → IsDocument bytes b → a ≡ b
-one_document bytes a b h k = some-is (sym h.1 ∙ k.1)
+one_document bytes a b h k = some_same (sym h.1 ∙ k.1)
 
 one_list : (ms : Members) (xs ys : List Entry) → AreEntries ms xs → AreEntries ms ys → xs ≡ ys
 one_list ms xs ys h k = h.same ∙ sym k.same
@@ -74,7 +72,7 @@ no_list_at (Some (array ds)) xs none h = h
 -- ---- numbers
 
 one_number : (e : NumberEntry) (d : Option Data) (n m : ℕ) → GivesNumber e d n → GivesNumber e d m → n ≡ m
-one_number e None n m h k = some-is (sym h ∙ k)
+one_number e None n m h k = some_same (sym h ∙ k)
 one_number e (Some (integer z)) n m h k = pos-is (sym h.0 ∙ k.0)
 one_number e (Some (string s)) n m h k = absurd h
 one_number e (Some (float x)) n m h k = absurd h

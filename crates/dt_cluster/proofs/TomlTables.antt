@@ -25,9 +25,9 @@ use Rattle.dt_cluster.proofs.TomlTexts.{changed_read, drop_within, by_ways, gave
 -- ---- what is in order
 
 -- a name that comes before all names of some members, and of some nodes
-abbrev pub IsBelow : List ℕ → Members → Type 0
-IsBelow k no_members = Unit {0}
-IsBelow k (member l d ms) = (slice_cmp nat_cmp k l ≡ Less) × IsBelow k ms
+abbrev pub IsBelowNames : List ℕ → Members → Type 0
+IsBelowNames k no_members = Unit {0}
+IsBelowNames k (member l d ms) = (slice_cmp nat_cmp k l ≡ Less) × IsBelowNames k ms
 
 abbrev IsBelowNodes : List ℕ → Nodes → Type 0
 IsBelowNodes k no_nodes = Unit {0}
@@ -38,12 +38,12 @@ abbrev mutual
   pub InOrder : ℕ → Data → Type 0
   InOrder n (string s) = length s ≤ n
   InOrder n (integer z) = FitsSigned w64 z
-  InOrder n (table ms) = AreInOrder n ms
+  InOrder n (table ms) = AreMembersInOrder n ms
   InOrder n other = Unit {0}
 
-  pub AreInOrder : ℕ → Members → Type 0
-  AreInOrder n no_members = Unit {0}
-  AreInOrder n (member k d ms) = IsBelow k ms × InOrder n d × AreInOrder n ms
+  pub AreMembersInOrder : ℕ → Members → Type 0
+  AreMembersInOrder n no_members = Unit {0}
+  AreMembersInOrder n (member k d ms) = IsBelowNames k ms × InOrder n d × AreMembersInOrder n ms
 
 -- what is not closed yet is in order
 abbrev mutual
@@ -56,7 +56,7 @@ abbrev mutual
   AreNodesInOrder n no_nodes = Unit {0}
   AreNodesInOrder n (node k x ns) = IsBelowNodes k ns × IsNodeInOrder n x × AreNodesInOrder n ns
 
-close_below : (k : List ℕ) (ns : Nodes) → IsBelowNodes k ns → IsBelow k (close ns)
+close_below : (k : List ℕ) (ns : Nodes) → IsBelowNodes k ns → IsBelowNames k (close ns)
 close_below k no_nodes h = tt
 close_below k (node l x ns) h = (h.0, close_below k ns h.1)
 
@@ -66,7 +66,7 @@ mutual
   close_node_ordered n (open_table origin ns) h = close_ordered n ns h
   close_node_ordered n (open_array done last) h = tt
 
-  close_ordered : (n : ℕ) (ns : Nodes) → AreNodesInOrder n ns → AreInOrder n (close ns)
+  close_ordered : (n : ℕ) (ns : Nodes) → AreNodesInOrder n ns → AreMembersInOrder n (close ns)
   close_ordered n no_nodes h = tt
   close_ordered n (node k x ns) h = (close_below k ns h.0, close_node_ordered n x h.1, close_ordered n ns h.2)
 
@@ -298,7 +298,7 @@ keyval_ordered n read reads text pair rest within h =
     (subst (InOrder n) (ap (λ p. p.1) same) fine.0, fine.1)
 
 members_ordered : (n : ℕ) (read : List ℕ → Read Data) → ReadsOrder n read → (m : ℕ) (found : Nodes) (text : List ℕ) (ms : Members) (rest : List ℕ) → length text ≤ n
-    → AreNodesInOrder n found → members read m found text ≡ gave ms rest → AreInOrder n ms × (length rest ≤ n)
+    → AreNodesInOrder n found → members read m found text ≡ gave ms rest → AreMembersInOrder n ms × (length rest ≤ n)
 unfolding members
 members_ordered n read reads zero found text ms rest within order h = absurd (none-some _ h)
 members_ordered n read reads (suc m) found text ms rest within order h =
@@ -307,7 +307,7 @@ members_ordered n read reads (suc m) found text ms rest within order h =
     by_ways (first start == 125) (gave (close found) (drop 1 start)) more_members (ms, rest) h
     (λ end_so end.
     let is = same_read (close found) ms (drop 1 start) rest end in
-    (subst (AreInOrder n) is.0 (close_ordered n found order), omega (arith, ap length is.1, drop_within 1 start, skip_within text, within)))
+    (subst (AreMembersInOrder n) is.0 (close_ordered n found order), omega (arith, ap length is.1, drop_within 1 start, skip_within text, within)))
     (λ more_so more.
     let (e, is, goes) = then_read _ (keyval read start) (ms, rest) more in
     let (with, made, on) = then_read _ (put e.0.0 e.0.1 found) (ms, rest) goes in
@@ -404,9 +404,9 @@ skip_bom_within text = by ((first text == 0xEF && slice_index text 1 == 0xBB) &&
     by false = omega arith
 
 -- the table that a text is, is in order
-pub document_ordered : (text : List ℕ) (top : Members) → parse_document text ≡ Some top → AreInOrder (length text) top
+pub document_ordered : (text : List ℕ) (top : Members) → parse_document text ≡ Some top → AreMembersInOrder (length text) top
 unfolding parse_document
 document_ordered text top h =
     let (doc, read, is) = map_read _ (lines (suc (length text)) (no_nodes, []) (skip_bom text)) top h in
-    subst (AreInOrder (length text)) is
+    subst (AreMembersInOrder (length text)) is
     (close_ordered (length text) doc.0 (lines_ordered (length text) (suc (length text)) (no_nodes, []) (skip_bom text) doc (skip_bom_within text) tt read))

@@ -144,7 +144,7 @@ escape_read multi text bytes rest h =
     let (c, is, same) = changed_read encode_utf8 (escape_char text) bytes rest char in
     omega (arith, ap length same, escape_char_read text c rest is))
 
--- a piece of a string: the bytes that it stands for, or none where it is the end
+-- a piece of a string: the bytes that it stands for, or none at the end
 abbrev Piece : Type 0
 Piece = Option (List ℕ)
 

@@ -31,7 +31,7 @@ use Rattle.dt_eval.specs.Cases.{right_aborts, of_both}
 use Rattle.dt_eval.specs.Cases.{GivesNow, Hands, nothing, a_row, an_item, no_item, Does, lets, no_let, sets, no_set, clears, first_block, second_block}
 use Rattle.dt_eval.specs.Cases.{no_choice, aborts, gives, Runs, at_end, goes_on, stops, Means}
 use Rattle.dt_eval.specs.FrameInner.{GivesSort}
-use Rattle.dt_eval.proofs.FrameLaws.{Leads, follow}
+use Rattle.dt_eval.proofs.FrameLaws.{LeadsTo, follow}
 use Rattle.dt_eval.proofs.OperandLaws.{ranged, operate_is, is_operate, decides_is, is_decides}
 use Rattle.dt_eval.proofs.RunStart.{opening_sorts}
 use Rattle.dt_eval.proofs.SortLaws.{sort_kept}
@@ -241,7 +241,7 @@ module _ (names : List Bytes) where
 
   after_sound : (writes : List Bool) (st : StmtTree) (rest : BlockTree) (s t : RunState) → AreSound (map sort_of_datum s.variables) writes (then st rest)
       → after_step names st s ≡ Ok t → AreSound (map sort_of_datum t.variables) writes rest
-  after_sound writes st rest s t h e = subst (Leads (λ t. AreSound (map sort_of_datum t.variables) writes rest)) e (follow names writes st rest s h)
+  after_sound writes st rest s t h e = subst (LeadsTo (λ t. AreSound (map sort_of_datum t.variables) writes rest)) e (follow names writes st rest s h)
 
   pub is_block : (writes : List Bool) (b : BlockTree) (s : RunState) → AreSound (map sort_of_datum s.variables) writes b → Runs names s b (after_block names b s)
   is_block writes done s h = at_end s

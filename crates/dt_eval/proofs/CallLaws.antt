@@ -3,12 +3,9 @@ use Rattle.std.proofs.Common.{◌≡◌, ◌≤◌, ℕ, true, false, List, [], 
 use Rattle.std.specs.Prelude.{Option, None, Result, filter, not}
 use Rattle.std.proofs.lemmas.List.{length-map}
 use Rattle.std.proofs.lemmas.List.Filters.{length-filter_both}
-use Rattle.dt_lists.specs.Lists.{AnyIn, AllIn, EachThen}
-use Rattle.dt_lists.proofs.Callers.{all_map, all_any, each_image}
-use Rattle.dt_text.specs.Texts.{IsKey}
+use Rattle.dt_lists.specs.Lists.{AnyIn, AllIn}
 use Rattle.dt_text.specs.declared.Value.{Value}
 use Rattle.dt_access.specs.Clash.{Bytes, is_whole}
-use Rattle.dt_access.specs.Orders.{KeyBefore, HasAscendingKeys}
 use Rattle.dt_access.specs.declared.Mode.{Mode}
 use Rattle.dt_access.specs.declared.Mode.TheVariants.{Write}
 use Rattle.dt_proc.specs.declared.tree.KeyDecl.{KeyDecl}
@@ -20,8 +17,8 @@ use Rattle.dt_eval.specs.Data.{RunState, declared_key}
 use Rattle.dt_eval.specs.Statements.{after_block}
 use Rattle.dt_eval.specs.Meaning.{keys_of, names_of, meaning, finish_of, run_opening, writes_in}
 use Rattle.dt_eval.specs.Calls.{CallFits, keys_if, meaning_if, call_keys, call_meaning}
-use Rattle.dt_eval.proofs.KeyLaws.{keys_ascend, keys_all, keys_few, keys_narrow, keys_write, written_use}
-use Rattle.dt_eval.proofs.RowLaws.{Keeps, IsWrittenIn, sets_any, sets_sound, block_keeps, with_value_keys, with_value_written, opening_written, opening_keys, writes_written, writes_ascend}
+use Rattle.dt_eval.proofs.KeyLaws.{keys_few, keys_narrow, keys_write, written_use}
+use Rattle.dt_eval.proofs.RowLaws.{Keeps, IsWrittenIn, sets_any, sets_sound, block_keeps, with_value_keys, with_value_written, opening_written, opening_keys, writes_written}
 
 -- of one procedure
 
@@ -46,14 +43,6 @@ keys_stay proc args reads =
     block_keeps (names_of proc args) (λ rows. map (λ (r : Row). r.key) rows ≡ map (λ r. r.0) reads) (λ k. Unit {0})
     (λ k v rows yes same. with_value_keys (declared_key (names_of proc args) k) v rows ∙ same) proc.body (sets_any (λ k. Unit {0}) (λ k. tt) proc.body) (run_opening args reads) (opening_keys reads)
 
--- from reads in ascending order of keys come writes in ascending order of keys
-pub writes_in_order : (proc : ProcTree) (args : List Value) (reads : List (Bytes × Option Value)) → EachThen KeyBefore (map (λ r. r.0) reads) → HasAscendingKeys (writes_in (meaning proc args reads))
-writes_in_order proc args reads each = ended (after_block (names_of proc args) proc.body (run_opening args reads)) (keys_stay proc args reads)
-  where
-    ended : (r : Result RunState Cause) → Keeps (λ rows. map (λ (r : Row). r.key) rows ≡ map (λ r. r.0) reads) r → HasAscendingKeys (writes_in (finish_of r))
-    ended (Ok s) same = writes_ascend s.rows (subst (EachThen KeyBefore) (sym same) each)
-    ended (Err c) same = tt
-
 -- from reads of its keys alone it writes at most 16 of them
 writes_few : (proc : ProcTree) (args : List Value) (reads : List (Bytes × Option Value)) → IsSoundProc proc →
     map (λ r. r.0) reads ≡ map (λ u. u.0) (keys_of proc args) → length (writes_in (meaning proc args reads)) ≤ 16
@@ -76,14 +65,6 @@ writes_few proc args reads sound same = ended (after_block (names_of proc args) 
 
 -- of calls
 
--- the keys of a call stand in ascending order, so none stands twice
-pub call_keys_ascend : (procs : List ProcTree) (number : ℕ) (args : List Value) → HasAscendingKeys (call_keys procs number args)
-call_keys_ascend procs number args = go (slice_get procs number)
-  where
-    go : (p : Option ProcTree) → HasAscendingKeys (keys_if p args)
-    go (Some body) = keys_ascend body args
-    go None = tt
-
 -- no key of a call takes a whole granule
 pub call_keys_narrow : (procs : List ProcTree) (number : ℕ) (args : List Value) → AllIn (λ u. is_whole u.1 ≡ false) (call_keys procs number args)
 call_keys_narrow procs number args = go (slice_get procs number)
@@ -92,40 +73,12 @@ call_keys_narrow procs number args = go (slice_get procs number)
     go (Some body) = keys_narrow body args
     go None = tt
 
--- each key of a call that fits is a key
-pub call_keys_are_keys : (procs : List ProcTree) (number : ℕ) (args : List Value) → CallFits procs number args → AllIn (λ u. IsKey u.0) (call_keys procs number args)
-call_keys_are_keys procs number args fits = subst (λ p. AllIn (λ u. IsKey u.0) (keys_if p args)) (sym fits.named) (keys_all IsKey fits.body args fits.keys)
-
 -- a call that fits writes only keys that it has in mode Write, whatever it reads
 pub call_writes_declared : (procs : List ProcTree) (number : ℕ) (args : List Value) (reads : List (Bytes × Option Value)) → CallFits procs number args →
     AllIn (λ w. AnyIn (λ u. (u.0 ≡ w.0) × (u.1 ≡ Write)) (call_keys procs number args)) (writes_in (call_meaning procs number args reads))
 call_writes_declared procs number args reads fits =
     subst (λ p. AllIn (λ w. AnyIn (λ u. (u.0 ≡ w.0) × (u.1 ≡ Write)) (keys_if p args)) (writes_in (meaning_if p args reads))) (sym fits.named)
     (writes_declared fits.body args reads fits.sound)
-
--- the keys that a call writes are keys
-pub call_writes_are_keys : (procs : List ProcTree) (number : ℕ) (args : List Value) (reads : List (Bytes × Option Value)) → CallFits procs number args →
-    AllIn (λ w. IsKey w.0) (writes_in (call_meaning procs number args reads))
-call_writes_are_keys procs number args reads fits =
-    all_map _ (λ w. IsKey w.0) (writes_in (call_meaning procs number args reads)) one (call_writes_declared procs number args reads fits)
-  where
-    one : (w : Bytes × Option Value) → AnyIn (λ u. (u.0 ≡ w.0) × (u.1 ≡ Write)) (call_keys procs number args) → IsKey w.0
-    one w any =
-        let r : (u : Bytes × Mode) × _ × IsKey u.0 × ((u.0 ≡ w.0) × (u.1 ≡ Write)) = all_any (λ u. IsKey u.0) (λ u. (u.0 ≡ w.0) × (u.1 ≡ Write))
-        (call_keys procs number args) (call_keys_are_keys procs number args fits) any in
-        subst IsKey r.3.0 r.2
-
--- from reads of just its keys a call writes keys in ascending order, so none twice
-pub call_writes_ascend : (procs : List ProcTree) (number : ℕ) (args : List Value) (reads : List (Bytes × Option Value)) →
-    map (λ r. r.0) reads ≡ map (λ u. u.0) (call_keys procs number args) → HasAscendingKeys (writes_in (call_meaning procs number args reads))
-call_writes_ascend procs number args reads same = go (slice_get procs number)
-  where
-    ascend : EachThen KeyBefore (map (λ r. r.0) reads)
-    ascend = subst (EachThen KeyBefore) (sym same) (each_image KeyBefore (λ (u : Bytes × Mode). u.0) (call_keys procs number args) (call_keys_ascend procs number args))
-
-    go : (p : Option ProcTree) → HasAscendingKeys (writes_in (meaning_if p args reads))
-    go (Some body) = writes_in_order body args reads ascend
-    go None = tt
 
 -- from reads of just its keys a call writes at most 16 keys
 pub call_writes_few : (procs : List ProcTree) (number : ℕ) (args : List Value) (reads : List (Bytes × Option Value)) → CallFits procs number args →
@@ -142,8 +95,3 @@ reads_alike values others (u ∷ us) all = let head : ◌≡◌ {A = Bytes × Op
 pub keys_alone : (proc : ProcTree) (args : List Value) (values others : Bytes → Option Value) → AllIn (λ u. values u.0 ≡ others u.0) (keys_of proc args) →
     meaning proc args (map (λ u. (u.0, values u.0)) (keys_of proc args)) ≡ meaning proc args (map (λ u. (u.0, others u.0)) (keys_of proc args))
 keys_alone proc args values others same = ap (meaning proc args) (reads_alike values others (keys_of proc args) same)
-
--- what a call means depends on the values of its keys alone
-pub call_meaning_alike : (procs : List ProcTree) (number : ℕ) (args : List Value) (values others : Bytes → Option Value) → AllIn (λ u. values u.0 ≡ others u.0) (call_keys procs number args) →
-    call_meaning procs number args (map (λ u. (u.0, values u.0)) (call_keys procs number args)) ≡ call_meaning procs number args (map (λ u. (u.0, others u.0)) (call_keys procs number args))
-call_meaning_alike procs number args values others same = ap (call_meaning procs number args) (reads_alike values others (call_keys procs number args) same)

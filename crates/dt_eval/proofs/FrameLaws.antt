@@ -9,7 +9,6 @@ use Rattle.dt_lists.proofs.Callers.{front_refl, front_trans, front_append}
 use Rattle.dt_lists.proofs.Callers.{place_within}
 use Rattle.dt_access.specs.Clash.{Bytes}
 use Rattle.dt_proc.specs.declared.tree.Sort.{Sort}
-use Rattle.dt_proc.specs.declared.tree.Sort.TheVariants as sort
 use Rattle.dt_proc.specs.declared.tree.Stmt.{Stmt}
 use Rattle.dt_proc.specs.TreeViews.{block_tree, stmt_tree}
 use Rattle.dt_proc.specs.Tree.{ExprTree, GiveTree, StmtTree, let_new, set_row, clear_row, choose, abort_with, give_all, BlockTree, done, then}
@@ -37,58 +36,37 @@ step_set_value f k e s = (s.2.1.0, s.2.1.1, subst (λ n. HasSort (map sort_of_da
 pub step_clear_key : (f : Frame) (k : ℕ) → IsSoundStep f (clear_row k) → k < length f.rows.0
 step_clear_key f k s = subst (λ n. k < n) s.1 (place_within s.0 k true s.2.0)
 
-pub step_test : (f : Frame) (e : ExprTree) (a b : BlockTree) → IsSoundStep f (choose e a b) → HasSortIn f e sort.Bool
-step_test f e a b s = subst (λ n. HasSort (map sort_of_datum f.variables) n e sort.Bool) s.1 s.2.0
-
-pub step_first : (f : Frame) (e : ExprTree) (a b : BlockTree) → IsSoundStep f (choose e a b) → IsSoundBlock f a
-step_first f e a b s = (s.0, s.1, s.2.1)
-
-pub step_second : (f : Frame) (e : ExprTree) (a b : BlockTree) → IsSoundStep f (choose e a b) → IsSoundBlock f b
-step_second f e a b s = (s.0, s.1, s.2.2)
-
 pub step_gifts : (f : Frame) (gs : List GiveTree) → IsSoundStep f (give_all gs) → AllIn (IsSoundGift (map sort_of_datum f.variables) (length f.rows.0)) gs
 step_gifts f gs s = subst (λ n. AllIn (IsSoundGift (map sort_of_datum f.variables) n) gs) s.1 s.2.0
-
--- the first statement of sound ones is sound
-head_sound : (variables : List Sort) (writes : List Bool) (st : StmtTree) (rest : BlockTree) → AreSound variables writes (then st rest) → AreSound variables writes (then st done)
-head_sound variables writes (let_new f) rest s = (s.0, s.1, tt)
-head_sound variables writes (set_row k f) rest s = (s.0, s.1, tt)
-head_sound variables writes (clear_row k) rest s = (s.0, tt)
-head_sound variables writes (choose f a b) rest s = (s.0, s.1, s.2, tt)
-head_sound variables writes (abort_with t) rest s = (s.0, tt)
-head_sound variables writes (give_all gs) rest s = (s.0, tt)
-
-pub block_head : (f : Frame) (st : StmtTree) (rest : BlockTree) → IsSoundBlock f (then st rest) → IsSoundStep f st
-block_head f st rest s = (s.0, s.1, head_sound (map sort_of_datum f.variables) s.0 st rest s.2)
 
 -- what a run leads to
 
 -- where there is a state, it has P
-abbrev pub Leads : (RunState → Type 0) → Result RunState Cause → Type 0
-Leads P (Ok t) = P t
-Leads P (Err c) = Unit {0}
+abbrev pub LeadsTo : (RunState → Type 0) → Result RunState Cause → Type 0
+LeadsTo P (Ok t) = P t
+LeadsTo P (Err c) = Unit {0}
 
-after_value : {A : Type 0} (P : RunState → Type 0) (r : Result A Cause) (f : A → Result RunState Cause) → ((d : A) → r ≡ Ok d → Leads P (f d)) → Leads P (unless_aborted r f)
+after_value : {A : Type 0} (P : RunState → Type 0) (r : Result A Cause) (f : A → Result RunState Cause) → ((d : A) → r ≡ Ok d → LeadsTo P (f d)) → LeadsTo P (unless_aborted r f)
 after_value P (Ok d) f k = k d refl
 after_value P (Err c) f k = tt
 
-after_state : (P : RunState → Type 0) (r : Result RunState Cause) (f : RunState → Result RunState Cause) → Leads P r → ((t : RunState) → P t → Leads P (f t)) → Leads P (unless_aborted r f)
+after_state : (P : RunState → Type 0) (r : Result RunState Cause) (f : RunState → Result RunState Cause) → LeadsTo P r → ((t : RunState) → P t → LeadsTo P (f t)) → LeadsTo P (unless_aborted r f)
 after_state P (Ok t) f l k = k t l
 after_state P (Err c) f l k = tt
 
-after_leaving : (P : RunState → Type 0) (variables : List Datum) (r : Result RunState Cause) → ((t : RunState) → P (record { variables = variables; rows = t.rows; given = t.given })) → Leads P (leaving variables r)
+after_leaving : (P : RunState → Type 0) (variables : List Datum) (r : Result RunState Cause) → ((t : RunState) → P (record { variables = variables; rows = t.rows; given = t.given })) → LeadsTo P (leaving variables r)
 after_leaving P variables (Ok t) k = k t
 after_leaving P variables (Err c) k = tt
 
 -- what holds of the variables holds after a `give`
-gifts_lead : (Q : List Datum → Type 0) (names : List Bytes) (gs : List GiveTree) (s : RunState) → Q s.variables → Leads (λ t. Q t.variables) (after_gifts names gs s)
+gifts_lead : (Q : List Datum → Type 0) (names : List Bytes) (gs : List GiveTree) (s : RunState) → Q s.variables → LeadsTo (λ t. Q t.variables) (after_gifts names gs s)
 gifts_lead Q names [] s q = q
 gifts_lead Q names (g ∷ gs) s q =
     after_state (λ t. Q t.variables) (after_gift names g s) (after_gifts names gs) (after_value (λ t. Q t.variables) (gift_value names g s) (λ v. Ok (with_given v s)) (λ v e. q)) (gifts_lead Q names gs)
 
 -- what follows a sound statement is sound where it leads
 pub follow : (names : List Bytes) (writes : List Bool) (st : StmtTree) (rest : BlockTree) (s : RunState) → AreSound (map sort_of_datum s.variables) writes (then st rest) →
-    Leads (λ t. AreSound (map sort_of_datum t.variables) writes rest) (after_step names st s)
+    LeadsTo (λ t. AreSound (map sort_of_datum t.variables) writes rest) (after_step names st s)
 follow names writes (let_new f) rest s h =
     after_value (λ t. AreSound (map sort_of_datum t.variables) writes rest) (value_now names s f) (λ d. Ok (with_variable d s))
     (λ d e. subst (λ vs. AreSound vs writes rest) (sym (map-append sort_of_datum s.variables (d ∷ [])
@@ -104,10 +82,10 @@ follow names writes (give_all gs) rest s h = gifts_lead (λ vs. AreSound (map so
 -- the statements after the first one are sound where that leads
 pub block_tail : (f g : Frame) (st : StmtTree) (rest : BlockTree) → IsSoundBlock f (then st rest) → after_step f.rows.0 st (seen f) ≡ Ok (seen g) → g.rows.0 ≡ f.rows.0 → IsSoundBlock g rest
 block_tail f g st rest s e names =
-    (s.0, s.1 ∙ ap length (sym names), subst (Leads (λ t. AreSound (map sort_of_datum t.variables) s.0 rest)) e (follow f.rows.0 s.0 st rest (seen f) s.2))
+    (s.0, s.1 ∙ ap length (sym names), subst (LeadsTo (λ t. AreSound (map sort_of_datum t.variables) s.0 rest)) e (follow f.rows.0 s.0 st rest (seen f) s.2))
 
 -- variables before a block stay at the front
-step_front : (names : List Bytes) (st : StmtTree) (vs : List Datum) (s : RunState) → IsFront vs s.variables → Leads (λ t. IsFront vs t.variables) (after_step names st s)
+step_front : (names : List Bytes) (st : StmtTree) (vs : List Datum) (s : RunState) → IsFront vs s.variables → LeadsTo (λ t. IsFront vs t.variables) (after_step names st s)
 step_front names (let_new f) vs s h =
     after_value (λ t. IsFront vs t.variables) (value_now names s f) (λ d. Ok (with_variable d s)) (λ d e. front_trans vs s.variables (s.variables ++ d ∷ []) h (front_append s.variables (d ∷ [])))
 step_front names (set_row k f) vs s h = after_value (λ t. IsFront vs t.variables) (value_now names s f) (λ d. Ok (with_row_value names k (stored d) s)) (λ d e. h)
@@ -118,7 +96,7 @@ step_front names (choose f a b) vs s h =
 step_front names (abort_with t) vs s h = tt
 step_front names (give_all gs) vs s h = gifts_lead (IsFront vs) names gs s h
 
-block_front : (names : List Bytes) (b : BlockTree) (vs : List Datum) (s : RunState) → IsFront vs s.variables → Leads (λ t. IsFront vs t.variables) (after_block names b s)
+block_front : (names : List Bytes) (b : BlockTree) (vs : List Datum) (s : RunState) → IsFront vs s.variables → LeadsTo (λ t. IsFront vs t.variables) (after_block names b s)
 block_front names done vs s h = h
 block_front names (then st rest) vs s h = after_state (λ t. IsFront vs t.variables) (after_step names st s) (after_block names rest) (step_front names st vs s h) (block_front names rest vs)
 
@@ -127,7 +105,7 @@ of_front vs ws f = ap (take (length vs)) (sym f.1) ∙ take-append_seam vs f.0
 
 -- after a block the variables before it are the first ones
 pub block_take : (names : List Bytes) (b : BlockTree) (s t : RunState) → after_block names b s ≡ Ok t → take (length s.variables) t.variables ≡ s.variables
-block_take names b s t e = of_front s.variables t.variables (subst (Leads (λ t. IsFront s.variables t.variables)) e (block_front names b s.variables s (front_refl s.variables)))
+block_take names b s t e = of_front s.variables t.variables (subst (LeadsTo (λ t. IsFront s.variables t.variables)) e (block_front names b s.variables s (front_refl s.variables)))
 
 -- a block within a statement
 pub block_left : (names : List Bytes) (b : BlockTree) (s t : RunState) (vs : List Datum) → after_block names b s ≡ Ok t → vs ≡ take (length s.variables) t.variables →

@@ -1,11 +1,12 @@
--- A key expression compared part by part with the bytes of a key, and the place of the key among those that were read.
-use Rattle.std.proofs.Common.{◌≡◌, ◌<◌, ◌+◌, ℕ, suc, true, false, Some, List, [], ◌∷◌, ◌++◌, length, get_or, drop, take, map, add-one, sym, ap, ap₂, subst, ◌∙◌, inl, inr}
+-- A key expression compared part by part with the bytes of a key.
+use Rattle.std.proofs.Common.{◌≡◌, ◌<◌, ◌+◌, ℕ, suc, true, false, Some, List, ◌∷◌, ◌++◌, length, get_or, drop, take, add-one, sym, ap, ap₂, subst, ◌∙◌}
 use Rattle.std.specs.Prelude.{◌↔◌, MatchOption, Option, None}
 use Rattle.std.specs.Cmp.Lexicographic.{bytes_decides}
 use Rattle.std.proofs.lemmas.Bool.{true≢false}
-use Rattle.std.proofs.lemmas.List.{get_or-map, take-append-drop}
-use Rattle.std.proofs.Math.Seq.{drop-append_seam, drop-cons, take-append_seam}
-use Rattle.dt_lists.specs.Lists.{AllIn, AnyIn}
+use Rattle.std.proofs.lemmas.List.{take-append-drop}
+use Rattle.std.proofs.Math.Seq.{drop-cons, take-append_seam}
+use Rattle.dt_lists.specs.Lists.{AllIn}
+use Rattle.dt_lists.proofs.Callers.{same_rest}
 use Rattle.dt_text.specs.declared.Value.{Value}
 use Rattle.dt_access.specs.Clash.{Bytes, same_key}
 use Rattle.dt_proc.specs.declared.tree.KeyItem.{KeyItem}
@@ -29,9 +30,6 @@ pub front_cases : {X : Type 0} (front bytes : Bytes) (now : X → Bytes) (r : Op
 front_cases front bytes now None h = front_absent front bytes h
 front_cases front bytes now (Some x) h = front_there front bytes (now x) h.0 h.1
 
-same_rest : (front a b : Bytes) → front ++ a ≡ front ++ b → a ≡ b
-same_rest front a b e = sym (drop-append_seam front a) ∙ ap (drop (length front)) e ∙ drop-append_seam front b
-
 -- what is known after the first parts of a key expression
 pub record Giving (args : List Value) (items : List KeyItem) (bytes : Bytes) (index : ℕ) (rest : Bytes) : Type 0 where
   pub within : AllIn (IsItemWithin (length args)) (drop index items)
@@ -45,9 +43,6 @@ module _ (args : List Value) (items : List KeyItem) (bytes rest : Bytes) (index 
   cut_text : key_text args (drop index items) ≡ item_text args item ++ key_text args (drop (index + 1) items)
   cut_text = ap (key_text args) cut
 
-  pub giving_within : IsItemWithin (length args) item
-  giving_within = (subst (AllIn (IsItemWithin (length args))) cut known.within).0
-
   pub giving_more : (after : Bytes) → rest ≡ item_text args item ++ after → Giving args items bytes (index + 1) after
   giving_more after e = record {
     within = (subst (AllIn (IsItemWithin (length args))) cut known.within).1;
@@ -56,22 +51,3 @@ module _ (args : List Value) (items : List KeyItem) (bytes rest : Bytes) (index 
       λ h. known.left.1 (e ∙ ap (λ bs. item_text args item ++ bs) h ∙ sym cut_text),
     );
   }
-
-  pub giving_none : ((after : Bytes) → ¬ (rest ≡ item_text args item ++ after)) → ¬ (bytes ≡ key_text args items)
-  giving_none none h = none (key_text args (drop (index + 1) items)) (known.left.0 h ∙ cut_text)
-
--- places
-
-module _ (reads : List (Bytes × Option Value)) (name : Bytes) (index : ℕ) (read : Bytes × Option Value) (inside : index < length reads) (is : read ≡ get_or reads index read) where
-  cut_reads : drop index reads ≡ read ∷ drop (index + 1) reads
-  cut_reads = drop-cons reads index read inside ∙ ap (λ x. x ∷ drop (suc index) reads) (sym is) ∙ ap (λ j. read ∷ drop j reads) (sym (add-one index))
-
-  pub read_later : ¬ (read.0 ≡ name) → AnyIn (λ r. r.0 ≡ name) (drop index reads) → AnyIn (λ r. r.0 ≡ name) (drop (index + 1) reads)
-  read_later differ any = go (subst (AnyIn (λ (r : Bytes × Option Value). r.0 ≡ name)) cut_reads any)
-    where
-      go : AnyIn (λ r. r.0 ≡ name) (read ∷ drop (index + 1) reads) → AnyIn (λ r. r.0 ≡ name) (drop (index + 1) reads)
-      go (inl e) = absurd (differ e)
-      go (inr h) = h
-
-  pub read_named : read.0 ≡ name → get_or (map (λ (r : Bytes × Option Value). r.0) reads) index [] ≡ name
-  read_named e = get_or-map (λ (r : Bytes × Option Value). r.0) reads index read [] inside ∙ ap (λ (r : Bytes × Option Value). r.0) (sym is) ∙ e

@@ -1,6 +1,6 @@
 -- The list of the keys of a call: it ascends, and holds each key that a declaration gives, with Write if any declaration of
 -- it is.
-use Rattle.std.proofs.Common.{◌≡◌, ◌<◌, ◌≤◌, ◌+◌, ◌||◌, ℕ, length, take, drop, set, ◌++◌, ap₂, add-one, append_assoc, arith, zero, suc, Bool, true, false, List, []}
+use Rattle.std.proofs.Common.{◌≡◌, ◌<◌, ◌≤◌, ◌+◌, ◌||◌, ℕ, length, take, drop, set, ◌++◌, ap₂, add-one, arith, zero, suc, Bool, true, false, List, []}
 use Rattle.std.proofs.Common.{◌∷◌, map, get_or, slice_get, Some, refl, sym, ap, subst, ◌∙◌, inl, inr}
 use Rattle.std.specs.List.{fold}
 use Rattle.std.proofs.Math.Seq.{drop-cons}
@@ -9,6 +9,7 @@ use Rattle.std.specs.Ordering.{nat_cmp, is_eq}
 use Rattle.std.specs.declared.cmp.Ordering.{Ordering}
 use Rattle.std.specs.declared.cmp.Ordering.TheVariants.{Less, Equal, Greater}
 use Rattle.std.specs.Cmp.Lexicographic.{slice_cmp, bytes_decides, texts_ties, nat_list_cmp_total}
+use Rattle.std.proofs.lemmas.Bool.{or_left, or_right}
 use Rattle.dt_lists.specs.Lists.{AnyIn, AllIn, Pairwise}
 use Rattle.dt_lists.proofs.Callers.{place_within}
 use Rattle.dt_lists.proofs.Callers.{all_map}
@@ -58,10 +59,6 @@ fold_ascends : (us vs : List (Bytes × Bool)) → HasAscendingKeys vs → HasAsc
 fold_ascends [] vs a = a
 fold_ascends (u ∷ us) vs a = fold_ascends us (with_use vs u) (with_use_ascends vs u a)
 
-fold_all : (P : Bytes → Type 0) (us vs : List (Bytes × Bool)) → AllIn (λ v. P v.0) vs → AllIn (λ u. P u.0) us → AllIn (λ v. P v.0) (fold with_use vs us)
-fold_all P [] vs all more = all
-fold_all P (u ∷ us) vs all more = fold_all P us (with_use vs u) (with_use_all P vs u all more.0) more.1
-
 -- what holds of uses holds of them with their modes
 modes_all : (P : Bytes → Type 0) (us : List (Bytes × Bool)) → AllIn (λ u. P u.0) us → AllIn (λ u. P u.0) (with_modes us)
 modes_all P [] all = tt
@@ -103,14 +100,6 @@ keys_few proc args = omega (
   length-map proc.keys (use_of args),
 )
 
-uses_all : (P : Bytes → Type 0) (args : List Value) (ds : List KeyDecl) → AllIn P (map (λ (d : KeyDecl). key_text args d.items) ds) → AllIn (λ (u : Bytes × Bool). P u.0) (map (use_of args) ds)
-uses_all P args [] all = tt
-uses_all P args (d ∷ ds) all = (all.0, uses_all P args ds all.1)
-
--- what holds of what each declaration gives holds of each key
-pub keys_all : (P : Bytes → Type 0) (proc : ProcTree) (args : List Value) → AllIn P (map (λ (d : KeyDecl). key_text args d.items) proc.keys) → AllIn (λ u. P u.0) (keys_of proc args)
-keys_all P proc args all = modes_all P (distinct_uses proc args) (fold_all P (map (use_of args) proc.keys) [] tt (uses_all P args proc.keys all))
-
 -- a use that has Q is kept where Q outlasts a merge
 module _ (Q : Bytes × Bool → Type 0) (left : (key : Bytes) (m n : Bool) → Q (key, m) → Q (key, m || n)) (right : (key : Bytes) (m n : Bool) → Q (key, n) → Q (key, m || n)) where
   with_use_keeps : (vs : List (Bytes × Bool)) (u : Bytes × Bool) → AnyIn Q vs → AnyIn Q (with_use vs u)
@@ -146,14 +135,6 @@ module _ (Q : Bytes × Bool → Type 0) (left : (key : Bytes) (m n : Bool) → Q
   uses_any : (proc : ProcTree) (args : List Value) → AnyIn Q (map (use_of args) proc.keys) → AnyIn Q (distinct_uses proc args)
   uses_any proc args h = fold_adds (map (use_of args) proc.keys) [] h
 
--- the first or the second use writes, and so do both as one
-left_writes : (m n : Bool) → m ≡ true → (m || n) ≡ true
-left_writes m n e = ap (λ x. x || n) e
-
-right_writes : (m n : Bool) → n ≡ true → (m || n) ≡ true
-right_writes true n e = refl
-right_writes false n e = e
-
 -- no key of a procedure takes a whole granule
 pub keys_narrow : (proc : ProcTree) (args : List Value) → AllIn (λ u. is_whole u.1 ≡ false) (keys_of proc args)
 keys_narrow proc args = narrow (distinct_uses proc args)
@@ -170,7 +151,7 @@ keys_narrow proc args = narrow (distinct_uses proc args)
 pub keys_write : (key : Bytes) (proc : ProcTree) (args : List Value) → AnyIn (λ u. (u.0 ≡ key) × (u.1 ≡ true)) (map (use_of args) proc.keys)
     → AnyIn (λ u. (u.0 ≡ key) × (u.1 ≡ Write)) (keys_of proc args)
 keys_write key proc args h = modes_any _ _ (λ u q. (q.0, ap mode_of q.1)) (distinct_uses proc args)
-    (uses_any (λ u. (u.0 ≡ key) × (u.1 ≡ true)) (λ k m n q. (q.0, left_writes m n q.1)) (λ k m n q. (q.0, right_writes m n q.1)) proc args h)
+    (uses_any (λ u. (u.0 ≡ key) × (u.1 ≡ true)) (λ k m n q. (q.0, or_left m n q.1)) (λ k m n q. (q.0, or_right m n q.1)) proc args h)
 
 -- a key that some declaration gives is there
 pub keys_there : (key : Bytes) (proc : ProcTree) (args : List Value) → AnyIn (λ u. u.0 ≡ key) (map (use_of args) proc.keys) → AnyIn (λ u. u.0 ≡ key) (keys_of proc args)
@@ -208,11 +189,6 @@ set_cut [] i x below = absurd (omega arith)
 set_cut (y ∷ xs) zero x below = refl
 set_cut (y ∷ xs) (suc i) x below = ap (λ ys. y ∷ ys) (set_cut xs i x (omega arith))
 
-taken : {A : Type 0} (xs : List A) (i : ℕ) (v : A) → i < length xs → v ≡ get_or xs i v → take (suc i) xs ≡ take i xs ++ v ∷ []
-taken [] i v below is = absurd (omega arith)
-taken (x ∷ xs) zero v below is = ap (λ y. y ∷ []) (sym is)
-taken (x ∷ xs) (suc i) v below is = ap (λ ys. x ∷ ys) (taken xs i v (omega arith) is)
-
 module _ (xs : List (Bytes × Bool)) (i : ℕ) (v u : Bytes × Bool) (below : i < length xs) (is : v ≡ get_or xs i v) (further : with_use xs u ≡ take i xs ++ with_use (drop i xs) u) where
   cut : drop i xs ≡ v ∷ drop (suc i) xs
   cut = drop-cons xs i v below ∙ ap (λ x. x ∷ drop (suc i) xs) (sym is)
@@ -225,11 +201,6 @@ module _ (xs : List (Bytes × Bool)) (i : ℕ) (v u : Bytes × Bool) (below : i 
 
   pub use_same : slice_cmp nat_cmp u.0 v.0 ≡ Equal → set xs i (v.0, v.1 || u.1) ≡ with_use xs u
   use_same e = set_cut xs i (v.0, v.1 || u.1) below ∙ sym (placed_at Equal e)
-
-  pub use_further : slice_cmp nat_cmp u.0 v.0 ≡ Greater → with_use xs u ≡ take (i + 1) xs ++ with_use (drop (i + 1) xs) u
-  use_further e =
-      placed_at Greater e ∙ sym (append_assoc (take i xs) (v ∷ []) (with_use (drop (suc i) xs) u)) ∙ ap (λ ys. ys ++ with_use (drop (suc i) xs) u) (sym (taken xs i v below is))
-      ∙ ap (λ j. take j xs ++ with_use (drop j xs) u) (sym (add-one i))
 
 pub use_last : (xs : List (Bytes × Bool)) (i : ℕ) (u : Bytes × Bool) → length xs ≤ i → with_use xs u ≡ take i xs ++ with_use (drop i xs) u → xs ++ u ∷ [] ≡ with_use xs u
 use_last xs i u past further = sym (further ∙ ap₂ (λ ys zs. ys ++ with_use zs u) (take_all i xs past) (drop_all i xs past))
@@ -270,9 +241,6 @@ module _ (proc : ProcTree) (args : List Value) (declarations : List KeyDecl) (nu
   declared : drop number declarations ≡ d ∷ drop (number + 1) declarations
   declared = drop-cons declarations number d below ∙ ap (λ x. x ∷ drop (suc number) declarations) (sym is) ∙ ap (λ j. d ∷ drop j declarations) (sym (add-one number))
 
-  pub gathers_within : AllIn (IsItemWithin (length args)) d.items
-  gathers_within = (subst (AllIn (λ (d : KeyDecl). AllIn (IsItemWithin (length args)) d.items)) declared known.within).0
-
   pub gathers_more : IsKey (key_text args d.items) → (more : List (Bytes × Bool)) → more ≡ with_use uses (use_of args d) → Gathers proc args declarations (number + 1) more
   gathers_more key more e = record {
     within = (subst (AllIn (λ (d : KeyDecl). AllIn (IsItemWithin (length args)) d.items)) declared known.within).1;
@@ -287,9 +255,6 @@ module _ (proc : ProcTree) (args : List Value) (declarations : List KeyDecl) (nu
 module _ (proc : ProcTree) (args : List Value) (declarations : List KeyDecl) (number : ℕ) (uses : List (Bytes × Bool)) (past : length declarations ≤ number) (known : Gathers proc args declarations number uses) where
   all_used : uses ≡ distinct_uses proc args
   all_used = ap (λ ds. fold with_use uses (map (use_of args) ds)) (sym (drop_all number declarations past)) ∙ known.told
-
-  pub gathers_keys : HasKeys proc args
-  gathers_keys = known.all (subst (λ ds. AllIn IsKey (names_given args ds)) (sym (drop_all number declarations past)) tt)
 
   pub gathers_all : with_modes uses ≡ keys_of proc args
   gathers_all = ap with_modes all_used

@@ -92,11 +92,11 @@ module _ (items : List (Bytes × Option Value)) (marks : List Bool) (places : Li
     items_changed = (λ i. (names_at places (after i), after i)) ∙ row_changed (rows_in items marks) places k p here v all each below is is_here
 
 -- where all were changed, all are written
-pub all_written : (items : List (Bytes × Option Value)) (marks : List Bool) → length marks ≡ length items → true ≡ list_all (λ c. c) marks → items ≡ writes_of (rows_in items marks)
-all_written [] marks e all = refl
-all_written (item ∷ items) [] e all = absurd (omega arith)
-all_written (item ∷ items) (true ∷ marks) e all = ap (λ rows. item ∷ rows) (all_written items marks (omega arith) all)
-all_written (item ∷ items) (false ∷ marks) e all = absurd (true≢false all)
+pub written_where_changed : (items : List (Bytes × Option Value)) (marks : List Bool) → length marks ≡ length items → true ≡ list_all (λ c. c) marks → items ≡ writes_of (rows_in items marks)
+written_where_changed [] marks e all = refl
+written_where_changed (item ∷ items) [] e all = absurd (omega arith)
+written_where_changed (item ∷ items) (true ∷ marks) e all = ap (λ rows. item ∷ rows) (written_where_changed items marks (omega arith) all)
+written_where_changed (item ∷ items) (false ∷ marks) e all = absurd (true≢false all)
 
 -- what is answered equals what equals it
 pub ok_moved : {X E : Type 0} (a b : X) (r : Result X E) → IfOk r (λ x. x ≡ a) → a ≡ b → IfOk r (λ x. x ≡ b)

@@ -91,9 +91,6 @@ module _ (args : List Value) (declarations : List KeyDecl) (reads : List (Bytes 
   cut : drop index declarations ≡ d ∷ drop (index + 1) declarations
   cut = drop-cons declarations index d inside ∙ ap (λ x. x ∷ drop (suc index) declarations) (sym is) ∙ ap (λ j. d ∷ drop j declarations) (sym (add-one index))
 
-  pub placing_within : AllIn (IsItemWithin (length args)) d.items
-  placing_within = (subst (AllIn (λ (d : KeyDecl). AllIn (IsItemWithin (length args)) d.items)) cut known.within).0
-
   pub placing_read : AnyIn (λ r. r.0 ≡ key_text args d.items) reads
   placing_read = (subst (λ ds. AllIn (λ name. AnyIn (λ r. r.0 ≡ name) reads) (names_given args ds)) cut known.read).0
 

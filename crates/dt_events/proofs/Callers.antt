@@ -3,3 +3,4 @@
 pub use Rattle.dt_events.proofs.EveryFile.{no_fault, one_fault, one_list}
 pub use Rattle.dt_events.proofs.ReadBack.{one_event}
 pub use Rattle.dt_events.proofs.ReadBack.{reads_back}
+pub use Rattle.dt_events.proofs.Stamps.{last_of_more}

@@ -1,5 +1,5 @@
 -- Words of lines and the events that they spell.
-use Rattle.std.proofs.Common.{◌≡◌, ◌≢◌, ℕ, zero, suc, ◌+◌, ◌<◌, ◌≤◌, ◌^◌, List, [], ◌∷◌, ◌++◌}
+use Rattle.std.proofs.Common.{◌≡◌, ◌≢◌, ℕ, zero, suc, ◌<◌, ◌≤◌, ◌^◌, List, [], ◌∷◌, ◌++◌}
 use Rattle.std.proofs.Common.{length, map, get_or, drop, Option, Some, None, MatchOption, Bor, refl, ap, sym, ◌∙◌, subst, arith, append_assoc, append-nil}
 use Rattle.std.specs.List.{join_with_byte}
 use Rattle.std.proofs.lemmas.Grind.{common_steps}
@@ -42,8 +42,8 @@ no_bares line (w ∷ ws) zero d within none (b ∷ bares) same = let h = same_he
 no_bares line (w ∷ ws) (suc i) d within none (b ∷ bares) same = no_bares line ws i d (omega arith) none bares (same_tail same)
 
 -- a line that is not made of words is not made of bare words
-pub no_words : (line : List ℕ) → words_of line ≡ None → (bares : List (List ℕ)) → ¬ AreBareWords line bares
-no_words line none bares (words, are, same) = let h = (exact line words).1 are in cc
+pub not_made_of_words : (line : List ℕ) → words_of line ≡ None → (bares : List (List ℕ)) → ¬ AreBareWords line bares
+not_made_of_words line none bares (words, are, same) = let h = (exact line words).1 are in cc
 
 -- the words of a line are the only ones
 pub no_bare_words : (line : List ℕ) (words : List Word) → words_of line ≡ Some words → ((bares : List (List ℕ)) → map (bare_bytes line) words ≢ map (λ w. Some w) bares)

@@ -1,6 +1,6 @@
 -- Every file of events is a list of events or has a first line without a form, and not both: which words are an event is decided,
 -- kind by kind, and so a line, and so a file.
-use Rattle.std.proofs.Common.{◌≡◌, ◌⊎◌, inl, inr, ℕ, ◌<◌, ◌≤◌, ◌^◌, List, [], ◌∷◌, map, length, codes, Option, Some, None, refl, sym, ap, ◌∙◌, subst, arith}
+use Rattle.std.proofs.Common.{◌≡◌, ◌⊎◌, inl, inr, ℕ, ◌≤◌, ◌^◌, List, [], ◌∷◌, map, length, codes, Option, Some, None, refl, sym, ap, ◌∙◌, subst, arith}
 use Rattle.std.specs.Fmt.{decimal}
 use Rattle.std.proofs.lemmas.List.{length-map}
 use Rattle.dt_lists.specs.Lists.{AllIn, Pairwise, Either}
@@ -17,7 +17,7 @@ use Rattle.dt_events.specs.declared.event.Event.{Event}
 use Rattle.dt_events.specs.declared.event.Event.TheVariants.{Submit, Append, Deliver, Insert, Resolve, Execute, Answer}
 use Rattle.dt_events.specs.Events.{event_words, IsWritten, IsRegion, IsCount, bare_bytes, AreBareWords, HasEventForm, IsNumberedEvent, FirstWithoutForm}
 use Rattle.dt_events.specs.Laws.{EventFilesAreOneList, EventsHaveNoFault, EventFilesHaveOneFault, EventFilesHaveAnOutcome}
-use Rattle.dt_events.proofs.EventWords.{no_words, no_bare_words, are_bare_words, one_line, no_event_of_line}
+use Rattle.dt_events.proofs.EventWords.{not_made_of_words, no_bare_words, are_bare_words, one_line, no_event_of_line}
 use Rattle.dt_events.proofs.ReadBack.{one_event}
 
 -- ---- words that spell a value
@@ -191,7 +191,7 @@ either_line : (line : List ℕ) → Either (HasEventForm line)
 either_line line = by (words_of line) refl
   where
     by : (found : Option (List Word)) → words_of line ≡ found → Either (HasEventForm line)
-    by None is = inr (λ (e, h). no_event_of_line line (no_words line is) e h)
+    by None is = inr (λ (e, h). no_event_of_line line (not_made_of_words line is) e h)
     by (Some words) is = bare (either_bares (map (bare_bytes line) words))
       where
         bare : Either ((bares : List Bytes) × (map (bare_bytes line) words ≡ map (λ w. Some w) bares)) → Either (HasEventForm line)

@@ -1,4 +1,5 @@
 pub mod EventWords
 pub mod EveryFile
 pub mod ReadBack
+pub mod Stamps
 pub mod Callers

@@ -12,7 +12,7 @@ use Rattle.std.proofs.lemmas.Grind.{common_steps}
 use Rattle.std.proofs.lemmas.List.Folds.{list_all-append}
 use Rattle.dt_lists.specs.Lists.{AllIn, Pairwise}
 use Rattle.dt_text.specs.Texts.{IsName, is_name_byte}
-use Rattle.dt_text.specs.Words.{is_visible, IsBareWord, MayFollowWord, AreWordsFrom, AreWords}
+use Rattle.dt_text.specs.Words.{is_visible, IsBareWord, MayFollowWord, AreWordsFrom, AreWords, spaced}
 use Rattle.dt_text.specs.Lines.{FileLine, cut_lines, kept_lines, is_skipped}
 use Rattle.dt_text.specs.declared.Word.{Word}
 use Rattle.dt_text.specs.declared.Word.TheVariants.{Bare}
@@ -23,7 +23,7 @@ use Rattle.dt_events.specs.declared.event.Event.{Event}
 use Rattle.dt_events.specs.declared.event.Event.TheVariants.{Submit, Append, Deliver, Insert, Resolve, Execute, Answer}
 use Rattle.dt_events.specs.Events.{region_of, kind_word, argument_words, event_words, IsWritten, IsRegion, bare_bytes, AreBareWords, IsEventLine, IsNumberedEvent, AreEvents, event_text, event_line}
 use Rattle.dt_events.specs.Laws.{LinesAreOneEvent, PrintedEventsReadBack}
-use Rattle.dt_text.proofs.Callers.{bytes_apart, spaced, join_spaced, same_number}
+use Rattle.dt_text.proofs.Callers.{bytes_apart, join_spaced, same_number}
 use Rattle.dt_lists.proofs.Callers.{same_head, same_tail}
 use Rattle.dt_events.proofs.EventWords.{one_line}
 

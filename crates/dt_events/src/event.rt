@@ -2,10 +2,10 @@ ghost use Rattle.std.specs.Prelude.{◌≡◌, IfOk};
 ghost use Rattle.dt_events.specs.declared.event.Event.TheVariants.{Append, Deliver};
 
 use dt_access::{Ids, TryCopy, TxnId};
-use dt_text::{Name, NoMemory};
+use dt_text::{Common, Name, NoMemory};
 use std::alloc::Global;
 
-/// One atomic step of one region, the region being the first number in its text.
+/// One atomic step of one region, the region being the first number in its text. It takes 16 bytes: what has more lies elsewhere.
 #[derive(Debug, PartialEq, Eq, Drop)]
 pub enum Event {
     /// A session of the region submits its next attempt.
@@ -34,7 +34,7 @@ pub enum Event {
     /// The region resolves a deadlocked group.
     Resolve {
         region: u8,
-        ids: Ids,
+        ids: Common<Ids>,
     },
     /// The region executes a transaction.
     Execute {
@@ -67,7 +67,7 @@ impl Event {
             }),
             Event::Resolve { region, ids } => Ok(Event::Resolve {
                 region: *region,
-                ids: ids.copy(alloc)?,
+                ids: ids.copy()?,
             }),
             Event::Append {
                 home,

@@ -38,7 +38,12 @@ fn text_of(alloc: Global, event: &Event) -> Result<Vec<u8>, NoMemory>
             last,
         } => deliver_text(alloc, *region, *home, *first, *last),
         Event::Insert { region, home } => insert_text(alloc, *region, *home),
-        Event::Resolve { region, ids } => ids_text(alloc, b"resolve", *region, ids.as_slice()),
+        Event::Resolve { region, ids } => ids_text(
+            alloc,
+            b"resolve",
+            *region,
+            ids.get().as_slice(),
+        ),
         Event::Execute { region, id } => ids_text(alloc, b"execute", *region, &[*id]),
         Event::Answer { region, session } => session_text(alloc, b"answer", *region, session),
     }

@@ -10,7 +10,7 @@ ghost use Rattle.dt_events.specs.Reading.{AreIds, AreShort, Reads, ReadsEvent, s
 use crate::event::Event;
 use crate::words::bare_words;
 use dt_access::{Ids, TxnId, read_id};
-use dt_text::{Lines, Name, NoMemory, read_u32};
+use dt_text::{Common, Lines, Name, NoMemory, read_u32};
 use std::alloc::{AllocFailed, Global};
 use std::fmt;
 
@@ -196,6 +196,7 @@ fn resolve(alloc: Global, region: u8, arguments: &[&[u8]]) -> Result<Option<Even
     if ids.len() < 2 {
         return Ok(None);
     }
+    let ids = Common::new(alloc, ids)?;
     Ok(Some(Event::Resolve { region, ids }))
 }
 

@@ -1,4 +1,4 @@
-mod Dealing
+mod OneCallMore
 pub mod AccountKeys
 pub mod Ranges
 pub mod ValidLoad

@@ -72,11 +72,6 @@ sum_by-both f g (x ∷ xs) =
     let others = sum_by-cons g x xs in
     omega (arith, all, ones, others, sum_by-both f g xs)
 
--- the sum over an image
-pub sum_by-image : {X Y : Type 0} (g : Y → ℕ) (f : X → Y) (xs : List X) → sum_by g (map f xs) ≡ sum_by (λ x. g (f x)) xs
-sum_by-image g f [] = refl
-sum_by-image g f (x ∷ xs) = sum_by-cons g (f x) (map f xs) ∙ ap (λ n. g (f x) + n) (sum_by-image g f xs) ∙ sym (sum_by-cons (λ x. g (f x)) x xs)
-
 -- sums of equal things
 pub sum_by-same : {X : Type 0} (f g : X → ℕ) (xs : List X) → ((x : X) → f x ≡ g x) → sum_by f xs ≡ sum_by g xs
 sum_by-same f g [] same = refl

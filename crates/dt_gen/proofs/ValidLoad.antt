@@ -5,7 +5,7 @@ use Rattle.std.specs.List.{count_by, range_with_len, sum_by}
 use Rattle.std.proofs.lemmas.List.{length-append}
 use Rattle.std.proofs.lemmas.List.Sums.{count_by-le-length}
 use Rattle.dt_lists.specs.Lists.{AllIn, EachThen}
-use Rattle.dt_lists.proofs.Callers.{all_image, all_put, each_image, each_of_image}
+use Rattle.dt_lists.proofs.Callers.{all_image, all_put, each_image, each_of_image, sum_mapped}
 use Rattle.dt_text.specs.Texts.{Bytes, IsKey}
 use Rattle.dt_text.specs.declared.Value.{Value}
 use Rattle.dt_proc.specs.Builtin.{xfer}
@@ -15,9 +15,9 @@ use Rattle.dt_workload.specs.Valid.{calls_in, IsValidSession, IsValidWorkload, R
 use Rattle.dt_workload.specs.declared.workload.Wanted.TheVariants.{Move}
 use Rattle.dt_workload.specs.declared.Session.{Session}
 use Rattle.dt_gen.specs.Load.{account, account_numbers, account_row, load_call, load_calls, load_cluster, load_session, load_workload, session_name, session_numbers, wanted_by, transfer_call}
-use Rattle.dt_gen.proofs.Ranges.{all_in_row, distinct_row, once_in_row, sum_by-both, sum_by-image, sum_by-same}
+use Rattle.dt_gen.proofs.Ranges.{all_in_row, distinct_row, once_in_row, sum_by-both, sum_by-same}
 use Rattle.dt_gen.proofs.AccountKeys.{account_apart, account_key, session_apart, session_name_is}
-use Rattle.dt_gen.proofs.Dealing.{calls_more, sessions_length}
+use Rattle.dt_gen.proofs.OneCallMore.{calls_more, sessions_length}
 
 -- what holds of each number of an account
 pub all_accounts : (P : ℕ → Type 0) → ((q : ℕ) → q < 100 → P q) → AllIn P account_numbers
@@ -117,7 +117,7 @@ session_valid n j h = record {
 
 -- how many calls and moves the workload has
 pub load_calls_in : (n : ℕ) → calls_in (load_workload n).sessions ≡ n
-load_calls_in n = sum_by-image (λ (s : Session). length s.calls) (load_session n) session_numbers ∙ sessions_have n
+load_calls_in n = sum_mapped (λ (s : Session). length s.calls) (load_session n) session_numbers ∙ sessions_have n
 
 pub load_workload_valid : (n : ℕ) → n ≤ 20000 → IsValidWorkload load_cluster (load_workload n)
 load_workload_valid n few = record {

@@ -25,7 +25,7 @@ const REGIONS: u32 = 4;
 const LARGEST: u32 = 50;
 
 /// Call `number`: draws its three numbers, and makes of them what it wants.
-#[tactic(auto, using(crate::proofs::Dealing::three_draws))]
+#[tactic(auto, using(crate::proofs::OneCallMore::three_draws))]
 pub(crate) fn next_call(
     alloc: Global,
     rows: &[(Key, Value)],

@@ -57,7 +57,7 @@ module _ (place : ℕ) (g : GraphView) (m : MayFinishIn place g) (o : Open) (e :
       ends : (l n : ℕ) → n < l → l ≤ suc n → suc n ≡ l
       ends l n f h = omega (arith, f, h)
 
--- what may leave, and may finish, hangs on nothing that is ready
+-- what may leave, and may finish, depends on nothing that is ready
 pub may_leave_without : (g : GraphView) (ready leaving : List ℕ) → MayLeave g leaving → MayLeave (record g { ready = ready }) leaving
 may_leave_without g ready leaving m = record { once = m.once; within = m.within; distinct = m.distinct; below = m.below; slots = m.slots; enough = m.enough }
 

@@ -8,12 +8,12 @@ pub record NamesView : Type 0 where
   pub ids : List TxnId
   pub spare : ℕ
 
--- the number of the id, or none where it has none
+-- the number of the id, if it has one
 abbrev pub IsNumberOf : List TxnId → TxnId → Option ℕ → Type 0
 IsNumberOf ids id None = ¬ (Has ids id)
 IsNumberOf ids id (Some number) = slice_get ids number ≡ Some id
 
--- the place of a vertex in a list, or none where it isn't there
+-- the place of a vertex in a list, if it is there
 abbrev pub IsPlaceIn : List ℕ → ℕ → Option ℕ → Type 0
 IsPlaceIn list vertex None = ¬ (Has list vertex)
 IsPlaceIn list vertex (Some place) = slice_get list place ≡ Some vertex

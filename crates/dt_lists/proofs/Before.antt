@@ -5,6 +5,7 @@ use Rattle.std.specs.Prelude.{filter, Option}
 use Rattle.std.proofs.lemmas.Bool.{cases_Bool}
 use Rattle.dt_lists.specs.Lists.{AllIn, SomeThen, Has, EachThen, Distinct, IsFront}
 use Rattle.dt_lists.proofs.Words.{any_get, any_put, all_map, all_get, some_get, has_map}
+use Rattle.dt_lists.proofs.Places.{has_place, place_in_longer}
 
 -- a place where the item stands in the list
 pub record Spot {A : Type 0} (xs : List A) (x : A) : Type 0 where
@@ -50,15 +51,10 @@ each_of_steps R trans (x ∷ y ∷ ys) step =
     let next : R x y = step zero x y refl refl in
     ((next, all_map (R y) (R x) ys (λ z r. trans x y z next r) later.0), later)
 
-pub has_at : {A : Type 0} (xs : List A) (i : ℕ) (x : A) → slice_get xs i ≡ Some x → Has xs x
-has_at [] i x e = cc
-has_at (y ∷ ys) zero x e = inl (cc)
-has_at (y ∷ ys) (suc i) x e = inr (has_at ys i x e)
-
 pub each_at : {A : Type 0} (R : A → A → Type 0) (xs : List A) (i j : ℕ) (a b : A) → EachThen R xs → i < j → slice_get xs i ≡ Some a → slice_get xs j ≡ Some b → R a b
 each_at R [] i j a b each lt p q = cc
 each_at R (x ∷ xs) zero zero a b each lt p q = absurd (omega arith)
-each_at R (x ∷ xs) zero (suc j) a b each lt p q = let same : x ≡ a = cc in subst (λ c. R c b) same (all_get (R x) xs each.0 b (has_at xs j b q))
+each_at R (x ∷ xs) zero (suc j) a b each lt p q = let same : x ≡ a = cc in subst (λ c. R c b) same (all_get (R x) xs each.0 b (has_place xs j b q))
 each_at R (x ∷ xs) (suc i) zero a b each lt p q = absurd (omega arith)
 each_at R (x ∷ xs) (suc i) (suc j) a b each lt p q = each_at R xs i j a b each.1 (omega arith) p q
 
@@ -106,14 +102,9 @@ front_filtered test (x ∷ xs) front = go (cases_Bool (test x)) (front_filtered 
     go (inl y) later = rw y (later.0, ap (λ l. x ∷ l) later.1)
     go (inr n) later = rw (n, filter_none test xs (later_fail test x xs n front.0)) (x ∷ xs, refl)
 
-get_longer : {A : Type 0} (xs rest : List A) (i : ℕ) (x : A) → slice_get xs i ≡ Some x → slice_get (xs ++ rest) i ≡ Some x
-get_longer [] rest i x e = cc
-get_longer (y ∷ ys) rest zero x e = e
-get_longer (y ∷ ys) rest (suc i) x e = get_longer ys rest i x e
-
 -- an item of a front stands at its place in the whole list
 pub get_front : {A : Type 0} (xs ys : List A) (i : ℕ) (x : A) → IsFront xs ys → slice_get xs i ≡ Some x → slice_get ys i ≡ Some x
-get_front xs ys i x f e = subst (λ l. slice_get l i ≡ Some x) f.1 (get_longer xs f.0 i x e)
+get_front xs ys i x f e = subst (λ l. slice_get l i ≡ Some x) f.1 (place_in_longer xs f.0 i x e)
 
 pub get_seam : {A : Type 0} (xs : List A) (y : A) (ys : List A) → slice_get (xs ++ y ∷ ys) (length xs) ≡ Some y
 get_seam [] y ys = refl

@@ -1,6 +1,6 @@
 -- Chains of steps: they join, they begin with a step, they go over to other steps, and whether there is one is decided,
 -- where steps are and all of them begin in one list.
-use Rattle.std.proofs.Common.{◌≡◌, ◌⊎◌, ◌↔◌, List, [], ◌∷◌, refl, sym, subst, inl, inr}
+use Rattle.std.proofs.Common.{◌≡◌, ◌⊎◌, List, [], ◌∷◌, refl, sym, subst, inl, inr}
 use Rattle.dt_lists.specs.Chain.{Chain, here, onward}
 use Rattle.dt_lists.specs.Lists.{Has, Either}
 use Rattle.dt_lists.proofs.Decided.{either_or, either_and, either_same}
@@ -28,18 +28,6 @@ chain_keeps P f (onward {y = y} {z = z} c e) p = f y z e (chain_keeps P f c p)
 pub chain_takes_back : {A : Type 0} {Step : A → A → Type 0} {x y : A} (P : A → Type 0) → ((a b : A) → Step a b → P b → P a) → Chain Step x y → P y → P x
 chain_takes_back P f here p = p
 chain_takes_back P f (onward {y = y} {z = z} c e) p = chain_takes_back P f c (f y z e p)
-
--- a chain is empty, or begins with a step
-pub chain_first : {A : Type 0} {Step : A → A → Type 0} {x y : A} → Chain Step x y → (x ≡ y) ⊎ ((m : A) × Step x m × Chain Step m y)
-chain_first here = inl refl
-chain_first {Step = Step} (onward {y = y} {z = z} c e) = elim (chain_first c) [
-  | inl same ↦ inr (z, subst (λ a. Step a z) (sym same) e, here)
-  | inr r ↦ inr (r.0, r.1, onward r.2 e)
-]
-
--- items that hold the end, that a step takes back and that all lead to the end, are just those from which a chain leads there
-pub chain_marks : {A : Type 0} {Step : A → A → Type 0} (P : A → Type 0) (end : A) → P end → ((a b : A) → Step a b → P b → P a) → ((a : A) → P a → Chain Step a end) → (a : A) → P a ↔ Chain Step a end
-chain_marks P end p f g a = (g a, λ c. chain_takes_back P f c p)
 
 -- a chain from u to v whose inner places are in the list
 abbrev pub Via : {A : Type 0} → (A → A → Type 0) → List A → A → A → Type 0

@@ -1,5 +1,5 @@
--- Lists of which an item was replaced, and lists that begin with an item.
-use Rattle.std.proofs.Common.{◌≡◌, ◌≢◌, ℕ, zero, suc, List, [], ◌∷◌, set, refl, ap}
+-- Lists of which an item was replaced, and what equal lists and equal options have in common.
+use Rattle.std.proofs.Common.{◌≡◌, ◌≢◌, ℕ, zero, suc, List, [], ◌∷◌, ◌++◌, set, Some, refl, ap}
 
 -- of two items put at one place the later one stays
 pub set_set : {A : Type 0} (xs : List A) (i : ℕ) (x y : A) → set (set xs i x) i y ≡ set xs i y
@@ -21,3 +21,12 @@ same_head e = cc
 
 pub same_tail : {A : Type 0} {x y : A} {xs ys : List A} → x ∷ xs ≡ y ∷ ys → xs ≡ ys
 same_tail e = cc
+
+-- equal lists that begin with one list go on alike
+pub same_rest : {A : Type 0} (front xs ys : List A) → front ++ xs ≡ front ++ ys → xs ≡ ys
+same_rest [] xs ys e = e
+same_rest (b ∷ front) xs ys e = same_rest front xs ys (same_tail e)
+
+-- equal options hold one thing
+pub some_same : {A : Type 0} {x y : A} → Some x ≡ Some y → x ≡ y
+some_same e = cc

@@ -1,6 +1,6 @@
 -- What is decided: combinators by which a statement on lists is decided when its parts are.
 use Rattle.std.proofs.Common.{◌≡◌, ◌≤◌, ◌⊎◌, ℕ, Bool, true, false, List, [], ◌∷◌, refl, sym, inl, inr, true≢false, arith}
-use Rattle.dt_lists.specs.Lists.{AnyIn, AllIn, SomeThen, Has, EachThen, Either}
+use Rattle.dt_lists.specs.Lists.{AnyIn, AllIn, SomeThen, Has, Either}
 
 pub either_not : (P : Type 0) → Either P → Either (¬ P)
 either_not P (inl p) = inr (λ n. n p)
@@ -32,11 +32,6 @@ pub either_same : (P Q : Type 0) → (P → Q) → (Q → P) → Either P → Ei
 either_same P Q f g (inl p) = inl (f p)
 either_same P Q f g (inr n) = inr (λ q. n (g q))
 
--- what is not refuted holds
-pub either_stable : (P : Type 0) → Either P → ¬ (¬ P) → P
-either_stable P (inl p) nn = p
-either_stable P (inr n) nn = absurd (nn n)
-
 pub either_any : {A : Type 0} (P : A → Type 0) (xs : List A) → ((x : A) → Either (P x)) → Either (AnyIn P xs)
 either_any P [] d = inr (λ e. e)
 either_any P (x ∷ xs) d = either_or (P x) (AnyIn P xs) (d x) (either_any P xs d)
@@ -48,10 +43,6 @@ either_all P (x ∷ xs) d = either_and (P x) (AllIn P xs) (d x) (either_all P xs
 pub either_some : {A : Type 0} (R : A → A → Type 0) (xs : List A) → ((x y : A) → Either (R x y)) → Either (SomeThen R xs)
 either_some R [] d = inr (λ e. e)
 either_some R (x ∷ xs) d = either_or (AnyIn (R x) xs) (SomeThen R xs) (either_any (R x) xs (d x)) (either_some R xs d)
-
-pub either_each : {A : Type 0} (R : A → A → Type 0) (xs : List A) → ((x y : A) → Either (R x y)) → Either (EachThen R xs)
-either_each R [] d = inl tt
-either_each R (x ∷ xs) d = either_and (AllIn (R x) xs) (EachThen R xs) (either_all (R x) xs (d x)) (either_each R xs d)
 
 pub either_has : {A : Type 0} (xs : List A) (x : A) → ((a b : A) → Either (a ≡ b)) → Either (Has xs x)
 either_has xs x d = either_any (λ y. y ≡ x) xs (λ y. d y x)
@@ -76,12 +67,3 @@ either_list (x ∷ xs) (y ∷ ys) d = both (d x y) (either_list xs ys d)
     both (inl e) (inl f) = inl (cc)
     both (inl e) (inr n) = inr (λ f. n (cc))
     both (inr n) f = inr (λ g. n (cc))
-
--- not all of them, so some that does not
-pub any_of_not_all : {A : Type 0} (P : A → Type 0) (xs : List A) → ((x : A) → Either (P x)) → ¬ (AllIn P xs) → AnyIn (λ x. ¬ (P x)) xs
-any_of_not_all P [] d n = n tt
-any_of_not_all P (x ∷ xs) d n = at (d x) (any_of_not_all P xs d)
-  where
-    at : Either (P x) → (¬ (AllIn P xs) → AnyIn (λ x. ¬ (P x)) xs) → AnyIn (λ x. ¬ (P x)) (x ∷ xs)
-    at (inr m) rest = inl m
-    at (inl p) rest = inr (rest (λ a. n (p, a)))

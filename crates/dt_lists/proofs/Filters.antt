@@ -52,3 +52,8 @@ filter_before p (x ∷ xs) u t pu pt (inr s) = go (p x) (filter_before p xs u t 
     go : (b : Bool) → SomeThen (λ a b. (a ≡ u) × (b ≡ t)) (filter p xs) → SomeThen (λ a b. (a ≡ u) × (b ≡ t)) (cond b (x ∷ filter p xs) (filter p xs))
     go true later = inr later
     go false later = later
+
+-- where each item passes, the list is kept whole
+pub filter_whole : {A : Type 0} (p : A → Bool) (xs : List A) → AllIn (λ x. p x ≡ true) xs → filter p xs ≡ xs
+filter_whole p [] all = refl
+filter_whole p (x ∷ xs) all = rw all.0 (ap (λ l. x ∷ l) (filter_whole p xs all.1))

@@ -1,6 +1,7 @@
 -- Laws of fronts of lists, and of lists that are related place by place.
-use Rattle.std.proofs.Common.{◌≡◌, ◌<◌, ◌≤◌, ℕ, zero, suc, List, [], ◌∷◌, ◌++◌, length, get_or, map, take, drop, refl, sym, ap, subst, ◌∙◌, append_assoc, append-nil, take-append-drop, inl, inr, arith}
-use Rattle.std.proofs.lemmas.List.{map-append}
+use Rattle.std.proofs.Common.{◌≡◌, ◌≤◌, ℕ, zero, suc, List, [], ◌∷◌, ◌++◌, length, get_or, map, take, drop, refl, sym, ap, subst, ◌∙◌, append_assoc, append-nil, ◌+◌}
+use Rattle.std.proofs.Common.{take-append-drop, inl, inr, arith}
+use Rattle.std.proofs.lemmas.List.{length-append, map-append}
 use Rattle.dt_lists.specs.Lists.{AnyIn, AllIn, SomeThen, EachThen, IsFront, Pairwise}
 use Rattle.dt_lists.proofs.Words.{any_append_left, some_append_left, all_append_left, each_append_left}
 use Rattle.dt_lists.proofs.Keys.{some_in_front}
@@ -18,6 +19,9 @@ front_append xs ys = (ys, refl)
 
 pub front_empty : {A : Type 0} (xs : List A) → IsFront [] xs
 front_empty xs = (xs, refl)
+
+pub front_length : {A : Type 0} (xs ys : List A) → IsFront xs ys → length xs ≤ length ys
+front_length xs ys f = let e : length (xs ++ f.0) ≡ length xs + length f.0 = length-append xs f.0 in omega (arith, e, ap length f.1)
 
 pub front_take : {A : Type 0} (n : ℕ) (xs : List A) → IsFront (take n xs) xs
 front_take n xs = (drop n xs, take-append-drop n xs)
@@ -55,14 +59,6 @@ pub pairwise_refl : {A : Type 0} (R : A → A → Type 0) → ((x : A) → R x x
 pairwise_refl R r [] = tt
 pairwise_refl R r (x ∷ xs) = (r x, pairwise_refl R r xs)
 
-pub pairwise_trans : {A : Type 0} (R : A → A → Type 0) → ((x y z : A) → R x y → R y z → R x z) → (xs ys zs : List A) → Pairwise R xs ys → Pairwise R ys zs → Pairwise R xs zs
-pairwise_trans R t [] [] [] a b = tt
-pairwise_trans R t [] [] (z ∷ zs) a b = b
-pairwise_trans R t [] (y ∷ ys) zs a b = absurd a
-pairwise_trans R t (x ∷ xs) [] zs a b = absurd a
-pairwise_trans R t (x ∷ xs) (y ∷ ys) [] a b = b
-pairwise_trans R t (x ∷ xs) (y ∷ ys) (z ∷ zs) a b = (t x y z a.0 b.0, pairwise_trans R t xs ys zs a.1 b.1)
-
 pub pairwise_length : {A B : Type 0} (R : A → B → Type 0) (xs : List A) (ys : List B) → Pairwise R xs ys → length xs ≡ length ys
 pairwise_length R [] [] p = refl
 pairwise_length R [] (y ∷ ys) p = absurd p
@@ -76,15 +72,14 @@ pairwise_at R d e (x ∷ xs) [] r p i = absurd p
 pairwise_at R d e (x ∷ xs) (y ∷ ys) r p zero = p.0
 pairwise_at R d e (x ∷ xs) (y ∷ ys) r p (suc i) = pairwise_at R d e xs ys r p.1 i
 
--- lists of one length, related at each place
-pub pairwise_from_at : {A B : Type 0} (R : A → B → Type 0) (d : A) (e : B) (xs : List A) (ys : List B) → length xs ≡ length ys → ((i : ℕ) → i < length xs → R (get_or xs i d) (get_or ys i e)) → Pairwise R xs ys
-pairwise_from_at R d e [] [] l f = tt
-pairwise_from_at R d e [] (y ∷ ys) l f = absurd (omega arith)
-pairwise_from_at R d e (x ∷ xs) [] l f = absurd (omega arith)
-pairwise_from_at R d e (x ∷ xs) (y ∷ ys) l f = (f zero (omega arith), pairwise_from_at R d e xs ys (omega arith) (λ i h. f (suc i) (omega arith)))
-
 pub pairwise_any : {A B : Type 0} (R : A → B → Type 0) (P : A → Type 0) (Q : B → Type 0) (xs : List A) (ys : List B) → ((x : A) (y : B) → R x y → P x → Q y) → Pairwise R xs ys → AnyIn P xs → AnyIn Q ys
 pairwise_any R P Q [] ys f p e = absurd e
 pairwise_any R P Q (x ∷ xs) [] f p e = p
 pairwise_any R P Q (x ∷ xs) (y ∷ ys) f p (inl a) = inl (f x y p.0 a)
 pairwise_any R P Q (x ∷ xs) (y ∷ ys) f p (inr e) = inr (pairwise_any R P Q xs ys f p.1 e)
+
+pub pairwise_more : {A B : Type 0} (R : A → B → Type 0) (xs : List A) (ys : List B) (x : A) (y : B) → Pairwise R xs ys → R x y → Pairwise R (xs ++ x ∷ []) (ys ++ y ∷ [])
+pairwise_more R [] [] x y p r = (r, tt)
+pairwise_more R [] (b ∷ ys) x y p r = absurd p
+pairwise_more R (a ∷ xs) [] x y p r = absurd p
+pairwise_more R (a ∷ xs) (b ∷ ys) x y p r = (p.0, pairwise_more R xs ys x y p.1 r)

@@ -4,25 +4,25 @@ use Rattle.dt_lists.specs.Lists.{AnyIn, AllIn, SomeThen, Has, EachThen}
 use Rattle.dt_lists.proofs.Words.{any_map, any_get, any_put, any_append, some_get, all_get, each_across}
 
 -- some item of the key u stands before one of the key t
-abbrev pub KeyBefore : {A B : Type 0} → (A → B) → List A → B → B → Type 0
-KeyBefore f xs u t = SomeThen (λ x y. (f x ≡ u) × (f y ≡ t)) xs
+abbrev pub HasKeyBefore : {A B : Type 0} → (A → B) → List A → B → B → Type 0
+HasKeyBefore f xs u t = SomeThen (λ x y. (f x ≡ u) × (f y ≡ t)) xs
 
-pub key_first : {A B : Type 0} (f : A → B) (xs : List A) (u t : B) → KeyBefore f xs u t → AnyIn (λ x. f x ≡ u) xs
+pub key_first : {A B : Type 0} (f : A → B) (xs : List A) (u t : B) → HasKeyBefore f xs u t → AnyIn (λ x. f x ≡ u) xs
 key_first f xs u t s = let r : (x y : _) × Has xs x × Has xs y × ((f x ≡ u) × (f y ≡ t)) = some_get _ xs s in any_put _ xs r.0 r.2 r.4.0
 
-pub key_second : {A B : Type 0} (f : A → B) (xs : List A) (u t : B) → KeyBefore f xs u t → AnyIn (λ x. f x ≡ t) xs
+pub key_second : {A B : Type 0} (f : A → B) (xs : List A) (u t : B) → HasKeyBefore f xs u t → AnyIn (λ x. f x ≡ t) xs
 key_second f xs u t s = let r : (x y : _) × Has xs x × Has xs y × ((f x ≡ u) × (f y ≡ t)) = some_get _ xs s in any_put _ xs r.1 r.3 r.4.1
 
 -- where each key stands once, a key of the head is not further on
 key_once : {A B : Type 0} (f : A → B) (x : A) (xs : List A) (t : B) → AllIn (λ y. ¬ (f x ≡ f y)) xs → f x ≡ t → ¬ (AnyIn (λ y. f y ≡ t) xs)
 key_once f x xs t a e s = let r : (y : _) × Has xs y × (f y ≡ t) = any_get _ xs s in all_get _ xs a r.0 r.1 (e ∙ sym r.2)
 
-pub key_before_irreflexive : {A B : Type 0} (f : A → B) (xs : List A) (t : B) → EachThen (λ x y. ¬ (f x ≡ f y)) xs → ¬ (KeyBefore f xs t t)
+pub key_before_irreflexive : {A B : Type 0} (f : A → B) (xs : List A) (t : B) → EachThen (λ x y. ¬ (f x ≡ f y)) xs → ¬ (HasKeyBefore f xs t t)
 key_before_irreflexive f [] t once s = s
 key_before_irreflexive f (x ∷ xs) t once (inl a) = let r : (y : _) × Has xs y × ((f x ≡ t) × (f y ≡ t)) = any_get _ xs a in key_once f x xs t once.0 r.2.0 (any_put _ xs r.0 r.1 r.2.1)
 key_before_irreflexive f (x ∷ xs) t once (inr s) = key_before_irreflexive f xs t once.1 s
 
-pub key_before_transitive : {A B : Type 0} (f : A → B) (xs : List A) (u v t : B) → EachThen (λ x y. ¬ (f x ≡ f y)) xs → KeyBefore f xs u v → KeyBefore f xs v t → KeyBefore f xs u t
+pub key_before_transitive : {A B : Type 0} (f : A → B) (xs : List A) (u v t : B) → EachThen (λ x y. ¬ (f x ≡ f y)) xs → HasKeyBefore f xs u v → HasKeyBefore f xs v t → HasKeyBefore f xs u t
 key_before_transitive f [] u v t once s r = s
 key_before_transitive f (x ∷ xs) u v t once (inl a) (inl b) =
     let p : (y : _) × Has xs y × ((f x ≡ u) × (f y ≡ v)) = any_get _ xs a in

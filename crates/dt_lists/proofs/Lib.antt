@@ -11,4 +11,5 @@ pub mod Filters
 pub mod Places
 pub mod Chains
 pub mod Changes
+pub mod Sums
 pub mod Callers

@@ -1,5 +1,5 @@
 -- Lists by place: an item is put in or added at the end; and what is said of a list by its last item.
-use Rattle.std.proofs.Common.{◌≡◌, ◌<◌, ◌⊎◌, ℕ, zero, suc, Bool, true, false, List, [], ◌∷◌, ◌++◌, length, get_or, set, map}
+use Rattle.std.proofs.Common.{◌≡◌, ◌<◌, ◌⊎◌, ℕ, zero, suc, Bool, true, false, List, [], ◌∷◌, ◌++◌, length, get_or, drop, set, slice_index_or, map}
 use Rattle.std.proofs.Common.{flat_map, slice_get, Some, refl, sym, ap, subst, inl, inr, append_assoc, append-nil, arith}
 use Rattle.std.specs.Prelude.{filter}
 use Rattle.std.proofs.lemmas.Bool.{cases_Bool}
@@ -40,6 +40,11 @@ get_of_map f (y ∷ ys) zero d = refl
 get_of_map f (y ∷ ys) (suc i) d = get_of_map f ys i d
 
 -- what holds of the item that is put in and of each item, holds of each item then
+pub all_set : {A : Type 0} (P : A → Type 0) (xs : List A) (i : ℕ) (x : A) → AllIn P xs → P x → AllIn P (set xs i x)
+all_set P [] i x a p = tt
+all_set P (y ∷ xs) zero x a p = (p, a.1)
+all_set P (y ∷ xs) (suc i) x a p = (a.0, all_set P xs i x a.1 p)
+
 pub each_of_set : {A : Type 0} (P : ℕ → A → Type 0) (xs : List A) (i : ℕ) (x d : A) → P i x → ((j : ℕ) → j < length xs → P j (get_or xs j d)) → (j : ℕ) → j < length xs → P j (get_or (set xs i x) j d)
 each_of_set P [] i x d p all j lt = absurd (omega arith)
 each_of_set P (y ∷ ys) zero x d p all zero lt = p
@@ -74,6 +79,31 @@ place_in_longer [] ys i x e = cc
 place_in_longer (z ∷ zs) ys zero x e = e
 place_in_longer (z ∷ zs) ys (suc i) x e = place_in_longer zs ys i x e
 
+-- in a list without repeats an item stands at one place
+pub one_place : {A : Type 0} (xs : List A) (i j : ℕ) (v : A) → Distinct xs → slice_get xs i ≡ Some v → slice_get xs j ≡ Some v → i ≡ j
+one_place [] i j v d e f = cc
+one_place (x ∷ xs) zero zero v d e f = refl
+one_place (x ∷ xs) zero (suc j) v d e f = let s : x ≡ v = cc in absurd (all_get _ xs d.0 v (has_place xs j v f) s)
+one_place (x ∷ xs) (suc i) zero v d e f = let s : x ≡ v = cc in absurd (all_get _ xs d.0 v (has_place xs i v e) s)
+one_place (x ∷ xs) (suc i) (suc j) v d e f = ap suc (one_place xs i j v d.1 e f)
+
+-- what holds of each item holds of the one at a place
+pub all_index : {A : Type 0} (P : A → Type 0) (xs : List A) (i : ℕ) (d : A) → AllIn P xs → i < length xs → P (slice_index_or xs i d)
+all_index P [] i d all lt = absurd (omega arith)
+all_index P (x ∷ xs) zero d all lt = all.0
+all_index P (x ∷ xs) (suc i) d all lt = all_index P xs i d all.1 (omega arith)
+
+-- what stands in the rest of a list stands in the list
+pub has_dropped : {A : Type 0} (n : ℕ) (xs : List A) (x : A) → Has (drop n xs) x → Has xs x
+has_dropped zero xs x h = h
+has_dropped (suc n) [] x h = absurd h
+has_dropped (suc n) (y ∷ ys) x h = inr (has_dropped n ys x h)
+
+-- nothing stands in an empty list
+pub none_in_empty : {A : Type 0} (xs : List A) (x : A) → Has xs x → length xs ≡ 0 → ⊥
+none_in_empty [] x h e = h
+none_in_empty (y ∷ ys) x h e = omega (arith, e)
+
 -- an item of a list with one more at its end is one of the list, or the last one
 pub place_in_more : {A : Type 0} (xs : List A) (y : A) (i : ℕ) (x : A) → slice_get (xs ++ y ∷ []) i ≡ Some x → (slice_get xs i ≡ Some x) ⊎ ((i ≡ length xs) × (y ≡ x))
 place_in_more [] y zero x e = inr (refl, cc)
@@ -91,6 +121,10 @@ has_more xs x y h = elim (any_append _ xs (x ∷ []) h) [ inl l ↦ inl l | inr 
 
 pub has_last : {A : Type 0} (xs : List A) (x : A) → Has (xs ++ x ∷ []) x
 has_last xs x = any_append_right (λ y. y ≡ x) xs (x ∷ []) (inl refl)
+
+pub last_place : {A : Type 0} (xs : List A) (x : A) → slice_get (xs ++ x ∷ []) (length xs) ≡ Some x
+last_place [] x = refl
+last_place (y ∷ ys) x = last_place ys x
 
 pub has_longer : {A : Type 0} (xs ys : List A) (x : A) → Has xs x → Has (xs ++ ys) x
 has_longer xs ys x h = any_append_left (λ y. y ≡ x) xs ys h

@@ -132,12 +132,6 @@ all_at P d [] i p a = p
 all_at P d (x ∷ xs) zero p a = a.0
 all_at P d (x ∷ xs) (suc i) p a = all_at P d xs i p a.1
 
--- not all, so not one
-pub none_of_all : {A : Type 0} (P : A → Type 0) (xs : List A) → AllIn (λ x. ¬ (P x)) xs → ¬ (AnyIn P xs)
-none_of_all P [] a e = e
-none_of_all P (x ∷ xs) a (inl p) = a.0 p
-none_of_all P (x ∷ xs) a (inr e) = none_of_all P xs a.1 e
-
 -- each item and each later one
 
 pub each_map : {A : Type 0} (R S : A → A → Type 0) (xs : List A) → ((x y : A) → R x y → S x y) → EachThen R xs → EachThen S xs
@@ -181,6 +175,3 @@ within_get xs ys w x h = all_get (Has ys) xs w x h
 
 pub within_refl : {A : Type 0} (xs : List A) → IsWithin xs xs
 within_refl xs = all_put (Has xs) xs (λ x h. h)
-
-pub within_append : {A : Type 0} (xs ys : List A) → IsWithin xs (xs ++ ys)
-within_append xs ys = all_put (Has (xs ++ ys)) xs (λ x h. any_append_left (λ y. y ≡ x) xs ys h)

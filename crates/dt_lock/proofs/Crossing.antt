@@ -1,8 +1,9 @@
 -- Procedures may be read by many threads at once: they hold nothing that changes. Trees hold themselves, so their case is cited.
-use denote.Param.Send.{IsSync, sendable}
+use denote.Param.Send.{IsSend, IsSync, sendable}
 use Rattle.std.proofs.Crossing.{crosses}
 use Rattle.dt_text.specs.contracts.listed.Listed as listed
 use Rattle.dt_text.specs.contracts.name.Name as name
+use Rattle.dt_text.specs.contracts.spelling.Spelling as spelling
 use Rattle.dt_text.specs.contracts.text.Str as str
 use Rattle.dt_syntax.specs.contracts.kinds.Kind as kind
 use Rattle.dt_proc.specs.contracts.procs.Proc as proc
@@ -17,8 +18,14 @@ use Rattle.dt_proc.proofs.tree.Stmts.TheLaws.TheKnot.{sync-Stmts}
 str_sync : IsSync str.the_row
 str_sync = search (crosses, sendable) depth 30
 
+spelling_send : IsSend spelling.the_row
+spelling_send = search (crosses, sendable) depth 30
+
+spelling_sync : IsSync spelling.the_row
+spelling_sync = search (crosses, sendable) depth 30
+
 name_sync : IsSync name.the_row
-name_sync = search (crosses, sendable) depth 30
+name_sync = search (spelling_send, spelling_sync, crosses, sendable) depth 30
 
 kinds_sync : IsSync (listed.the_row kind.the_row)
 kinds_sync = search (crosses, sendable) depth 30

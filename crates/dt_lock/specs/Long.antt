@@ -10,7 +10,7 @@ abbrev pub outermost : BlockTree → ℕ
 outermost done = 0
 outermost (then s rest) = 1 + outermost rest
 
--- a procedure is long if its body has at least 4,000 outermost statements: so many each call of it executes, unless it aborts
+-- a procedure is long if its body has at least 4,000 outermost statements: each call of it executes at least that many, unless it aborts
 abbrev pub IsLong : ProcTree → Type 0
 IsLong proc = 4000 ≤ outermost proc.body
 

@@ -19,8 +19,8 @@
 //! round, and the procedures. Read next: `specs/Held.antt`, for what the lock keeps.
 #![tactic(auto)]
 
-mod acting;
 mod by;
+mod by_threads;
 mod claim;
 mod clashes;
 mod gate;
@@ -29,7 +29,7 @@ mod jobs;
 mod named;
 mod running;
 mod statements;
-mod threaded;
+mod work;
 
 pub use by::By;
 pub use claim::{Claim, Finished};
@@ -37,4 +37,4 @@ pub use gate::{Gate, NoGate};
 pub use held::Held;
 pub use named::Named;
 pub use running::Running;
-pub use threaded::round;
+pub use by_threads::round;

@@ -33,7 +33,7 @@ use Rattle.dt_merge.specs.Own.{own, places_at}
 use Rattle.dt_merge.specs.Weight.{most_events, sum_below, weight, world_weight}
 use Rattle.dt_merge.specs.WorldRegions.{HasInvariant}
 use Rattle.dt_merge.proofs.SumsBelow.{sum_below_added, sum_below_const, sum_below_first, sum_below_le}
-use Rattle.dt_merge.proofs.Weighing.{events_weighed}
+use Rattle.dt_merge.proofs.WeightRises.{events_weighed}
 use Rattle.dt_merge.proofs.OwnParts.{local, local_no, local_yes, places_no, places_yes}
 
 -- a longer view has as many logs

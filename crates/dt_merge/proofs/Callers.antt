@@ -5,7 +5,7 @@
 pub use Rattle.dt_merge.proofs.Frames.{frame}
 pub use Rattle.dt_merge.proofs.OwnParts.{found_own, local}
 pub use Rattle.dt_merge.proofs.OwnSteps.{attempt_of_own, own_answered, own_appended, own_delivered, own_moved, own_submitted}
-pub use Rattle.dt_merge.proofs.Growing.{grown_refl, grown_trans}
+pub use Rattle.dt_merge.proofs.SubmissionsStay.{grown_refl, grown_trans}
 pub use Rattle.dt_merge.proofs.Worlds.{legal_grows}
 pub use Rattle.dt_merge.proofs.LocalEvents.{asked_front, received_up, supply_lasts}
 pub use Rattle.dt_merge.proofs.Cuts.{two_fronts}

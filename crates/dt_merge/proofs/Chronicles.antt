@@ -18,7 +18,7 @@ use Rattle.dt_merge.specs.Regional.{Regions, after_all, AreLegalIn, AllChangeIn,
 use Rattle.dt_events.specs.declared.Stamped.{Stamped}
 use Rattle.dt_events.specs.Stamps.{events_of}
 use Rattle.dt_merge.specs.Merge.{region_at, those_at, kept_at, HasLowerStamp, ComesBefore, AreKept, IsMerge, IsFed, IsChronicle}
-use Rattle.dt_merge.proofs.Reordering.{rescheduled, rescheduled_whole}
+use Rattle.dt_merge.proofs.EventOrders.{rescheduled, rescheduled_whole}
 use Rattle.dt_merge.proofs.Worlds.{world_local}
 use Rattle.dt_merge.proofs.MergeLists.{merge_keeps, not_above}
 

@@ -3,7 +3,7 @@ use Rattle.std.proofs.Common.{◌≡◌, ◌≢◌, ◌<◌, ◌≤◌, ◌⊎�
 use Rattle.dt_lists.specs.Lists.{AllIn, Either}
 use Rattle.dt_lists.proofs.Callers.{all_map, either_nat, filter_none}
 use Rattle.dt_merge.specs.Regional.{Regions, after_all, AreLegalIn, AllChangeIn, Below, AreLocal, one_by_one, AreTurns, AreSideBySide}
-use Rattle.dt_merge.proofs.Reordering.{after_append, legal_together, change_together, not_here, good_after, below_refl, below_after, still}
+use Rattle.dt_merge.proofs.EventOrders.{after_all_append, legal_together, change_together, not_here, good_after, below_refl, below_after, still}
 
 pub below_other : (q n : ℕ) → q < suc n → (q < n) ⊎ (n ≡ q)
 below_other q n lt = grind arith
@@ -79,7 +79,7 @@ module _ {W E O : Type 0} (g : Regions W E O) (law : AreLocal g) where
 
     joins : (q : ℕ) → g.own (after_all g w (one_by_one turns (suc n))) q ≡ g.own (after_all g so_far (turns n)) q
     unfolding so_far
-    joins q = ap (λ v. g.own v q) (after_append g w (one_by_one turns n) (turns n))
+    joins q = ap (λ v. g.own v q) (after_all_append g w (one_by_one turns n) (turns n))
 
     each_more : (q : ℕ) → q < suc n → g.own (after_all g w (one_by_one turns (suc n))) q ≡ g.own (after_all g w (turns q)) q
     each_more q lt = joins q ∙ by (below_other q n lt)

@@ -16,7 +16,7 @@ use Rattle.dt_merge.specs.WorldRegions.{HasInvariant, world_regions}
 use Rattle.dt_merge.specs.Regional.{after_all, AreLegalIn, AreLocal}
 use Rattle.dt_merge.proofs.OwnParts.{same_lists, same_places}
 use Rattle.dt_merge.proofs.Frames.{frame}
-use Rattle.dt_merge.proofs.Growing.{grown_refl, grown_trans, grows}
+use Rattle.dt_merge.proofs.SubmissionsStay.{grown_refl, grown_trans, grows}
 use Rattle.dt_merge.proofs.LocalEvents.{is_supplied, locality, supply_lasts}
 
 -- the region of a legal event exists

@@ -1,7 +1,7 @@
 -- When it does not matter in which order events of different regions happen. A world is spoken of only through the part of it
 -- that is each region's own: an event changes the own part of one region, and is legal by that part and, if it takes
 -- something from another region, by that being there. Nothing else is known here of worlds and events. Read next:
--- proofs/Reordering.antt, what follows: lists of events of many regions may be reordered.
+-- proofs/EventOrders.antt, what follows: lists of events of many regions may be reordered.
 use Rattle.std.specs.Prelude.{◌≡◌, ◌≢◌, ◌<◌, ◌≤◌, ◌==◌, ℕ, zero, suc, List, [], ◌∷◌, ◌++◌, filter, Option, Some}
 use Rattle.dt_lists.specs.Lists.{AllIn, IsFront}
 

@@ -1,25 +1,19 @@
 -- Stamps of a turn's events: each is above all that the node's region knew of, so they rise, and go no further than one for
 -- each event.
-use Rattle.std.proofs.Common.{◌≡◌, ◌<◌, ◌≤◌, ◌+◌, ℕ, List, [], ◌∷◌, ◌++◌, length, map, max, refl, sym, ap, subst, ◌∙◌, append-nil, append_assoc, arith}
+use Rattle.std.proofs.Common.{◌≡◌, ◌<◌, ◌≤◌, ◌+◌, ℕ, List, [], ◌∷◌, ◌++◌, length, map, max, sym, ap, subst, ◌∙◌, append-nil, append_assoc, arith}
 use Rattle.std.proofs.lemmas.List.{length-append, map-append}
 use Rattle.dt_lists.specs.Lists.{AllIn, EachThen}
 use Rattle.dt_lists.proofs.Callers.{all_append, all_map, each_append}
 use Rattle.dt_events.specs.declared.Event.{Event}
 use Rattle.dt_events.specs.declared.Stamped.{Stamped}
 use Rattle.dt_events.specs.Stamps.{last_stamp, stamped_from}
+use Rattle.dt_events.proofs.Callers.{last_of_more}
 use Rattle.dt_region.specs.Region.{latest_stamp}
 use Rattle.dt_packet.specs.declared.packet.Packet.{Packet}
 use Rattle.dt_merge.specs.Merge.{HasLowerStamp}
 use Rattle.dt_node.specs.NodeView.{NodeView, new_items}
 use Rattle.dt_node.specs.Turn.{StampsRise, greatest}
 use Rattle.dt_node.proofs.Greatest.{above_greatest, greatest_append, greatest_more, greatest_twice}
-
--- the stamp of the last of some events
-
-pub last_of_more : (items : List Stamped) (x : Stamped) → last_stamp (items ++ x ∷ []) ≡ x.stamp
-last_of_more [] x = refl
-last_of_more (y ∷ []) x = refl
-last_of_more (y ∷ z ∷ items) x = last_of_more (z ∷ items) x
 
 -- stamps rise along one way and then along another
 

@@ -18,7 +18,7 @@ copies_of Lost packet = []
 copies_of Pass packet = packet ∷ []
 copies_of Twice packet = packet ∷ packet ∷ []
 
--- stands for an outlet that there is not
+-- stands in where there is no such thing: an outlet
 abbrev pub no_outlet : OutletView
 no_outlet = record { put = []; free = 0 }
 

@@ -1,4 +1,4 @@
 pub mod Callers
-pub mod Finding
-pub mod Reading
-pub mod Writing
+pub mod FilesByName
+pub mod Retries
+pub mod TextPieces

@@ -49,7 +49,7 @@ file_in (file ∷ files) name = if pointwise nat_eq file.name name then Some fil
 
 -- a folder in memory: its files, the numbers of the loads that fail, how many loads and faults there were, and the name
 -- of the most recent load that failed, if there was memory to keep it
-pub record StoredFolder : Type 0 where
+pub record MemoryFolderView : Type 0 where
   pub files : List StoredFile
   pub failing : List ℕ
   pub loads : ℕ
@@ -57,11 +57,11 @@ pub record StoredFolder : Type 0 where
   pub missed : Option (List ℕ)
 
 -- whether the next load fails: its number is one of those that fail, or no file has the name
-abbrev pub fails_next : StoredFolder → List ℕ → Bool
+abbrev pub fails_next : MemoryFolderView → List ℕ → Bool
 fails_next folder name =
     list_any (λ number. number == next_count folder.loads) folder.failing || is_none (file_in folder.files name)
 
 -- a folder of the disk: how many loads failed, and the name of the most recent of them, if there was memory to keep it
-pub record Disk : Type 0 where
+pub record DiskFolderView : Type 0 where
   pub faults : ℕ
   pub missed : Option (List ℕ)

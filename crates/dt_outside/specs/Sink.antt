@@ -35,12 +35,12 @@ pub record Writes {E : Type 0} (old new : SinkView) (text : List ℕ) (result : 
   pub later : old.faults ≤ new.faults
 
 -- a sink in memory: what it holds, how many bytes it can hold, and how many faults there were
-pub record StoredSink : Type 0 where
+pub record MemorySinkView : Type 0 where
   pub content : List ℕ
   pub room : ℕ
   pub faults : ℕ
 
 -- a stream of the system: what its writer has taken, where the writer shows it, and how many faults there were
-pub record Stream : Type 0 where
+pub record StdSinkView : Type 0 where
   pub taken : Option (List ℕ)
   pub faults : ℕ

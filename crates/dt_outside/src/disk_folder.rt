@@ -18,9 +18,9 @@ pub struct DiskFolder<'a, R> {
 }
 
 impl<'a, R> Model for DiskFolder<'a, R> {
-    ghost use Rattle.dt_outside.specs.Folder.{Disk, stored_name};
+    ghost use Rattle.dt_outside.specs.Folder.{DiskFolderView, stored_name};
 
-    ghost Value = { Disk };
+    ghost Value = { DiskFolderView };
 
     ghost view = { λ disk. record { faults = disk.faults; missed = stored_name disk.missed } };
 }

@@ -21,9 +21,9 @@ pub struct MemoryFolder {
 
 impl Model for MemoryFolder {
     ghost use Rattle.std.specs.Prelude.{map};
-    ghost use Rattle.dt_outside.specs.Folder.{StoredFolder, stored_file, stored_name};
+    ghost use Rattle.dt_outside.specs.Folder.{MemoryFolderView, stored_file, stored_name};
 
-    ghost Value = { StoredFolder };
+    ghost Value = { MemoryFolderView };
 
     ghost view = { λ f. record {
       files = map stored_file f.files.items;
@@ -67,7 +67,7 @@ impl MemoryFolder {
 }
 
 /// The content of the first file of this name.
-#[tactic(auto, using(crate::proofs::Finding::finding))]
+#[tactic(auto, using(crate::proofs::FilesByName::finding))]
 fn content_of<'a>(files: &'a [(String, Vec<u8>)], name: &str) -> Option<&'a Vec<u8>>
     ensures { option_map (λ bytes. bytes.items) (option_copied result) ≡ file_in (map stored_file files.now) name.now }
 {

@@ -17,9 +17,9 @@ pub struct MemorySink {
 
 impl Model for MemorySink {
     ghost use Rattle.std.specs.Prelude.{◌≤◌, vec_len, vec_capacity};
-    ghost use Rattle.dt_outside.specs.Sink.{StoredSink};
+    ghost use Rattle.dt_outside.specs.Sink.{MemorySinkView};
 
-    ghost Value = { StoredSink };
+    ghost Value = { MemorySinkView };
 
     ghost view = { λ s. record { content = s.content.items; room = s.room; faults = s.faults } };
 

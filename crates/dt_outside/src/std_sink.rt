@@ -17,9 +17,9 @@ pub struct StdSink<W: Write> {
 }
 
 impl<W: Write> Model for StdSink<W> {
-    ghost use Rattle.dt_outside.specs.Sink.{Stream};
+    ghost use Rattle.dt_outside.specs.Sink.{StdSinkView};
 
-    ghost Value = { Stream };
+    ghost Value = { StdSinkView };
 
     ghost view = { λ sink. record { taken = W.contents sink.writer; faults = sink.faults } };
 }

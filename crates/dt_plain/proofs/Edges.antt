@@ -15,9 +15,6 @@ use Rattle.dt_plain.specs.declared.search.Link.{Link}
 
 -- gaining
 
-pub gains_none : (P : TxnId → TxnId → Type 0) (links : List Link) → ((u t : TxnId) → ¬ (P u t)) → Gains P links links
-gains_none P links n = record { members = λ u t. (λ k. inl k, λ k. elim k [ inl a ↦ a | inr p ↦ absurd (n u t p) ]) }
-
 -- what is to be gained may be said otherwise
 pub gains_same : (P Q : TxnId → TxnId → Type 0) (old new : List Link) → ((u t : TxnId) → P u t → Q u t) → ((u t : TxnId) → Q u t → P u t) → Gains P old new → Gains Q old new
 gains_same P Q old new f h g =
@@ -99,9 +96,6 @@ log_linked log q old mid new g h =
     (gains_both (EdgeWithin log) (EdgeInto log q) old mid new g h)
 
 -- one more log
-
-pub edges_begin : AreEdges [] []
-edges_begin = record { members = λ u t. (absurd, λ e. absurd e.1) }
 
 pub edges_more : (view : View) (log : List Part) (old new : List Link) → AreEdges view old → Gains (EdgeWithin log) old new → AreEdges (view ++ log ∷ []) new
 edges_more view log old new a g =

@@ -2,21 +2,12 @@
 use Rattle.std.proofs.Common.{◌≡◌, ℕ, ◌+◌, ◌<◌, List, [], ◌∷◌, ◌++◌, length, get_or, take, sym, subst, inl, inr}
 use Rattle.std.proofs.lemmas.List.{take_more}
 use Rattle.dt_lists.specs.Lists.{Has, Distinct}
-use Rattle.dt_lists.proofs.Callers.{any_append, any_append_left, any_append_right, all_put, each_append, front_refl, front_trans, front_append}
+use Rattle.dt_lists.proofs.Callers.{any_append, any_append_left, any_append_right, all_put, each_append, front_trans, front_append}
 use Rattle.dt_access.specs.declared.TxnId.{TxnId}
 use Rattle.dt_plain.proofs.Same.{no_id}
 use Rattle.dt_sched.specs.IdLists.{AddsOnce}
 use Rattle.dt_plain.specs.Links.{Follows}
 use Rattle.dt_plain.specs.declared.search.Link.{Link}
-
--- an id that is there is not added
-pub adds_old : (ids : List TxnId) (id : TxnId) → Distinct ids → Has ids id → AddsOnce ids id ids
-adds_old ids id d h =
-    record {
-      front = front_refl ids;
-      distinct = d;
-      members = λ u. (λ k. inl k, λ k. elim k [ inl a ↦ a | inr e ↦ subst (Has ids) (sym e) h ]);
-    }
 
 -- an id that isn't there is added at the back
 pub adds_new : (ids : List TxnId) (id : TxnId) → Distinct ids → ¬ (Has ids id) → AddsOnce ids id (ids ++ id ∷ [])
@@ -34,11 +25,6 @@ adds_new ids id d n =
 -- what stands at a place past the end of a list of links, for `get_or`
 abbrev pub no_link : Link
 no_link = record { from = no_id; to = no_id }
-
--- before the first link nothing is added
-pub follows_none : (u : TxnId) (ids : List TxnId) → Distinct ids → Follows [] u ids ids
-follows_none u ids d =
-    record { front = front_refl ids; distinct = d; members = λ t. (λ k. inl k, λ k. elim k [ inl a ↦ a | inr z ↦ absurd z ]) }
 
 -- one more link, that goes from u
 pub follows_more : (done : List Link) (l : Link) (u : TxnId) (old mid new : List TxnId) → Follows done u old mid → l.from ≡ u → AddsOnce mid l.to new → Follows (done ++ l ∷ []) u old new

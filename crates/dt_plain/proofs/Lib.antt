@@ -5,8 +5,8 @@ pub mod Growth
 pub mod Walk
 pub mod Edges
 pub mod Order
-pub mod Shared
-pub mod Present
-pub mod Decided
+pub mod Intersections
+pub mod PresentIds
+pub mod TestsOfScheduler
 pub mod Choice
 pub mod Fits

@@ -1,9 +1,6 @@
 -- Ids in ascending order: what a sort gives, and lists that are compared.
-use Rattle.std.proofs.Common.{◌≡◌, ◌∙◌, ℕ, suc, ◌+◌, ◌<◌, ◌↔◌, Bool, true, false, List, [], ◌∷◌, refl, sym, subst, inl, inr, arith, IsTrue, IsPermutation, IsSorted}
-use Rattle.std.specs.Ordering.{nat_cmp, ordering_then, is_lt}
-use Rattle.std.specs.Cmp.{nat_cmp_is}
-use Rattle.std.specs.declared.cmp.Ordering.{Ordering}
-use Rattle.std.specs.declared.cmp.Ordering.TheVariants.{Less, Equal}
+use Rattle.std.proofs.Common.{◌≡◌, ◌∙◌, suc, ◌+◌, ◌↔◌, Bool, true, false, List, [], ◌∷◌, refl, sym, subst, inl, inr, arith, IsTrue, IsPermutation, IsSorted}
+use Rattle.std.specs.Ordering.{is_lt}
 use Rattle.std.specs.List.{IsDistinct, list_any}
 use Rattle.std.specs.Cmp.Lexicographic.{pointwise}
 use Rattle.std.proofs.lemmas.Map.Keys.{IsDistinct-IsPermutation}
@@ -13,23 +10,9 @@ use Rattle.dt_lists.specs.Lists.{AllIn, Has, Distinct}
 use Rattle.dt_lists.proofs.Callers.{any_map, all_map, any_of_test, test_of_any}
 use Rattle.dt_access.specs.Ids.{Before, AreAscending, same_id}
 use Rattle.dt_access.specs.declared.TxnId.{TxnId}
-use Rattle.dt_access.proofs.Callers.{before_total, before_transitive, test_of_id, test_of_other, same_id_turned}
+use Rattle.dt_access.proofs.Callers.{before_total, before_transitive, test_of_id, test_of_other, same_id_turned, by_parts, before_less}
 use Rattle.dt_plain.proofs.Same.{ids_same, ids_differ}
 use Rattle.dt_sched.specs.IdLists.{IsOrderOf}
-
--- the order in which a sort compares ids
-abbrev pub by_parts : TxnId → TxnId → Ordering
-by_parts a b = ordering_then (nat_cmp a.seq b.seq) (nat_cmp a.region b.region)
-
-less : (m n : ℕ) → m < n → nat_cmp m n ≡ Less
-less m n h = sym (nat_cmp_is m n Less h)
-
-same_number : (n : ℕ) → nat_cmp n n ≡ Equal
-same_number n = sym (nat_cmp_is n n Equal refl)
-
-before_less : (a b : TxnId) → Before a b → is_lt (by_parts a b) ≡ true
-before_less a b (inl h) = rw (less a.seq b.seq h) refl
-before_less a b (inr h) = rw (h.0, same_number b.seq, less a.region b.region h.1) refl
 
 -- a permutation has the same ids, each as often
 has_listed : (xs : List TxnId) (u : TxnId) → Has xs u → list_any (λ x. same_id x u) xs ≡ true

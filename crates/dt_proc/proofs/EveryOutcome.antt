@@ -3,7 +3,6 @@
 use Rattle.std.proofs.Common.{◌≡◌, inl, inr, ℕ, List, [], Ok, Err, refl}
 use Rattle.dt_syntax.specs.declared.token.Placed.{Placed}
 use Rattle.dt_syntax.specs.FirstPass.{PassesFirst}
-use Rattle.dt_syntax.specs.Grammar.{ProcSyntax}
 use Rattle.dt_syntax.proofs.Callers.{FirstPassEnds, first_pass_ends}
 use Rattle.dt_proc.specs.declared.error.ProcError.TheVariants as fault
 use Rattle.dt_proc.specs.Tree.{ProcTree}

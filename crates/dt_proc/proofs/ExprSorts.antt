@@ -1,5 +1,5 @@
 -- What the second pass makes fits.
-use Rattle.std.proofs.Common.{◌≡◌, inl, inr, ℕ, suc, ◌<◌, Bool, true, false, cond, List, [], ◌∷◌, ◌++◌, map, length, slice_get, Option, Some, None, Ok, Err, refl, ap, subst, nat_eq}
+use Rattle.std.proofs.Common.{◌≡◌, inl, inr, ℕ, suc, ◌<◌, Bool, true, false, cond, List, [], ◌∷◌, map, length, slice_get, Option, Some, None, Ok, Err, refl, ap, subst, nat_eq}
 use Rattle.std.specs.Option.{option_map}
 use Rattle.std.specs.Cmp.Lexicographic.{pointwise}
 use Rattle.std.proofs.lemmas.Option.{slice_get_within}
@@ -10,7 +10,6 @@ use Rattle.dt_syntax.specs.declared.operator.Op.TheVariants as op
 use Rattle.dt_syntax.specs.declared.token.Token.TheVariants as tok
 use Rattle.dt_proc.specs.declared.scope.Meaning.{Meaning}
 use Rattle.dt_proc.specs.declared.scope.Meaning.TheVariants.{Variable, Key, Unknown}
-use Rattle.dt_proc.specs.declared.error.ProcError.{ProcError}
 use Rattle.dt_proc.specs.declared.error.ProcError.TheVariants as fault
 use Rattle.dt_proc.specs.Names.{Scope, entry_of, meaning_in, as_entry, as_key_entry}
 use Rattle.dt_proc.specs.Sound.{TakesSort, sort_given, HasSort, IsStoredSort}
@@ -32,9 +31,6 @@ value_of other (Err e) = other
 pub holds_ok : {A : Type 0} (P : A → Type 0) (a : A) → P a → Holds P (Ok a)
 unfolding value_of
 holds_ok P a h b e = subst P (ap (value_of a) e) h
-
-pub holds_err : {A : Type 0} (P : A → Type 0) (told : Checked A) (f : ProcError) → told ≡ Err f → Holds P told
-holds_err P told f e a is = absurd cc
 
 pub holds_after : {A B : Type 0} (P : B → Type 0) (told : Checked A) (next : A → Checked B) → ((a : A) → told ≡ Ok a → Holds P (next a)) → Holds P (after_ok told next)
 holds_after P (Ok a) next h = h a refl
@@ -74,10 +70,10 @@ entry_place [] n r e = absurd cc
 entry_place (x ∷ es) n r e = entry_here (pointwise nat_eq x.0 n) x.1 (map (λ e. e.1) es) (entry_of es n) r (λ s. entry_place es n s) e
 
 -- what a name means is there
-abbrev pub Means : Scope → Meaning → Type 0
-Means scope (Variable n s) = slice_get (sorts scope) n ≡ Some s
-Means scope (Key k w) = slice_get (writes scope) k ≡ Some w
-Means scope Unknown = Unit {0}
+abbrev pub StandsInScope : Scope → Meaning → Type 0
+StandsInScope scope (Variable n s) = slice_get (sorts scope) n ≡ Some s
+StandsInScope scope (Key k w) = slice_get (writes scope) k ≡ Some w
+StandsInScope scope Unknown = Unit {0}
 
 fits_sort : (o : Op) (s t : Sort) → fits_both o s t ≡ true → TakesSort o s × (t ≡ s)
 fits_sort op.Or sort.Int sort.Int e = absurd cc
@@ -129,15 +125,15 @@ fits_sort o sort.Text sort.Bool e = absurd cc
 fits_sort o sort.Bool sort.Int e = absurd cc
 fits_sort o sort.Bool sort.Text e = absurd cc
 
-key_means : (scope : Scope) (o : Option (ℕ × Bool)) → ((r : ℕ × Bool) → o ≡ Some r → Stands (writes scope) r) → Means scope (as_key_entry o)
+key_means : (scope : Scope) (o : Option (ℕ × Bool)) → ((r : ℕ × Bool) → o ≡ Some r → Stands (writes scope) r) → StandsInScope scope (as_key_entry o)
 key_means scope None h = tt
 key_means scope (Some r) h = h r refl
 
-entry_means : (scope : Scope) (o : Option (ℕ × Sort)) (m : Meaning) → ((r : ℕ × Sort) → o ≡ Some r → Stands (sorts scope) r) → Means scope m → Means scope (as_entry o m)
+entry_means : (scope : Scope) (o : Option (ℕ × Sort)) (m : Meaning) → ((r : ℕ × Sort) → o ≡ Some r → Stands (sorts scope) r) → StandsInScope scope m → StandsInScope scope (as_entry o m)
 entry_means scope None m h k = k
 entry_means scope (Some r) m h k = h r refl
 
-pub means : (scope : Scope) (n : List ℕ) → Means scope (meaning_in scope n)
+pub means : (scope : Scope) (n : List ℕ) → StandsInScope scope (meaning_in scope n)
 means scope n =
     entry_means scope (entry_of scope.variables n) (as_key_entry (entry_of scope.keys n)) (λ r e. entry_place scope.variables n r e)
     (key_means scope (entry_of scope.keys n) (λ r e. entry_place scope.keys n r e))
@@ -159,26 +155,26 @@ not_truth sort.Text e = inr refl
 not_truth sort.Bool e = absurd cc
 
 -- the expression has its sort
-abbrev pub Fits : Scope → Typed → Type 0
-Fits scope a = HasSort (sorts scope) (length (writes scope)) a.0 a.1
+abbrev pub HasItsSort : Scope → Typed → Type 0
+HasItsSort scope a = HasSort (sorts scope) (length (writes scope)) a.0 a.1
 
-pub variable_fits : (scope : Scope) (p : ℕ) (m : Meaning) → Means scope m → Holds (Fits scope) (as_variable p m)
-variable_fits scope p (Variable n s) h = holds_ok (Fits scope) (tree.variable n, s) h
+pub variable_fits : (scope : Scope) (p : ℕ) (m : Meaning) → StandsInScope scope m → Holds (HasItsSort scope) (as_variable p m)
+variable_fits scope p (Variable n s) h = holds_ok (HasItsSort scope) (tree.variable n, s) h
 variable_fits scope p (Key k w) h = λ a e. absurd cc
 variable_fits scope p Unknown h = λ a e. absurd cc
 
-pub key_fits : (scope : Scope) (p : ℕ) (m : Meaning) → Means scope m → Holds (λ k. k < length (writes scope)) (as_key p m)
+pub key_fits : (scope : Scope) (p : ℕ) (m : Meaning) → StandsInScope scope m → Holds (λ k. k < length (writes scope)) (as_key p m)
 key_fits scope p (Variable n s) h = λ a e. absurd cc
 key_fits scope p (Key k w) h = holds_ok (λ k. k < length (writes scope)) k (slice_get_within (writes scope) k w h)
 key_fits scope p Unknown h = λ a e. absurd cc
 
-pub written_fits : (scope : Scope) (p : ℕ) (m : Meaning) → Means scope m → Holds (λ k. slice_get (writes scope) k ≡ Some true) (as_written p m)
+pub written_fits : (scope : Scope) (p : ℕ) (m : Meaning) → StandsInScope scope m → Holds (λ k. slice_get (writes scope) k ≡ Some true) (as_written p m)
 written_fits scope p (Variable n s) h = λ a e. absurd cc
 written_fits scope p (Key k true) h = holds_ok (λ k. slice_get (writes scope) k ≡ Some true) k h
 written_fits scope p (Key k false) h = λ a e. absurd cc
 written_fits scope p Unknown h = λ a e. absurd cc
 
-reader_fits : (scope : Scope) (r : Reader) (k : ℕ) → k < length (writes scope) → Fits scope (read_by r k)
+reader_fits : (scope : Scope) (r : Reader) (k : ℕ) → k < length (writes scope) → HasItsSort scope (read_by r k)
 reader_fits scope reads_int k h = (refl, h)
 reader_fits scope reads_text k h = (refl, h)
 reader_fits scope reads_presence k h = (refl, h)
@@ -189,49 +185,49 @@ needs_fits P p s a r h = holds_cond P (same_sort a.1 s) (Ok r) (Err (fault.Kind 
 pub stored_fits : {A : Type 0} (P : A → Type 0) (p : ℕ) (a : Typed) (r : A) → (IsStoredSort a.1 → P r) → Holds P (needs_stored p a r)
 stored_fits P p a r h = holds_cond P (same_sort a.1 sort.Bool) (Err (fault.Kind p)) (Ok r) (λ e b is. absurd cc) (λ e. holds_ok P r (h (not_truth a.1 e)))
 
-maker_fits : (scope : Scope) (m : Maker) (p : ℕ) (a : Typed) → Fits scope a → Holds (Fits scope) (made_by m p a)
+maker_fits : (scope : Scope) (m : Maker) (p : ℕ) (a : Typed) → HasItsSort scope a → Holds (HasItsSort scope) (made_by m p a)
 maker_fits scope makes_length p a h =
-    needs_fits (Fits scope) p sort.Text a (tree.length_of a.0, sort.Int) (λ e. (refl, subst (λ s. HasSort (sorts scope) (length (writes scope)) a.0 s) e h))
+    needs_fits (HasItsSort scope) p sort.Text a (tree.length_of a.0, sort.Int) (λ e. (refl, subst (λ s. HasSort (sorts scope) (length (writes scope)) a.0 s) e h))
 maker_fits scope makes_text p a h =
-    needs_fits (Fits scope) p sort.Int a (tree.shown a.0, sort.Text) (λ e. (refl, subst (λ s. HasSort (sorts scope) (length (writes scope)) a.0 s) e h))
+    needs_fits (HasItsSort scope) p sort.Int a (tree.shown a.0, sort.Text) (λ e. (refl, subst (λ s. HasSort (sorts scope) (length (writes scope)) a.0 s) e h))
 
-combined_fits : (scope : Scope) (p : ℕ) (o : Op) (a b : Typed) → Fits scope a → Fits scope b → Holds (Fits scope) (combined p o a b)
+combined_fits : (scope : Scope) (p : ℕ) (o : Op) (a b : Typed) → HasItsSort scope a → HasItsSort scope b → Holds (HasItsSort scope) (combined p o a b)
 combined_fits scope p o a b h k =
-    holds_cond (Fits scope) (fits_both o a.1 b.1) (Ok (tree.binary o a.0 b.0, sort_given o)) (Err (fault.Kind p))
-    (λ e. let f = fits_sort o a.1 b.1 e in holds_ok (Fits scope) (tree.binary o a.0 b.0, sort_given o)
+    holds_cond (HasItsSort scope) (fits_both o a.1 b.1) (Ok (tree.binary o a.0 b.0, sort_given o)) (Err (fault.Kind p))
+    (λ e. let f = fits_sort o a.1 b.1 e in holds_ok (HasItsSort scope) (tree.binary o a.0 b.0, sort_given o)
     (a.1, f.0, h, subst (λ s. HasSort (sorts scope) (length (writes scope)) b.0 s) f.1 k, refl))
     (λ e c is. absurd cc)
 
 mutual
-  pub check_fits : (scope : Scope) (x : Syntax) → AllSound (syntax_tokens x) → Holds (Fits scope) (check scope x)
+  pub check_fits : (scope : Scope) (x : Syntax) → AllSound (syntax_tokens x) → Holds (HasItsSort scope) (check scope x)
   check_fits scope (chain head links) h =
-      holds_after (Fits scope) (check scope head) (λ a. check_links scope a links)
+      holds_after (HasItsSort scope) (check scope head) (λ a. check_links scope a links)
       (λ a e. links_fit scope a links (check_fits scope head (sound_left (syntax_tokens head) (links_tokens links) h) a e) (sound_right (syntax_tokens head) (links_tokens links) h))
   check_fits scope (minus p x) h =
-      holds_after (Fits scope) (check scope x) (λ a. needs p sort.Int a (tree.negative a.0, sort.Int))
-      (λ a e. needs_fits (Fits scope) p sort.Int a (tree.negative a.0, sort.Int)
+      holds_after (HasItsSort scope) (check scope x) (λ a. needs p sort.Int a (tree.negative a.0, sort.Int))
+      (λ a e. needs_fits (HasItsSort scope) p sort.Int a (tree.negative a.0, sort.Int)
       (λ s. (refl, subst (λ t. HasSort (sorts scope) (length (writes scope)) a.0 t) s (check_fits scope x h.1 a e))))
   check_fits scope (denial p x) h =
-      holds_after (Fits scope) (check scope x) (λ a. needs p sort.Bool a (tree.opposite a.0, sort.Bool))
-      (λ a e. needs_fits (Fits scope) p sort.Bool a (tree.opposite a.0, sort.Bool)
+      holds_after (HasItsSort scope) (check scope x) (λ a. needs p sort.Bool a (tree.opposite a.0, sort.Bool))
+      (λ a e. needs_fits (HasItsSort scope) p sort.Bool a (tree.opposite a.0, sort.Bool)
       (λ s. (refl, subst (λ t. HasSort (sorts scope) (length (writes scope)) a.0 t) s (check_fits scope x h.1 a e))))
-  check_fits scope (int p z) h = holds_ok (Fits scope) (tree.number z, sort.Int) (refl, h.0)
-  check_fits scope (text p t) h = holds_ok (Fits scope) (tree.text t, sort.Text) (refl, h.0)
-  check_fits scope (truth p b) h = holds_ok (Fits scope) (tree.truth b, sort.Bool) refl
+  check_fits scope (int p z) h = holds_ok (HasItsSort scope) (tree.number z, sort.Int) (refl, h.0)
+  check_fits scope (text p t) h = holds_ok (HasItsSort scope) (tree.text t, sort.Text) (refl, h.0)
+  check_fits scope (truth p b) h = holds_ok (HasItsSort scope) (tree.truth b, sort.Bool) refl
   check_fits scope (name p n) h = variable_fits scope p (meaning_in scope n) (means scope n)
   check_fits scope (parens p x q) h = check_fits scope x (sound_left (syntax_tokens x) (at q tok.Close ∷ []) h.1)
   check_fits scope (of_key p r b) h =
-      holds_after (Fits scope) (key_of scope b) (λ k. Ok (read_by r k))
-      (λ k e. holds_ok (Fits scope) (read_by r k) (reader_fits scope r k (key_fits scope b.name_at (meaning_in scope b.name) (means scope b.name) k e)))
+      holds_after (HasItsSort scope) (key_of scope b) (λ k. Ok (read_by r k))
+      (λ k e. holds_ok (HasItsSort scope) (read_by r k) (reader_fits scope r k (key_fits scope b.name_at (meaning_in scope b.name) (means scope b.name) k e)))
   check_fits scope (made p m o x q) h =
-      holds_after (Fits scope) (check scope x) (made_by m p)
+      holds_after (HasItsSort scope) (check scope x) (made_by m p)
       (λ a e. maker_fits scope m p a (check_fits scope x (sound_left (syntax_tokens x) (at q tok.Close ∷ []) h.1.1) a e))
 
-  pub links_fit : (scope : Scope) (a : Typed) (links : Links) → Fits scope a → AllSound (links_tokens links) → Holds (Fits scope) (check_links scope a links)
-  links_fit scope a no_link h s = holds_ok (Fits scope) a h
+  pub links_fit : (scope : Scope) (a : Typed) (links : Links) → HasItsSort scope a → AllSound (links_tokens links) → Holds (HasItsSort scope) (check_links scope a links)
+  links_fit scope a no_link h s = holds_ok (HasItsSort scope) a h
   links_fit scope a (link p o x more) h s =
-      holds_after (Fits scope) (check scope x) (λ b. after_ok (combined p o a b) (λ c. check_links scope c more))
-      (λ b e. holds_after (Fits scope) (combined p o a b) (λ c. check_links scope c more)
+      holds_after (HasItsSort scope) (check scope x) (λ b. after_ok (combined p o a b) (λ c. check_links scope c more))
+      (λ b e. holds_after (HasItsSort scope) (combined p o a b) (λ c. check_links scope c more)
       (λ c f. links_fit scope c more
       (combined_fits scope p o a b h (check_fits scope x (sound_left (syntax_tokens x) (links_tokens more) s.1) b e) c f)
       (sound_right (syntax_tokens x) (links_tokens more) s.1)))

@@ -1,7 +1,6 @@
 -- What a walk over tokens answers, put together from its parts.
-use Rattle.std.proofs.Common.{◌≡◌, inl, inr, ℕ, suc, ◌+◌, ◌<◌, ◌≤◌, List, [], ◌∷◌, ◌++◌, Ok, Err, refl, sym, ap, ◌∙◌, subst, arith, append_assoc, take, drop}
-use Rattle.std.proofs.Common.{get_or, length, length-append, add-one, Bool, true, false, ℤ, ◌-◌}
-use Rattle.std.proofs.Math.Seq.{take-length}
+use Rattle.std.proofs.Common.{◌≡◌, inl, inr, ℕ, ◌≤◌, List, [], ◌∷◌, ◌++◌, Ok, Err, refl, sym, ap, ◌∙◌, subst, arith}
+use Rattle.std.proofs.Common.{get_or, length, Bool, true, false, ℤ}
 use Rattle.dt_syntax.specs.declared.token.Token.{Token}
 use Rattle.dt_syntax.specs.declared.token.Token.TheVariants as tok
 use Rattle.dt_syntax.specs.declared.token.Placed.{Placed}
@@ -18,7 +17,7 @@ use Rattle.dt_proc.specs.WalkInner.{WalkAnswers}
 use Rattle.dt_syntax.specs.Grammar.{at, Bracketed, bracketed_tokens, Syntax, chain, minus, denial, int, text, truth, name, parens, of_key, made, Links, no_link}
 use Rattle.dt_syntax.specs.Grammar.{link, syntax_tokens, links_tokens, level_of, IsLevel, AreLinks, reads_int, reads_text, reads_presence, makes_length}
 use Rattle.dt_syntax.specs.Grammar.{makes_text}
-use Rattle.dt_syntax.proofs.Callers.{cut_first, head_is, inner, left_of, tail_is}
+use Rattle.dt_syntax.proofs.Callers.{cut_first, head_is, inner, after_first, tail_is}
 
 pub ok_then : {A B : Type 0} (told : Checked A) (a : A) (next : A → Checked B) (rest : List Placed) (r : Checked (B × List Placed)) →
     told ≡ Ok a → WalkAnswers (next a) rest r → WalkAnswers (after_ok told next) rest r
@@ -90,10 +89,10 @@ operand_shape n scope (made p makes_text o x q) rest t ts le h e =
     (o, x, q, refl, h.1, ap (λ v. at o tok.Open ∷ v) (inner (syntax_tokens x) (at q tok.Close) rest))
 
 pub operand_when : (n : ℕ) (scope : Scope) (x : Syntax) (rest ts : List Placed) (first : Placed) (k : Token) → 5 ≤ n → IsLevel n x →
-    1 ≤ length ts → first ≡ get_or ts 0 first → syntax_tokens x ++ rest ≡ ts → first.token ≡ k → Shape n scope k first.place (left_of ts) x rest
+    1 ≤ length ts → first ≡ get_or ts 0 first → syntax_tokens x ++ rest ≡ ts → first.token ≡ k → Shape n scope k first.place (after_first ts) x rest
 operand_when n scope x rest ts first k low h some is e same =
-    subst (λ t. Shape n scope t first.place (left_of ts) x rest) same
-    (operand_shape n scope x rest first (left_of ts) low h (e ∙ cut_first ts first some is))
+    subst (λ t. Shape n scope t first.place (after_first ts) x rest) same
+    (operand_shape n scope x rest first (after_first ts) low h (e ∙ cut_first ts first some is))
 
 pub told_is : {A : Type 0} (told other : Checked A) (left rest : List Placed) (r : Checked (A × List Placed)) → told ≡ other → left ≡ rest →
     WalkAnswers other left r → WalkAnswers told rest r

@@ -1,5 +1,5 @@
 -- Parameters and keys, as the walk over them finds them.
-use Rattle.std.proofs.Common.{◌≡◌, inl, inr, ℕ, List, [], ◌∷◌, ◌++◌, map, Bool, true, false, Result, Ok, Err, OnOk, MatchResult, refl, sym, ap, ◌∙◌, append_assoc, append-nil}
+use Rattle.std.proofs.Common.{◌≡◌, inl, inr, ℕ, List, [], ◌∷◌, ◌++◌, map, Result, Ok, Err, OnOk, MatchResult, refl, sym, ap, ◌∙◌, append_assoc, append-nil}
 use Rattle.std.specs.List.{flat_map}
 use Rattle.std.specs.Borrow.{Bor}
 use Rattle.dt_syntax.specs.declared.token.Token.TheVariants as tok
@@ -13,7 +13,6 @@ use Rattle.dt_proc.specs.SecondPass.{Checked, after_ok, check_param, check_more_
 use Rattle.dt_proc.specs.WalkInner.{WalkAnswers, left_with, key_told, keys_told, params_told}
 use Rattle.dt_syntax.specs.FrontsInner.{comma_param}
 use Rattle.dt_syntax.specs.Grammar.{at, Param, param_tokens, KeyPart, KeySyntax, Params, no_param, params, params_tokens}
-use Rattle.dt_syntax.proofs.Callers.{head_is, tail_is}
 
 abbrev pub Left : Type 0
 Left = Result (Bor (List Placed)) ProcError
@@ -121,12 +120,6 @@ keys_fault scope keys all k more before rest e is (inr h) =
 
 pub keys_end : (scope : Scope) (keys : List KeyDecl) (all : List KeySyntax) → all ≡ [] → keys_told scope keys all ≡ Ok (scope, keys)
 keys_end scope keys all is = ap (keys_told scope keys) is ∙ pair_ok scope (keys ++ []) keys (append-nil keys)
-
--- the first parameter, or none
-pub params_none_first : (ps : Params) (q : ℕ) (rest ts : List Placed) (p : ℕ) (after : List Placed) → params_tokens ps ++ at q tok.Close ∷ rest ≡ ts → at p tok.Close ∷ after ≡ ts →
-    (ps ≡ no_param) × (after ≡ rest)
-params_none_first no_param q rest ts p after e f = (refl, tail_is (at p tok.Close) (at q tok.Close) after rest (f ∙ sym e))
-params_none_first (params m more) q rest ts p after e f = let h = ap (λ v. v.token) (head_is _ _ _ _ (f ∙ sym e)) in absurd cc
 
 pub record HasParam (ps : Params) (q : ℕ) (rest ts : List Placed) : Type 0 where
   pub one : Param

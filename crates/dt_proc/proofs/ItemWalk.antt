@@ -49,7 +49,7 @@ one_more : (told : Checked (List GiveTree)) (gifts : List GiveTree) (g : GiveTre
 one_more (Ok gs) gifts g = ap Ok (sym (append_assoc gifts (g ∷ []) gs))
 one_more (Err e) gifts g = refl
 
-pub record IsNext (scope : Scope) (told : Checked (List GiveTree)) (gifts : List GiveTree) (after : List Placed) (e : ℕ) (rest : List Placed) : Type 0 where
+pub record IsNextItem (scope : Scope) (told : Checked (List GiveTree)) (gifts : List GiveTree) (after : List Placed) (e : ℕ) (rest : List Placed) : Type 0 where
   pub item : Item
   pub more : List (ℕ × Item)
   pub good : IsItem item
@@ -58,7 +58,7 @@ pub record IsNext (scope : Scope) (told : Checked (List GiveTree)) (gifts : List
   pub told_as : told ≡ after_ok (after_ok (check_item scope item) (λ g. after_ok (check_items scope more) (λ gs. Ok (g ∷ gs)))) (λ gs. Ok (gifts ++ gs))
 
 pub after_comma_next : (scope : Scope) (told : Checked (List GiveTree)) (gifts : List GiveTree) (left : List Placed) (e : ℕ) (rest : List Placed) (p : ℕ) (after : List Placed) →
-    at p tok.Comma ∷ after ≡ left → ItemsLeft scope told gifts left e rest → IsNext scope told gifts after e rest
+    at p tok.Comma ∷ after ≡ left → ItemsLeft scope told gifts left e rest → IsNextItem scope told gifts after e rest
 after_comma_next scope told gifts left e rest p after comma ([], good, cut, is) =
     absurd (differ (ap (λ v. v.token) (head_is _ _ _ _ (comma ∙ sym cut))))
   where
@@ -76,14 +76,14 @@ after_comma_next scope told gifts left e rest p after comma (m ∷ more, good, c
     }
 
 pub told_next : (scope : Scope) (told : Checked (List GiveTree)) (gifts : List GiveTree) (after : List Placed) (e : ℕ) (rest : List Placed) →
-    (n : IsNext scope told gifts after e rest) → (g : GiveTree) → check_item scope n.item ≡ Ok g →
+    (n : IsNextItem scope told gifts after e rest) → (g : GiveTree) → check_item scope n.item ≡ Ok g →
     told ≡ after_ok (check_items scope n.more) (λ gs. Ok ((gifts ++ g ∷ []) ++ gs))
 told_next scope told gifts after e rest n g is =
     n.told_as ∙ ap (λ t. after_ok (after_ok t (λ v. after_ok (check_items scope n.more) (λ gs. Ok (v ∷ gs)))) (λ gs. Ok (gifts ++ gs))) is
     ∙ one_more (check_items scope n.more) gifts g
 
 pub told_fault : (scope : Scope) (told : Checked (List GiveTree)) (gifts : List GiveTree) (after : List Placed) (e : ℕ) (rest left : List Placed) (f : ProcError) →
-    (n : IsNext scope told gifts after e rest) → WalkAnswers (check_item scope n.item) left (Err f) → WalkAnswers told rest (Err f)
+    (n : IsNextItem scope told gifts after e rest) → WalkAnswers (check_item scope n.item) left (Err f) → WalkAnswers told rest (Err f)
 told_fault scope told gifts after e rest left f n (inl m) = inl m
 told_fault scope told gifts after e rest left f n (inr s) =
     inr (n.told_as ∙ ap (λ t. after_ok (after_ok t (λ v. after_ok (check_items scope n.more) (λ gs. Ok (v ∷ gs)))) (λ gs. Ok (gifts ++ gs))) s)

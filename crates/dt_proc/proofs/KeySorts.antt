@@ -19,7 +19,7 @@ use Rattle.dt_proc.specs.Sound.{IsSoundItem, sort_of}
 use Rattle.dt_proc.specs.SecondPass.{after_ok, same_sort, as_new, as_param, with_new_variable, with_new_key, check_part, check_parts, check_key, check_keys}
 use Rattle.dt_proc.specs.SecondPass.{check_param, check_more_params, check_params}
 use Rattle.dt_syntax.specs.Grammar.{param_kinds, at, Param, Params, no_param, params, KeyPart, text_part, name_part, show_part, part_tokens, KeySyntax, key_tokens}
-use Rattle.dt_proc.proofs.ExprSorts.{Holds, holds_ok, holds_after, holds_cond, sorts, writes, Means, means, same_is}
+use Rattle.dt_proc.proofs.ExprSorts.{Holds, holds_ok, holds_after, holds_cond, sorts, writes, StandsInScope, means, same_is}
 use Rattle.dt_syntax.proofs.Callers.{sound_left, sound_right}
 use Rattle.dt_syntax.specs.Limits.{AllSound}
 use Rattle.dt_syntax.specs.FrontsInner.{joined_part}
@@ -44,7 +44,7 @@ param_at [] n s k only e = absurd cc
 param_at (j ∷ kinds) zero s k only e = ap Some (only j (some_is (sort_of j) s e))
 param_at (j ∷ kinds) (suc n) s k only e = param_at kinds n s k only e
 
-param_fits : (kinds : List Kind) (scope : Scope) (p : ℕ) (s : Sort) (k : Kind) (m : Meaning) → HasParams kinds scope → ((j : Kind) → sort_of j ≡ s → j ≡ k) → Means scope m →
+param_fits : (kinds : List Kind) (scope : Scope) (p : ℕ) (s : Sort) (k : Kind) (m : Meaning) → HasParams kinds scope → ((j : Kind) → sort_of j ≡ s → j ≡ k) → StandsInScope scope m →
     Holds (λ n. slice_get kinds n ≡ Some k) (as_param p s m)
 param_fits kinds scope p s k (Variable n t) own only h =
     holds_cond (λ n. slice_get kinds n ≡ Some k) (same_sort t s) (Ok n) (Err (fault.Kind p))

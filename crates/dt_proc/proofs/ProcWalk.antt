@@ -1,8 +1,8 @@
 -- A procedure, as the walk over it finds it.
-use Rattle.std.proofs.Common.{◌≡◌, inl, inr, ℕ, ◌≤◌, ◌<◌, Bool, true, false, cond, List, [], ◌∷◌, ◌++◌, map, length, append_assoc, Ok, Err, refl, sym, ap, ◌∙◌, subst, arith, nat_eq}
+use Rattle.std.proofs.Common.{◌≡◌, inl, inr, ℕ, ◌≤◌, Bool, true, false, cond, List, [], ◌∷◌, ◌++◌, map, length, append_assoc, Ok, Err, refl, sym, ap, ◌∙◌, subst, arith}
+use Rattle.std.proofs.Common.{nat_eq}
 use Rattle.std.specs.List.{flat_map, list_any}
 use Rattle.std.specs.Cmp.Lexicographic.{pointwise}
-use Rattle.std.proofs.lemmas.List.{length-append}
 use Rattle.dt_text.specs.Texts.{IsName}
 use Rattle.dt_syntax.specs.declared.kinds.Kind.{Kind}
 use Rattle.dt_proc.specs.declared.tree.KeyDecl.{KeyDecl}
@@ -168,8 +168,8 @@ abbrev pub params_left : ProcSyntax → List Placed → List Placed
 params_left p rest = params_tokens p.params ++ at p.close_at tok.Close ∷ keys_left p rest
 
 -- this follows a first token, as a walk reports it
-abbrev pub Follows : List Placed → List Placed → Type 0
-Follows ts after = (t : Placed) (rest : List Placed) → t ∷ rest ≡ ts → after ≡ rest
+abbrev pub FollowsFirst : List Placed → List Placed → Type 0
+FollowsFirst ts after = (t : Placed) (rest : List Placed) → t ∷ rest ≡ ts → after ≡ rest
 
 -- this is the name that comes first, as a walk reports it
 abbrev pub IsNamed : List Placed → ℕ → List ℕ → List Placed → Type 0
@@ -178,14 +178,14 @@ IsNamed ts place name after =
 
 -- the name of a procedure, and what follows it, after the word
 pub name_read : (p : ProcSyntax) (rest ts one : List Placed) (place : ℕ) (name : List ℕ) (named : List Placed) → proc_tokens p ++ rest ≡ ts →
-    Follows ts one → IsNamed one place name named → (place ≡ p.name_at) × (name ≡ p.name) × (named ≡ at p.open_at tok.Open ∷ params_left p rest)
+    FollowsFirst ts one → IsNamed one place name named → (place ≡ p.name_at) × (name ≡ p.name) × (named ≡ at p.open_at tok.Open ∷ params_left p rest)
 name_read p rest ts one place name named e follows is =
     is p.name_at p.name (at p.open_at tok.Open ∷ params_left p rest)
     (sym (follows (at p.word_at tok.Proc) (at p.name_at (tok.Name p.name) ∷ at p.open_at tok.Open ∷ params_left p rest) (proc_cut p rest ts e)))
 
 -- the same, with the `(`
 pub head_read : (p : ProcSyntax) (rest ts one : List Placed) (place : ℕ) (name : List ℕ) (named opened : List Placed) → proc_tokens p ++ rest ≡ ts →
-    Follows ts one → IsNamed one place name named → Follows named opened → (place ≡ p.name_at) × (name ≡ p.name) × (params_left p rest ≡ opened)
+    FollowsFirst ts one → IsNamed one place name named → FollowsFirst named opened → (place ≡ p.name_at) × (name ≡ p.name) × (params_left p rest ≡ opened)
 head_read p rest ts one place name named opened e follows is after =
     let n = name_read p rest ts one place name named e follows is in
     (n.0, n.1, sym (after (at p.open_at tok.Open) (params_left p rest) (sym n.2)))

@@ -12,7 +12,7 @@ use Rattle.dt_proc.specs.declared.error.ProcError.TheVariants as fault
 use Rattle.dt_proc.specs.declared.tree.KeyDecl.{KeyDecl}
 use Rattle.dt_proc.specs.Names.{Scope}
 use Rattle.dt_proc.specs.Tree.{ProcTree}
-use Rattle.dt_proc.specs.Sound.{IsSoundProc, AreProcs as AreSoundProcs}
+use Rattle.dt_proc.specs.Sound.{IsSoundProc}
 use Rattle.dt_proc.specs.SecondPass.{Checked, after_ok, check_params, check_keys, check_block, check_proc, check_procs}
 use Rattle.dt_syntax.specs.Grammar.{param_kinds, ProcSyntax, proc_tokens, procs_tokens, IsProc, AreProcSyntaxes}
 use Rattle.dt_proc.specs.WalkInner.{WalkAnswers, PassGives, StartsProc, AreFewProcs}
@@ -75,18 +75,6 @@ pub record Going (tokens : List Placed) (items : List ProcTree) (rest : List Pla
   pub distinct : Distinct (map (λ p. p.name) items)
   pub left : Left (length items) rest
   pub told : ToldSoFar tokens items rest
-
-same_told : (t : Checked (List ProcTree)) → t ≡ after_ok t (λ r. Ok ([] ++ r))
-same_told (Ok r) = refl
-same_told (Err e) = refl
-
-pub going_start : (tokens : List Placed) → AreFewProcs tokens → Going tokens [] tokens
-going_start tokens h = record {
-  sound = tt;
-  distinct = tt;
-  left = record { all = h.all; good = h.good; small = h.small; few = omega (arith, h.few); sound = h.sound; cut = h.cut };
-  told = λ ps good cut. (ps, good, cut, same_told (check_procs [] ps));
-}
 
 -- a procedure comes first where something is left
 pub starts : (made : ℕ) (ts : List Placed) → ¬ (ts ≡ []) → Left made ts → StartsProc ts
@@ -190,9 +178,6 @@ going_end tokens items ts none so ps good cut = first (so ps good cut).0 (so ps 
     first : (qs : List ProcSyntax) → procs_tokens qs ≡ ts → check_procs [] ps ≡ after_ok (check_procs items qs) (λ r. Ok (items ++ r)) → check_procs [] ps ≡ Ok items
     first [] c is = is ∙ ap Ok (append-nil items)
     first (q ∷ qs) c is = absurd (no_proc q (procs_tokens qs) (c ∙ none))
-
-pub going_sound : (tokens : List Placed) (items : List ProcTree) (ts : List Placed) → Going tokens items ts → AreSoundProcs items
-going_sound tokens items ts g = record { few = omega (arith, g.left.few); distinct = g.distinct; sound = g.sound }
 
 -- the tokens of a text that the first pass lets through
 pub passed_few : (text : List ℕ) (tokens : List Placed) → PassesFirst text tokens → AreFewProcs tokens

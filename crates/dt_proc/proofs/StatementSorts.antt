@@ -16,7 +16,7 @@ use Rattle.dt_proc.specs.SecondPass.{with_new_variable, one_block, two_blocks, c
 use Rattle.dt_syntax.specs.Grammar.{front_place, at, syntax_tokens, Item, row_item, value_item, item_tokens, items_tokens, Statement, let_new, set_key}
 use Rattle.dt_syntax.specs.Grammar.{clear_key, when, choose, abort, give, Statements, nothing, first, statement_tokens, statements_tokens}
 use Rattle.dt_syntax.specs.Limits.{AllSound}
-use Rattle.dt_proc.proofs.ExprSorts.{Holds, holds_ok, holds_after, sorts, writes, means, Fits, key_fits, written_fits, needs_fits, stored_fits, check_fits}
+use Rattle.dt_proc.proofs.ExprSorts.{Holds, holds_ok, holds_after, sorts, writes, means, HasItsSort, key_fits, written_fits, needs_fits, stored_fits, check_fits}
 use Rattle.dt_syntax.proofs.Callers.{sound_left, sound_right}
 
 abbrev FitsGift : Scope → GiveTree → Type 0
@@ -63,11 +63,11 @@ FitBlock scope b = AreSound (sorts scope) (writes scope) b
 abbrev FitsStep : Scope → Scope × StmtTree → Type 0
 FitsStep scope r = (b : BlockTree) → FitBlock r.0 b → FitBlock scope (then r.1 b)
 
-let_fits : (scope : Scope) (n : List ℕ) (a : Typed) → Fits scope a → FitsStep scope (with_new_variable scope n a.1, tree.let_new a.0)
+let_fits : (scope : Scope) (n : List ℕ) (a : Typed) → HasItsSort scope a → FitsStep scope (with_new_variable scope n a.1, tree.let_new a.0)
 let_fits scope n a h b fits =
     (a.1, h, subst (λ ss. AreSound ss (writes scope) b) (map-append (λ (v : List ℕ × Sort). v.1) scope.variables ((n, a.1) ∷ [])) fits)
 
-test_fits : (scope : Scope) (p : ℕ) (a : Typed) (f : ExprTree) → Fits scope a → needs p sort.Bool a a.0 ≡ Ok f → HasSort (sorts scope) (length (writes scope)) f sort.Bool
+test_fits : (scope : Scope) (p : ℕ) (a : Typed) (f : ExprTree) → HasItsSort scope a → needs p sort.Bool a a.0 ≡ Ok f → HasSort (sorts scope) (length (writes scope)) f sort.Bool
 test_fits scope p a f h e =
     needs_fits (λ g. HasSort (sorts scope) (length (writes scope)) g sort.Bool) p sort.Bool a a.0 (λ s. subst (λ t. HasSort (sorts scope) (length (writes scope)) a.0 t) s h) f e
 

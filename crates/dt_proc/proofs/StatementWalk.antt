@@ -1,5 +1,5 @@
 -- The statements of a block, as the walk over them finds them.
-use Rattle.std.proofs.Common.{◌≡◌, ◌⊎◌, inl, inr, ℕ, ◌<◌, ◌≤◌, List, [], ◌∷◌, ◌++◌, length, take, get_or, Bool, true, false, cond, Ok, Err, refl, sym, ap, ◌∙◌}
+use Rattle.std.proofs.Common.{◌≡◌, ◌⊎◌, inl, inr, ℕ, List, [], ◌∷◌, ◌++◌, length, take, Bool, true, false, cond, Ok, Err, refl, sym, ap, ◌∙◌}
 use Rattle.std.proofs.Common.{subst, arith, append_assoc, append-nil, length-append}
 use Rattle.std.proofs.lemmas.List.{take-append-le}
 use Rattle.std.proofs.Math.Seq.{take-length}
@@ -40,17 +40,8 @@ joined_assoc : (a b c : BlockTree) → joined (joined a b) c ≡ joined a (joine
 joined_assoc done b c = refl
 joined_assoc (then s a) b c = ap (then s) (joined_assoc a b c)
 
-whole : (t : Checked BlockTree) → t ≡ after_ok t (λ b. Ok b)
-whole (Ok b) = refl
-whole (Err e) = refl
-
-pub steps_start : (scope : Scope) (ss : Statements) (e : ℕ) (rest left : List Placed) (block : BlockTree) → block ≡ done → AreStatements ss →
-    statements_tokens ss ++ at e tok.End ∷ rest ≡ left → StepsLeft scope scope (check_block scope ss) block left e rest
-steps_start scope ss e rest left block is good cut =
-    (ss, good, cut, whole (check_block scope ss) ∙ ap (λ v. after_ok (check_block scope ss) (λ b. Ok (joined v b))) (sym is), grown_start scope)
-
 -- a statement comes first
-pub record IsStep (scope : Scope) (told : Checked BlockTree) (block : BlockTree) (left : List Placed) (e : ℕ) (rest : List Placed) : Type 0 where
+pub record IsFirstStatement (scope : Scope) (told : Checked BlockTree) (block : BlockTree) (left : List Placed) (e : ℕ) (rest : List Placed) : Type 0 where
   pub step : Statement
   pub more : Statements
   pub good : IsStatement step
@@ -60,7 +51,7 @@ pub record IsStep (scope : Scope) (told : Checked BlockTree) (block : BlockTree)
   pub told_as : told ≡ after_ok (after_ok (check_statement scope step) (λ r. after_ok (check_block r.0 more) (λ b. Ok (then r.1 b)))) (λ b. Ok (joined block b))
 
 pub step_next : (outer scope : Scope) (told : Checked BlockTree) (block : BlockTree) (t : Placed) (ts : List Placed) (e : ℕ) (rest : List Placed) →
-    ¬ (t.token ≡ tok.End) → StepsLeft outer scope told block (t ∷ ts) e rest → IsStep scope told block (t ∷ ts) e rest
+    ¬ (t.token ≡ tok.End) → StepsLeft outer scope told block (t ∷ ts) e rest → IsFirstStatement scope told block (t ∷ ts) e rest
 step_next outer scope told block t ts e rest other (nothing, good, cut, is, grown) =
     absurd (other (sym (ap (λ v. v.token) (head_is (at e tok.End) t rest ts cut))))
 step_next outer scope told block t ts e rest other (first s ss, good, cut, is, grown) = record {
@@ -128,7 +119,7 @@ lets scope (give p i more e) =
     keeps_after {A = List GiveTree} scope (check_all_items scope i more) _ (λ gs. keeps_ok scope scope (tree.give_all gs) (grown_start scope))
 
 pub step_told : (outer scope new : Scope) (told : Checked BlockTree) (block after : BlockTree) (left : List Placed) (e : ℕ) (rest : List Placed) (s : StmtTree) (us : List Placed) →
-    Grown outer scope → (n : IsStep scope told block left e rest) → check_statement scope n.step ≡ Ok (new, s) → after ≡ joined block (then s done) →
+    Grown outer scope → (n : IsFirstStatement scope told block left e rest) → check_statement scope n.step ≡ Ok (new, s) → after ≡ joined block (then s done) →
     us ≡ statements_tokens n.more ++ at e tok.End ∷ rest → StepsLeft outer new told after us e rest
 step_told outer scope new told block after left e rest s us grown n is pushed cut = (
   n.more,
@@ -146,7 +137,7 @@ step_told outer scope new told block after left e rest s us grown n is pushed cu
     }
 
 pub step_fault : (scope : Scope) (told : Checked BlockTree) (block : BlockTree) (left : List Placed) (e : ℕ) (rest before : List Placed) (f : ProcError) →
-    (n : IsStep scope told block left e rest) → WalkAnswers (check_statement scope n.step) before (Err f) → WalkAnswers told rest (Err f)
+    (n : IsFirstStatement scope told block left e rest) → WalkAnswers (check_statement scope n.step) before (Err f) → WalkAnswers told rest (Err f)
 step_fault scope told block left e rest before f n (inl m) = inl m
 step_fault scope told block left e rest before f n (inr s) =
     inr (n.told_as ∙ ap (λ t. after_ok (after_ok t (λ r. after_ok (check_block r.0 n.more) (λ b. Ok (then r.1 b)))) (λ b. Ok (joined block b))) s)
@@ -159,7 +150,7 @@ left_as_before outer scope g =
     λ i. record { variables = cut i; keys = g.keys i }
 
 pub not_ended : (outer scope : Scope) (told : Checked BlockTree) (block : BlockTree) (left : List Placed) (e : ℕ) (rest : List Placed) →
-    EndsBlock left false → StepsLeft outer scope told block left e rest → IsStep scope told block left e rest
+    EndsBlock left false → StepsLeft outer scope told block left e rest → IsFirstStatement scope told block left e rest
 not_ended outer scope told block [] e rest ends left = absurd cc
 not_ended outer scope told block (t ∷ ts) e rest ends left = step_next outer scope told block t ts e rest ends left
 

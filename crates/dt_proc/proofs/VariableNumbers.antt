@@ -75,9 +75,6 @@ own_name n = (bytes_decides n n).1 refl
 abbrev Order : List ℕ → List ℕ → Ordering
 Order = slice_cmp nat_cmp
 
-none_some : {A : Type 0} (x : A) → ◌≡◌ {A = Option A} None (Some x) → ⊥
-none_some x e = cc
-
 last_other : (len : ℕ) (n : List ℕ) (s : Sort) (q : List ℕ) (o : Entry) → pointwise nat_eq n q ≡ false → with_last len n s q o ≡ o
 unfolding with_last
 last_other len n s q None e = ap (λ b. cond b (Some (len, s)) None) e

@@ -3,7 +3,7 @@
 -- terms of the syntax trees that the tokens spell (names that end in `shown` and `told`), and what it needs of the tokens
 -- (records that begin with `Starts`). No public statement speaks of it. Read SecondPass for what the whole pass says of a
 -- text.
-use Rattle.std.specs.Prelude.{◌≡◌, ◌⊎◌, ℕ, ◌+◌, ◌<◌, ◌≤◌, ◌^◌, length, FitsSigned, List, [], ◌∷◌, ◌++◌, Bool, true, MatchBool, map, Result, Ok, Err, Option, Some, None}
+use Rattle.std.specs.Prelude.{◌≡◌, ◌⊎◌, ℕ, ◌+◌, ◌<◌, ◌≤◌, ◌^◌, length, List, [], ◌∷◌, ◌++◌, map, Result, Ok, Err, Option, Some, None}
 use Rattle.dt_syntax.specs.declared.token.Token.{Token}
 use Rattle.dt_syntax.specs.declared.token.Token.TheVariants as tok
 use Rattle.dt_syntax.specs.declared.token.Placed.{Placed}
@@ -34,7 +34,6 @@ use Rattle.dt_syntax.specs.Grammar.{Statement, IsStatement, statement_tokens, St
 use Rattle.dt_syntax.specs.Grammar.{makes_length, makes_text, reads_int, reads_text, reads_presence}
 use Rattle.dt_syntax.specs.declared.kinds.Kind.{Kind}
 use Rattle.std.specs.Borrow.{Bor}
-use Rattle.std.specs.Int.{w64}
 use Rattle.dt_syntax.specs.declared.operator.Op.{Op}
 use Rattle.dt_proc.specs.declared.tree.KeyItem.{KeyItem}
 use Rattle.dt_syntax.specs.Limits.{AllSound, IsSmall}

@@ -2,7 +2,7 @@
 -- All other lemmas of this crate are its own.
 use Rattle.std.proofs.Common.{◌≡◌, ◌≢◌, ℕ, Bool, true, false, cond, not, ◌==◌, List, [], ◌∷◌, ◌++◌, map, slice_get, Some, refl, ap, inl, inr, arith}
 use Rattle.dt_lists.specs.Lists.{AllIn, Has}
-use Rattle.dt_lists.proofs.Callers.{any_append_left, any_append_right, any_get, any_put, filter_each, has_filter, has_of_filtered}
+use Rattle.dt_lists.proofs.Callers.{any_append_left, any_append_right, any_get, any_put, has_filter, has_of_filtered}
 use Rattle.dt_queue.specs.declared.follower.Follower.{Follower}
 use Rattle.dt_queue.specs.Queues.{HasDistinctSlots, IsQueued, Waiting, pushed_after, follower_of, followers_after, is_neighbour, taken_out}
 
@@ -31,9 +31,6 @@ distinct_pushed (v ∷ ws) w d fresh = (more ws d.0, distinct_pushed ws w d.1 (�
     more : (xs : List Waiting) → AllIn (λ (x : Waiting). v.slot ≢ x.slot) xs → AllIn (λ (x : Waiting). v.slot ≢ x.slot) (xs ++ w ∷ [])
     more [] a = ((λ e. fresh (inl e)), tt)
     more (x ∷ xs) a = (a.0, more xs a.1)
-
-pub distinct_without : (ws : List Waiting) (gone : ℕ) → HasDistinctSlots ws → HasDistinctSlots (taken_out ws gone)
-distinct_without ws gone d = filter_each (λ (v w : Waiting). v.slot ≢ w.slot) (λ (v : Waiting). not (v.slot == gone)) ws d
 
 after_within : (ws : List Waiting) (place : ℕ) (w : Waiting) → Has (pushed_after ws place) w → Has ws w
 after_within [] place w h = h

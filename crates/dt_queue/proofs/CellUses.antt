@@ -24,8 +24,8 @@ pub record IsMarkOf (k : Kept) (m : Mark) (c : Cell) : Type 0 where
   pub there : get k.cells m.slot ≡ Some c
   pub is : m ≡ mark_of m.slot c
 
-pub number_of : (k : Kept) (m : Mark) (c : Cell) → IsMarkOf k m c → m.number ≡ c.number
-number_of k m c a = ap (λ (x : Mark). x.number) a.is
+pub number_of_mark : (k : Kept) (m : Mark) (c : Cell) → IsMarkOf k m c → m.number ≡ c.number
+number_of_mark k m c a = ap (λ (x : Mark). x.number) a.is
 
 -- a mark of a lane has a cell of its mode and place
 pub cell_of : (k : Kept) → AreQueuesKept k → (mode : Mode) (p : ℕ) (m : Mark) → Has (lane k mode p) m → (c : Cell) × IsMarkOf k m c × IsInLane k.rows mode p c
@@ -37,9 +37,9 @@ cell_in_row k kept row m (inl h) = let d = cell_of k kept Read row m h in (d.0, 
 cell_in_row k kept row m (inr h) = let d = cell_of k kept Write row m h in (d.0, d.1, d.2.1)
 
 -- of two ways of use one is given, whatever else is known
-pub use_of : {A B P Q R : Type 0} → (A × P) ⊎ (B × Q × R) → A ⊎ B
-use_of (inl h) = inl h.0
-use_of (inr h) = inr h.0
+pub one_use : {A B P Q R : Type 0} → (A × P) ⊎ (B × Q × R) → A ⊎ B
+one_use (inl h) = inl h.0
+one_use (inr h) = inr h.0
 
 -- and the other way round
 pub in_lane : (k : Kept) → AreQueuesKept k → (m : Mark) (c : Cell) → IsMarkOf k m c → (mode : Mode) (p : ℕ) → IsInLane k.rows mode p c → Has (lane k mode p) m
@@ -55,7 +55,7 @@ lane_tells k kept mode p m c a h = let r = cell_of k kept mode p m h in subst (I
 -- marks with one number have one cell
 pub one_cell : (k : Kept) → AreQueuesKept k → (m n : Mark) (c d : Cell) → IsMarkOf k m c → IsMarkOf k n d → m.number ≡ n.number → c ≡ d
 one_cell k kept m n c d a b e =
-    let slots : m.slot ≡ n.slot = kept.alone m.slot n.slot c d a.there b.there (sym (number_of k m c a) ∙ e ∙ number_of k n d b) in
+    let slots : m.slot ≡ n.slot = kept.alone m.slot n.slot c d a.there b.there (sym (number_of_mark k m c a) ∙ e ∙ number_of_mark k n d b) in
     some_same c d (sym a.there ∙ ap (get k.cells) slots ∙ b.there)
 
 read_write : Read ≡ Write → ⊥
@@ -116,11 +116,11 @@ reads_agree r c d a b (inr e) = elim e.1 [ inl f ↦ whole_no (sym (ap is_whole 
     whole_no e = cc
 
 -- the mode takes no granule as a whole
-abbrev pub IsPart : Mode → Type 0
-IsPart mode = is_whole mode ≡ false
+abbrev pub IsNarrow : Mode → Type 0
+IsNarrow mode = is_whole mode ≡ false
 
 -- reads and writes clash on one row alone
-pub on_one_row : (r : Rows) (c d : Cell) → IsPart c.mode → IsPart d.mode → CellsClash r c d → c.row ≡ d.row
+pub on_one_row : (r : Rows) (c d : Cell) → IsNarrow c.mode → IsNarrow d.mode → CellsClash r c d → c.row ≡ d.row
 on_one_row r c d a b (inl e) = e.0
 on_one_row r c d a b (inr e) = absurd (elim e.1 [ inl f ↦ no_part (sym a ∙ f) | inr f ↦ no_part (sym b ∙ f) ])
   where
@@ -135,20 +135,20 @@ pub whole_clashes : (r : Rows) (c d : Cell) → c.mode ≡ Whole → granule_at 
 whole_clashes r c d a b = inr (b, inl (ap is_whole a))
 
 -- the cell of a read or a write
-pub part_of : (k : Kept) → AreQueuesKept k → (row : ℕ) (m : Mark) (c : Cell) → IsMarkOf k m c → Has (lane k Read row) m ⊎ Has (lane k Write row) m → IsPart c.mode × (c.row ≡ row)
-part_of k kept row m c a (inl h) = let b = lane_tells k kept Read row m c a h in (ap is_whole b.0, b.1)
-part_of k kept row m c a (inr h) = let b = lane_tells k kept Write row m c a h in (ap is_whole b.0, b.1)
+pub narrow_cell : (k : Kept) → AreQueuesKept k → (row : ℕ) (m : Mark) (c : Cell) → IsMarkOf k m c → Has (lane k Read row) m ⊎ Has (lane k Write row) m → IsNarrow c.mode × (c.row ≡ row)
+narrow_cell k kept row m c a (inl h) = let b = lane_tells k kept Read row m c a h in (ap is_whole b.0, b.1)
+narrow_cell k kept row m c a (inr h) = let b = lane_tells k kept Write row m c a h in (ap is_whole b.0, b.1)
 
 pub row_in_granule : (k : Kept) → AreQueuesKept k → (g row : ℕ) → Has (rows_at k.in_use g) row → granule_at k.rows row ≡ g
 row_in_granule k kept g row h = ((kept.in_use g row).0 h).0
 
 -- a cell that is in use clashes with the use
-pub use_clashes : (mode : Mode) (k : Kept) → AreQueuesKept k → (x : Cell) → x.mode ≡ mode → (m : Mark) (c : Cell) → IsMarkOf k m c → InUseOf mode k x.row m → IsPart c.mode × CellsClash k.rows c x
+pub use_clashes : (mode : Mode) (k : Kept) → AreQueuesKept k → (x : Cell) → x.mode ≡ mode → (m : Mark) (c : Cell) → IsMarkOf k m c → InUseOf mode k x.row m → IsNarrow c.mode × CellsClash k.rows c x
 use_clashes Read k kept x e m c a h = let b = lane_tells k kept Write x.row m c a h in (ap is_whole b.0, write_clashes k.rows c x b.0 b.1)
-use_clashes Write k kept x e m c a h = let b = part_of k kept x.row m c a h in (b.0, clash_turned k.rows x c (write_clashes k.rows x c e (sym b.1)))
+use_clashes Write k kept x e m c a h = let b = narrow_cell k kept x.row m c a h in (b.0, clash_turned k.rows x c (write_clashes k.rows x c e (sym b.1)))
 use_clashes Whole k kept x e m c a h =
     let r = any_get (λ row. Has (lane k Read row) m ⊎ Has (lane k Write row) m) (rows_at k.in_use (granule_at k.rows x.row)) h in
-    let b = part_of k kept r.0 m c a r.2 in
+    let b = narrow_cell k kept r.0 m c a r.2 in
     let g : granule_at k.rows c.row ≡ granule_at k.rows x.row = ap (granule_at k.rows) b.1 ∙ row_in_granule k kept (granule_at k.rows x.row) r.0 r.1 in
     (b.0, clash_turned k.rows x c (whole_clashes k.rows x c e (sym g)))
 

@@ -1,10 +1,10 @@
 -- How lanes follow the cells: a mark is added where a cell is, and taken out where it is taken out.
-use Rattle.std.proofs.Common.{◌≡◌, ◌≢◌, ◌⊎◌, ◌↔◌, ℕ, ◌+◌, ◌<◌, ◌≤◌, ◌^◌, Bool, true, false, not, ◌==◌, List, [], ◌∷◌, ◌++◌, map}
-use Rattle.std.proofs.Common.{length, get_or, slice_index_or, Some, None, Result, Ok, Err, OnOk, OnErr, refl, ap, sym, subst, inl, inr, arith, ◌∙◌, length-append}
+use Rattle.std.proofs.Common.{◌≡◌, ◌≢◌, ◌⊎◌, ◌↔◌, ℕ, ◌+◌, ◌<◌, ◌^◌, Bool, true, false, not, ◌==◌, List, [], ◌∷◌, ◌++◌, map}
+use Rattle.std.proofs.Common.{length, get_or, slice_index_or, Some, None, Result, Ok, Err, OnOk, OnErr, refl, ap, sym, subst, inl, inr, arith, ◌∙◌}
 use Rattle.std.specs.List.{filter}
 use Rattle.slab.specs.Slab.{Slab, Updates, get}
-use Rattle.dt_lists.specs.Lists.{AllIn, Has, IsFront}
-use Rattle.dt_lists.proofs.Callers.{all_put, any_append, any_append_left, any_append_right, either_nat, filter_each, front_refl, has_filter, has_of_filtered}
+use Rattle.dt_lists.specs.Lists.{AllIn, Has}
+use Rattle.dt_lists.proofs.Callers.{all_put, any_append, any_append_left, any_append_right, either_nat, filter_each, front_refl, has_filter, has_of_filtered, front_length}
 use Rattle.dt_access.specs.declared.access.Mode.{Mode}
 use Rattle.dt_access.specs.declared.access.Mode.TheVariants.{Read, Write, Whole}
 use Rattle.dt_queue.specs.declared.cell.Cell.{Cell}
@@ -144,9 +144,6 @@ pub place_same : (old new : Rows) → KeepsRows old new → (m : Mode) (row : �
 place_same old new k Read row lt = refl
 place_same old new k Write row lt = refl
 place_same old new k Whole row lt = k.granules row lt
-
-front_length : {A : Type 0} (xs ys : List A) → IsFront xs ys → length xs ≤ length ys
-front_length xs ys f = let e : length (xs ++ f.0) ≡ length xs + length f.0 = length-append xs f.0 in omega (arith, e, ap length f.1)
 
 pub rows_refl : (r : Rows) → KeepsRows r r
 rows_refl r = record { names = front_refl r.names.keys; granules = λ row lt. refl }

@@ -11,5 +11,5 @@ pub mod NearCells
 pub mod ShownLists
 pub mod NextCells
 pub mod ShownCells
-pub mod Renumbered
+pub mod NewNumbers
 pub mod Callers

@@ -1,25 +1,19 @@
 -- How a lane is searched: what stands before and after the place where the search for a number ends.
-use Rattle.std.proofs.Common.{◌≡◌, ◌≢◌, ◌⊎◌, ℕ, zero, suc, ◌+◌, ◌<◌, ◌≤◌, Bool, true, false, not, ◌&&◌, ◌==◌, nat_lt, cond, List, [], ◌∷◌, ◌++◌, length, take, drop}
-use Rattle.std.proofs.Common.{slice_index_or, Option, Some, None, IsSome, OnSome, refl, ap, sym, subst, inl, inr, arith, add-one}
+use Rattle.std.proofs.Common.{◌≡◌, ◌≢◌, ℕ, zero, suc, ◌+◌, ◌<◌, ◌≤◌, Bool, true, false, not, ◌&&◌, ◌==◌, nat_lt, cond, List, [], ◌∷◌, ◌++◌, length, take}
+use Rattle.std.proofs.Common.{slice_index_or, Option, Some, None, IsSome, OnSome, refl, ap, sym, subst, inl, inr, arith}
 use Rattle.std.specs.List.{filter, remove}
 use Rattle.std.specs.List.Sorted.{IsPartitionedBy, IsPartitionPoint}
 use Rattle.dt_lists.specs.Lists.{AllIn, Has}
-use Rattle.dt_lists.proofs.Callers.{all_get, either_le}
+use Rattle.dt_lists.proofs.Callers.{all_get, either_le, all_index, filter_whole, filter_none}
 use Rattle.dt_queue.specs.declared.mark.Mark.{Mark}
 use Rattle.dt_queue.specs.Lanes.{HasRisingNumbers, EndsBelow, IsBetween, IsFirstBetween, IsLastBetween, is_between}
-
--- at a place of a list where each item has P
-at : {A : Type 0} (P : A → Type 0) (xs : List A) (i : ℕ) (d : A) → AllIn P xs → i < length xs → P (slice_index_or xs i d)
-at P [] i d all lt = absurd (omega arith)
-at P (x ∷ xs) zero d all lt = all.0
-at P (x ∷ xs) (suc i) d all lt = at P xs i d all.1 (omega arith)
 
 -- marks with lesser numbers stand before the others
 pub parted : (n : ℕ) (ms : List Mark) → HasRisingNumbers ms → IsPartitionedBy (λ m. nat_lt m.number n) ms
 parted n [] asc i j d le lt e = absurd (omega arith)
 parted n (x ∷ xs) asc zero zero d le lt e = e
 parted n (x ∷ xs) asc zero (suc j) d le lt e =
-    let before : x.number < (slice_index_or xs j d).number = at (λ y. x.number < y.number) xs j d asc.0 (omega arith) in
+    let before : x.number < (slice_index_or xs j d).number = all_index (λ y. x.number < y.number) xs j d asc.0 (omega arith) in
     grind (arith, before, e)
 parted n (x ∷ xs) asc (suc i) zero d le lt e = absurd (omega arith)
 parted n (x ∷ xs) asc (suc i) (suc j) d le lt e = parted n xs asc.1 i j d (omega arith) (omega arith) e
@@ -37,25 +31,6 @@ ends_below n (x ∷ xs) (suc p) ends le =
 
 -- ---- at the place where the search ended
 
--- a filter that passes all items gives the list
-pub filter_same : {A : Type 0} (test : A → Bool) (xs : List A) → AllIn (λ x. test x ≡ true) xs → filter test xs ≡ xs
-filter_same test [] all = refl
-filter_same test (x ∷ xs) all = by (test x) all.0 (filter_same test xs all.1)
-  where
-    by : (t : Bool) → t ≡ true → filter test xs ≡ xs → cond t (x ∷ filter test xs) (filter test xs) ≡ x ∷ xs
-    by true e rest = ap (λ l. x ∷ l) rest
-    by false e rest = cc
-
--- a filter does not see items at the front that it does not pass
-pub filter_drop : {A : Type 0} (test : A → Bool) (p : ℕ) (xs : List A) → AllIn (λ x. test x ≡ false) (take p xs) → filter test xs ≡ filter test (drop p xs)
-filter_drop test zero xs all = refl
-filter_drop test (suc p) [] all = refl
-filter_drop test (suc p) (x ∷ xs) all = by (test x) all.0 (filter_drop test p xs all.1)
-  where
-    by : (t : Bool) → t ≡ false → filter test xs ≡ filter test (drop p xs) → cond t (x ∷ filter test xs) (filter test xs) ≡ filter test (drop p xs)
-    by true e rest = cc
-    by false e rest = rest
-
 -- whether a mark has another number
 abbrev pub is_not : ℕ → Mark → Bool
 is_not n m = not (m.number == n)
@@ -66,7 +41,7 @@ apart n m ne = grind (arith, ne)
 -- no mark of a list has the number
 others_kept : (n : ℕ) (ms : List Mark) → AllIn (λ m. n < m.number) ms → filter (is_not n) ms ≡ ms
 others_kept n [] all = refl
-others_kept n (m ∷ ms) all = filter_same (is_not n) (m ∷ ms) (kept (m ∷ ms) all)
+others_kept n (m ∷ ms) all = filter_whole (is_not n) (m ∷ ms) (kept (m ∷ ms) all)
   where
     kept : (xs : List Mark) → AllIn (λ m. n < m.number) xs → AllIn (λ m. is_not n m ≡ true) xs
     kept [] all = tt
@@ -108,13 +83,6 @@ untouched n (x ∷ xs) (suc p) d num ends none =
     let rest : EndsBelow n xs p = record { within = omega (arith, ends.within); lesser = ends.lesser.1; others = ends.others } in
     sym (keeps n x xs xs (apart n x (omega (arith, ends.lesser.0))) (sym (untouched n xs p d num.1 rest (λ lt. none (omega (arith, lt))))))
 
--- a mark of a list stands before a place or from it on
-pub on_either_side : (ms : List Mark) (p : ℕ) (m : Mark) → Has ms m → Has (take p ms) m ⊎ Has (drop p ms) m
-on_either_side [] p m h = absurd h
-on_either_side (x ∷ xs) zero m h = inr h
-on_either_side (x ∷ xs) (suc p) m (inl e) = inl (inl e)
-on_either_side (x ∷ xs) (suc p) m (inr h) = elim (on_either_side xs p m h) [ inl k ↦ inl (inr k) | inr k ↦ inr k ]
-
 pub has_index : (ms : List Mark) (p : ℕ) (d : Mark) → p < length ms → Has ms (slice_index_or ms p d)
 has_index [] p d lt = absurd (omega arith)
 has_index (x ∷ xs) zero d lt = inl refl
@@ -150,7 +118,7 @@ last_below n (x ∷ xs) (suc p) d num ends =
     let rest : EndsBelow n xs (suc p) = record { within = omega (arith, ends.within); lesser = ends.lesser.1; others = ends.others } in
     let later = last_below n xs p d num.1 rest in
     let lt : p < length xs = omega (arith, rest.within) in
-    let first : x.number < (slice_index_or xs p d).number = at (λ y. x.number < y.number) xs p d num.0 lt in
+    let first : x.number < (slice_index_or xs p d).number = all_index (λ y. x.number < y.number) xs p d num.0 lt in
     (later.0, λ k h low. elim h [ inl e ↦ subst (λ (y : Mark). y.number ≤ (slice_index_or xs p d).number) e (omega (arith, first)) | inr g ↦ later.1 k g low ])
 
 -- where the search ended at the front, none has a lesser number
@@ -179,54 +147,23 @@ between_false low high m out = by (nat_lt low m.number) (nat_lt m.number high) r
 pub between_true : (low high : ℕ) (m : Mark) → IsBetween low high m → is_between low high m ≡ true
 between_true low high m is = grind (arith, is)
 
-filter_out : {A : Type 0} (test : A → Bool) (xs : List A) → AllIn (λ x. test x ≡ false) xs → filter test xs ≡ []
-filter_out test [] all = refl
-filter_out test (x ∷ xs) all = by (test x) all.0 (filter_out test xs all.1)
-  where
-    by : (t : Bool) → t ≡ false → filter test xs ≡ [] → cond t (x ∷ filter test xs) (filter test xs) ≡ []
-    by true e rest = cc
-    by false e rest = rest
-
 all_map_false : (low high : ℕ) (ms : List Mark) → AllIn (λ m. ¬ (IsBetween low high m)) ms → AllIn (λ m. is_between low high m ≡ false) ms
 all_map_false low high [] all = tt
 all_map_false low high (m ∷ ms) all = (between_false low high m all.0, all_map_false low high ms all.1)
 
 -- where the search for the number after the lower one ended, none before lies between the two
 pub between_before : (low high : ℕ) (ms : List Mark) (p : ℕ) → EndsBelow (low + 1) ms p → filter (is_between low high) (take p ms) ≡ []
-between_before low high ms p ends = filter_out (is_between low high) (take p ms) (all_map_false low high (take p ms) (lower (take p ms) ends.lesser))
+between_before low high ms p ends = filter_none (is_between low high) (take p ms) (all_map_false low high (take p ms) (lower (take p ms) ends.lesser))
   where
     lower : (xs : List Mark) → AllIn (λ m. m.number < low + 1) xs → AllIn (λ m. ¬ (IsBetween low high m)) xs
     lower [] all = tt
     lower (x ∷ xs) all = (λ b. omega (arith, b.0, all.0), lower xs all.1)
 
--- one more mark between the two
-between_more : (low high : ℕ) (ms : List Mark) (p : ℕ) (d : Mark) → p < length ms → AllIn (λ m. low + 1 ≤ m.number) (drop p ms) → (slice_index_or ms p d).number < high
-    → (filter (is_between low high) (take (suc p) ms) ≡ filter (is_between low high) (take p ms) ++ slice_index_or ms p d ∷ [])
-    × AllIn (λ m. low + 1 ≤ m.number) (drop (suc p) ms)
-between_more low high [] p d lt all less = absurd (omega arith)
-between_more low high (x ∷ xs) zero d lt all less = (by (is_between low high x) (between_true low high x (omega (arith, all.0), less)), all.1)
-  where
-    by : (t : Bool) → t ≡ true → cond t (x ∷ []) [] ≡ x ∷ []
-    by true e = refl
-    by false e = cc
-between_more low high (x ∷ xs) (suc p) d lt all less = let rest = between_more low high xs p d (omega arith) all less in (by (is_between low high x) rest.0, rest.1)
-  where
-    by : (t : Bool) → filter (is_between low high) (take (suc p) xs) ≡ filter (is_between low high) (take p xs) ++ slice_index_or xs p d ∷ []
-        → cond t (x ∷ filter (is_between low high) (take (suc p) xs)) (filter (is_between low high) (take (suc p) xs))
-        ≡ cond t (x ∷ filter (is_between low high) (take p xs)) (filter (is_between low high) (take p xs)) ++ slice_index_or xs p d ∷ []
-    by true e = ap (λ l. x ∷ l) e
-    by false e = e
-
-pub between_step : (low high : ℕ) (ms : List Mark) (p : ℕ) (d : Mark) → p < length ms → AllIn (λ m. low + 1 ≤ m.number) (drop p ms) → (slice_index_or ms p d).number < high
-    → (filter (is_between low high) (take (p + 1) ms) ≡ filter (is_between low high) (take p ms) ++ slice_index_or ms p d ∷ [])
-    × AllIn (λ m. low + 1 ≤ m.number) (drop (p + 1) ms)
-between_step low high ms p d lt all less = rw (add-one p) (between_more low high ms p d lt all less)
-
 -- from a mark on that has not a lesser number than the higher one none lies between the two
 pub between_stop : (low high : ℕ) (ms : List Mark) (p : ℕ) (d : Mark) → HasRisingNumbers ms → p < length ms → high ≤ (slice_index_or ms p d).number
     → filter (is_between low high) (take p ms) ≡ filter (is_between low high) ms
 between_stop low high [] p d num lt le = absurd (omega arith)
-between_stop low high (x ∷ xs) zero d num lt le = sym (filter_out (is_between low high) (x ∷ xs) (all_map_false low high (x ∷ xs) (λ b. omega (arith, b.1, le), higher xs num.0)))
+between_stop low high (x ∷ xs) zero d num lt le = sym (filter_none (is_between low high) (x ∷ xs) (all_map_false low high (x ∷ xs) (λ b. omega (arith, b.1, le), higher xs num.0)))
   where
     higher : (ys : List Mark) → AllIn (λ y. x.number < y.number) ys → AllIn (λ m. ¬ (IsBetween low high m)) ys
     higher [] all = tt
@@ -240,7 +177,7 @@ between_stop low high (x ∷ xs) (suc p) d num lt le = by (is_between low high x
 
 -- between the greatest number and another one there is none
 pub none_past : (low high : ℕ) (ms : List Mark) → high ≤ low + 1 → filter (is_between low high) ms ≡ []
-none_past low high ms le = filter_out (is_between low high) ms (none ms)
+none_past low high ms le = filter_none (is_between low high) ms (none ms)
   where
     none : (xs : List Mark) → AllIn (λ m. is_between low high m ≡ false) xs
     none [] = tt
@@ -248,8 +185,8 @@ none_past low high ms le = filter_out (is_between low high) ms (none ms)
 
 -- ---- what the searches answer
 
-pub past_end : (p n : ℕ) → (p < n → false ≡ true) → n ≤ p
-past_end p n h = elim (either_le n p) [ inl le ↦ le | inr more ↦ absurd (clash (h (omega (arith, more)))) ]
+pub past_all_places : (p n : ℕ) → (p < n → false ≡ true) → n ≤ p
+past_all_places p n h = elim (either_le n p) [ inl le ↦ le | inr more ↦ absurd (clash (h (omega (arith, more)))) ]
   where
     clash : false ≡ true → ⊥
     clash e = cc

@@ -15,9 +15,9 @@ use Rattle.dt_queue.specs.Kept.{CellsClash, AreQueuesKept, IsNearInMode, IsNearM
 use Rattle.dt_queue.specs.Lanes.{AreMarks, HasRisingNumbers, IsBetween, IsLastBetween, IsNearInRow, is_between, number_or}
 use Rattle.dt_queue.specs.InUse.{rows_at}
 use Rattle.dt_queue.specs.Rows.{granule_at}
-use Rattle.dt_queue.proofs.NearMarks.{IsRow, either_between, in_between, near_reads, near_write, row_of, same_mark, trichotomy}
-use Rattle.dt_queue.proofs.CellUses.{InUseOf, IsMarkOf, IsPart, apart_lanes, cell_in_row, cell_of, clash_turned, clash_uses, lane_tells, use_of}
-use Rattle.dt_queue.proofs.CellUses.{number_of, on_one_row, one_cell, one_granule, part_of, reads_agree, taker_of, use_clashes, whole_clashes, write_clashes}
+use Rattle.dt_queue.proofs.NearMarks.{AreLanesOfRow, either_between, in_between, near_reads, near_write, row_of, same_mark, trichotomy}
+use Rattle.dt_queue.proofs.CellUses.{InUseOf, IsMarkOf, IsNarrow, apart_lanes, cell_in_row, cell_of, clash_turned, clash_uses, lane_tells, one_use}
+use Rattle.dt_queue.proofs.CellUses.{number_of_mark, on_one_row, one_cell, one_granule, narrow_cell, reads_agree, taker_of, use_clashes, whole_clashes, write_clashes}
 
 -- ---- a row where no mark is nearest has none
 
@@ -43,7 +43,7 @@ either_empty : (ms : List Mark) → (ms ≡ []) ⊎ ((m : Mark) × Has ms m)
 either_empty [] = inl refl
 either_empty (m ∷ ms) = inr (m, inl refl)
 
-pub row_empty : (reads writes : List Mark) (low high : ℕ) → IsRow reads writes → ((m : Mark) → ¬ (IsNearInRow reads writes low high m)) → (m : Mark) → IsBetween low high m → Has reads m ⊎ Has writes m → ⊥
+pub row_empty : (reads writes : List Mark) (low high : ℕ) → AreLanesOfRow reads writes → ((m : Mark) → ¬ (IsNearInRow reads writes low high m)) → (m : Mark) → IsBetween low high m → Has reads m ⊎ Has writes m → ⊥
 row_empty reads writes low high row none m b h = by (last_there low high writes row.writes_numbered)
   where
     by : (o : Option Mark) × IsLastBetween low high writes o → ⊥
@@ -59,8 +59,8 @@ row_empty reads writes low high row none m b h = by (last_there low high writes 
 -- ---- what is near is in use, and clashes with nothing in use after it
 
 -- nothing in use after a mark clashes with it
-abbrev pub IsClear : Mode → Kept → Cell → Mark → Cell → Type 0
-IsClear mode k x m c = (j : Mark) (d : Cell) → IsMarkOf k j d → InUseOf mode k x.row j → m.number < j.number → j.number < x.number → ¬ (CellsClash k.rows c d)
+abbrev pub IsClearAfter : Mode → Kept → Cell → Mark → Cell → Type 0
+IsClearAfter mode k x m c = (j : Mark) (d : Cell) → IsMarkOf k j d → InUseOf mode k x.row j → m.number < j.number → j.number < x.number → ¬ (CellsClash k.rows c d)
 
 clear_row : (k : Kept) → AreQueuesKept k → (x : Cell) (row low : ℕ) (m : Mark) (c : Cell) → IsMarkOf k m c → IsNearInRow (lane k Read row) (lane k Write row) low x.number m
     → (j : Mark) (d : Cell) → IsMarkOf k j d → Has (lane k Read row) j ⊎ Has (lane k Write row) j → m.number < j.number → j.number < x.number → ¬ (CellsClash k.rows c d)
@@ -73,12 +73,12 @@ clear_row k kept x row low m c a near j d b used lt le clash = elim near.1 [
 ]
 
 pub near_is_clear : (mode : Mode) (k : Kept) → AreQueuesKept k → (x : Cell) (low : ℕ) (m : Mark) (c : Cell) → IsMarkOf k m c → IsNearOf mode k x.row low x.number m
-    → InUseOf mode k x.row m × IsBetween low x.number m × IsClear mode k x m c
+    → InUseOf mode k x.row m × IsBetween low x.number m × IsClearAfter mode k x m c
 near_is_clear Read k kept x low m c a near = (near.0, near.1, λ j d b used lt le clash. near.2 j used (lt, le))
-near_is_clear Write k kept x low m c a near = (use_of near.1, near.0, λ j d b used lt le clash. clear_row k kept x x.row low m c a near j d b used lt le clash)
+near_is_clear Write k kept x low m c a near = (one_use near.1, near.0, λ j d b used lt le clash. clear_row k kept x x.row low m c a near j d b used lt le clash)
 near_is_clear Whole k kept x low m c a near =
     let r = any_get (λ row. IsNearInRow (lane k Read row) (lane k Write row) low x.number m) (rows_at k.in_use (granule_at k.rows x.row)) near in (
-      any_put (λ row. Has (lane k Read row) m ⊎ Has (lane k Write row) m) (rows_at k.in_use (granule_at k.rows x.row)) r.0 r.1 (use_of r.2.1),
+      any_put (λ row. Has (lane k Read row) m ⊎ Has (lane k Write row) m) (rows_at k.in_use (granule_at k.rows x.row)) r.0 r.1 (one_use r.2.1),
       r.2.0,
       λ j d b used lt le clash. clear r.0 r.2 j d b (any_get (λ row. Has (lane k Read row) j ⊎ Has (lane k Write row) j) (rows_at k.in_use (granule_at k.rows x.row)) used) lt le clash,
     )
@@ -86,8 +86,8 @@ near_is_clear Whole k kept x low m c a near =
     clear : (row : ℕ) → IsNearInRow (lane k Read row) (lane k Write row) low x.number m → (j : Mark) (d : Cell) → IsMarkOf k j d
         → (s : ℕ) × Has (rows_at k.in_use (granule_at k.rows x.row)) s × (Has (lane k Read s) j ⊎ Has (lane k Write s) j) → m.number < j.number → j.number < x.number → ¬ (CellsClash k.rows c d)
     clear row near j d b s lt le clash =
-        let p = part_of k kept row m c a (use_of near.1) in
-        let q = part_of k kept s.0 j d b s.2 in
+        let p = narrow_cell k kept row m c a (one_use near.1) in
+        let q = narrow_cell k kept s.0 j d b s.2 in
         let one : s.0 ≡ row = sym q.1 ∙ sym (on_one_row k.rows c d p.0 q.0 clash) ∙ p.1 in
         clear_row k kept x row low m c a near j d b (subst (λ r. Has (lane k Read r) j ⊎ Has (lane k Write r) j) one s.2) lt le clash
 
@@ -110,7 +110,7 @@ near_in_row k kept x row low m c a (inr w) b clear = (b, inr (w, (λ j h e. meet
         let q = lane_tells k kept Write row m c a w in
         clear j d.0 d.1 used e.0 e.1 (write_clashes k.rows c d.0 q.0 (q.1 ∙ sym d.2))
 
-pub clear_is_near : (mode : Mode) (k : Kept) → AreQueuesKept k → (x : Cell) (low : ℕ) (m : Mark) (c : Cell) → IsMarkOf k m c → InUseOf mode k x.row m → IsBetween low x.number m → IsClear mode k x m c
+pub clear_is_near : (mode : Mode) (k : Kept) → AreQueuesKept k → (x : Cell) (low : ℕ) (m : Mark) (c : Cell) → IsMarkOf k m c → InUseOf mode k x.row m → IsBetween low x.number m → IsClearAfter mode k x m c
     → IsNearOf mode k x.row low x.number m
 clear_is_near Read k kept x low m c a used b clear = (used, b, λ j w e. meets j w e)
   where
@@ -157,19 +157,19 @@ module _ (k : Kept) (kept : AreQueuesKept k) (x : Cell) (o : Option Mark) (last 
   not_later m c a h lt = by o last
     where
       positive : 0 < m.number
-      positive = let b = kept.counted m.slot c a.there in omega (arith, b.0, number_of k m c a)
+      positive = let b = kept.counted m.slot c a.there in omega (arith, b.0, number_of_mark k m c a)
 
       by : (o : Option Mark) → IsLastBetween 0 x.number taken o → m.number ≤ number_or o 0
       by None l = absurd (l m h (positive, lt))
       by (Some w) l = l.2 m h (positive, lt)
 
   -- a near mark that is in use stands after the last that takes the granule
-  later : (m : Mark) (c : Cell) → IsMarkOf k m c → IsPart c.mode → CellsClash k.rows c x → m.number < x.number
+  later : (m : Mark) (c : Cell) → IsMarkOf k m c → IsNarrow c.mode → CellsClash k.rows c x → m.number < x.number
       → ((t : ℕ) (d : Cell) → get k.cells t ≡ Some d → c.number < d.number → d.number < x.number → CellsClash k.rows c d → ¬ (CellsClash k.rows d x)) → number_or o 0 < m.number
   later m c a part clash lt free = by o last
     where
       positive : 0 < m.number
-      positive = let b = kept.counted m.slot c a.there in omega (arith, b.0, number_of k m c a)
+      positive = let b = kept.counted m.slot c a.there in omega (arith, b.0, number_of_mark k m c a)
 
       by : (o : Option Mark) → IsLastBetween 0 x.number taken o → number_or o 0 < m.number
       by None l = positive
@@ -192,10 +192,10 @@ module _ (k : Kept) (kept : AreQueuesKept k) (x : Cell) (o : Option Mark) (last 
               no_part e = cc
 
           up : (d : Cell) → IsMarkOf k w d → m.number < w.number → c.number < d.number
-          up d b gt = omega (arith, gt, number_of k w d b, number_of k m c a)
+          up d b gt = omega (arith, gt, number_of_mark k w d b, number_of_mark k m c a)
 
           below : (d : Cell) → IsMarkOf k w d → w.number < x.number → d.number < x.number
-          below d b lt = omega (arith, lt, number_of k w d b)
+          below d b lt = omega (arith, lt, number_of_mark k w d b)
 
   -- what is near by its mode is near
   pub near_of_mode : (m : Mark) → IsNearInMode k x (number_or o 0) m → IsNearMark k x m
@@ -207,26 +207,26 @@ module _ (k : Kept) (kept : AreQueuesKept k) (x : Cell) (o : Option Mark) (last 
     where
       near_cell : (mode : Mode) → IsNearOf mode k x.row (number_or o 0) x.number m → (c : Cell) × IsMarkOf k m c
       near_cell Read n = let d = cell_of k kept Write x.row m n.0 in (d.0, d.1)
-      near_cell Write n = let d = cell_in_row k kept x.row m (use_of n.1) in (d.0, d.1)
+      near_cell Write n = let d = cell_in_row k kept x.row m (one_use n.1) in (d.0, d.1)
       near_cell Whole n =
           let r = any_get (λ row. IsNearInRow (lane k Read row) (lane k Write row) (number_or o 0) x.number m) (rows_at k.in_use (granule_at k.rows x.row)) n in
-          let d = cell_in_row k kept r.0 m (use_of r.2.1) in
+          let d = cell_in_row k kept r.0 m (one_use r.2.1) in
           (d.0, d.1)
 
       below : (c : Cell) → IsMarkOf k m c → m.number < x.number → c.number < x.number
-      below c a lt = omega (arith, lt, number_of k m c a)
+      below c a lt = omega (arith, lt, number_of_mark k m c a)
 
-      free : (c : Cell) → IsMarkOf k m c → number_or o 0 < m.number → IsClear x.mode k x m c
+      free : (c : Cell) → IsMarkOf k m c → number_or o 0 < m.number → IsClearAfter x.mode k x m c
           → (t : ℕ) (d : Cell) → get k.cells t ≡ Some d → c.number < d.number → d.number < x.number → CellsClash k.rows c d → ¬ (CellsClash k.rows d x)
       free c a low clear t d e lt le clash other =
           let b : IsMarkOf k (mark_of t d) d = record { there = e; is = refl } in
           elim (clash_uses x.mode k kept x refl (mark_of t d) d b other d.mode refl) [
             | inl h ↦ past (not_later (mark_of t d) d b h le)
-            | inr used ↦ clear (mark_of t d) d b used (omega (arith, lt, number_of k m c a)) le clash
+            | inr used ↦ clear (mark_of t d) d b used (omega (arith, lt, number_of_mark k m c a)) le clash
           ]
         where
           past : d.number ≤ number_or o 0 → ⊥
-          past h = omega (arith, h, low, lt, number_of k m c a)
+          past h = omega (arith, h, low, lt, number_of_mark k m c a)
 
   -- a near mark is near by its mode, or takes the granule as a whole
   pub mode_of_near : (m : Mark) → IsNearMark k x m → Has taken m ⊎ IsNearInMode k x (number_or o 0) m
@@ -236,11 +236,11 @@ module _ (k : Kept) (kept : AreQueuesKept k) (x : Cell) (o : Option Mark) (last 
       elim (clash_uses x.mode k kept x refl m c a n.4 c.mode refl) [
         | inl h ↦ inl h
         | inr used ↦ inr (clear_is_near x.mode k kept x (number_or o 0) m c a used (later m c a (use_clashes x.mode k kept x refl m c a used).0 n.4 (below c a n.3) n.5, below c a n.3)
-            (λ j d b u lt le clash. n.5 j.slot d b.there (omega (arith, lt, number_of k m c a, number_of k j d b)) (omega (arith, le, number_of k j d b)) clash (use_clashes x.mode k kept x refl j d b u).1))
+            (λ j d b u lt le clash. n.5 j.slot d b.there (omega (arith, lt, number_of_mark k m c a, number_of_mark k j d b)) (omega (arith, le, number_of_mark k j d b)) clash (use_clashes x.mode k kept x refl j d b u).1))
       ]
     where
       below : (c : Cell) → IsMarkOf k m c → c.number < x.number → m.number < x.number
-      below c a lt = omega (arith, lt, number_of k m c a)
+      below c a lt = omega (arith, lt, number_of_mark k m c a)
 
   -- where some are near by their mode, nothing else is
   pub near_marks : (ms : List Mark) (r : Mark) → Has ms r → AreMarks (IsNearInMode k x (number_or o 0)) ms → AreMarks (IsNearMark k x) ms
@@ -261,11 +261,11 @@ module _ (k : Kept) (kept : AreQueuesKept k) (x : Cell) (o : Option Mark) (last 
           let b : IsMarkOf k r d = record { there = near.1; is = near.2 } in
           let clear = near_is_clear x.mode k kept x (number_or o 0) r d b ((marks.members r).0 here) in
           let t = taker_of k kept x m c a h in
-          n.5 r.slot d near.1 (up c a d b (not_later m c a h (omega (arith, n.3, number_of k m c a))) clear.1.0) near.3
+          n.5 r.slot d near.1 (up c a d b (not_later m c a h (omega (arith, n.3, number_of_mark k m c a))) clear.1.0) near.3
           (whole_clashes k.rows c d t.0 (t.1 ∙ sym (one_granule k.rows d x near.4))) near.4
         where
           up : (c : Cell) → IsMarkOf k m c → (d : Cell) → IsMarkOf k r d → m.number ≤ number_or o 0 → number_or o 0 < r.number → c.number < d.number
-          up c a d b le lt = omega (arith, le, lt, number_of k m c a, number_of k r d b)
+          up c a d b le lt = omega (arith, le, lt, number_of_mark k m c a, number_of_mark k r d b)
 
   -- where none is, the last that takes the granule as a whole is near
   pub near_taker : AreMarks (IsNearInMode k x (number_or o 0)) [] → AreMarks (IsNearMark k x) (option_to_list o)
@@ -275,11 +275,11 @@ module _ (k : Kept) (kept : AreQueuesKept k) (x : Cell) (o : Option Mark) (last 
           → AreMarks (IsNearMark k x) (option_to_list o)
       by None l none all = record {
         numbered = tt;
-        members = λ m. (λ h. absurd h, λ n. l m (all m n) (positive m n, omega (arith, n.3, number_of k m n.0 (record { there = n.1; is = n.2 }))));
+        members = λ m. (λ h. absurd h, λ n. l m (all m n) (positive m n, omega (arith, n.3, number_of_mark k m n.0 (record { there = n.1; is = n.2 }))));
       }
         where
           positive : (m : Mark) → IsNearMark k x m → 0 < m.number
-          positive m n = let b = kept.counted m.slot n.0 n.1 in omega (arith, b.0, number_of k m n.0 (record { there = n.1; is = n.2 }))
+          positive m n = let b = kept.counted m.slot n.0 n.1 in omega (arith, b.0, number_of_mark k m n.0 (record { there = n.1; is = n.2 }))
       by (Some w) l none all = record {
         numbered = (tt, tt);
         members = λ m. (λ h. elim h [ inl e ↦ subst (IsNearMark k x) e near_w | inr g ↦ absurd g ], λ n. inl (is_w m n));
@@ -291,18 +291,18 @@ module _ (k : Kept) (kept : AreQueuesKept k) (x : Cell) (o : Option Mark) (last 
               (d.0, d.1.there, d.1.is, below d.0 d.1, whole_clashes k.rows d.0 x d.2.0 d.2.1, λ t y e lt le clash other. free d.0 d.1 t y e lt le other)
             where
               below : (d : Cell) → IsMarkOf k w d → d.number < x.number
-              below d a = omega (arith, l.1.1, number_of k w d a)
+              below d a = omega (arith, l.1.1, number_of_mark k w d a)
 
               free : (d : Cell) → IsMarkOf k w d → (t : ℕ) (y : Cell) → get k.cells t ≡ Some y → d.number < y.number → y.number < x.number → CellsClash k.rows y x → ⊥
               free d a t y e lt le other =
                   let b : IsMarkOf k (mark_of t y) y = record { there = e; is = refl } in
                   elim (clash_uses x.mode k kept x refl (mark_of t y) y b other y.mode refl) [
                     | inl h ↦ after (l.2 (mark_of t y) h (omega (arith, lt), le))
-                    | inr used ↦ none (mark_of t y) used (omega (arith, lt, number_of k w d a), le)
+                    | inr used ↦ none (mark_of t y) used (omega (arith, lt, number_of_mark k w d a), le)
                   ]
                 where
                   after : y.number ≤ w.number → ⊥
-                  after h = omega (arith, h, lt, number_of k w d a)
+                  after h = omega (arith, h, lt, number_of_mark k w d a)
 
           is_w : (m : Mark) → IsNearMark k x m → w ≡ m
           is_w m n =
@@ -311,7 +311,7 @@ module _ (k : Kept) (kept : AreQueuesKept k) (x : Cell) (o : Option Mark) (last 
               let h = all m n in
               let t = taker_of k kept x m c a h in
               let d = cell_of k kept Whole (granule_at k.rows x.row) w l.0 in
-              let le : m.number ≤ w.number = l.2 m h (positive c a, omega (arith, n.3, number_of k m c a)) in
+              let le : m.number ≤ w.number = l.2 m h (positive c a, omega (arith, n.3, number_of_mark k m c a)) in
               same_mark taken (kept.lanes Whole (granule_at k.rows x.row)).numbered w m l.0 h
               (elim (trichotomy w.number m.number) [
                 | inl less ↦ absurd (omega (arith, less, le))
@@ -322,10 +322,10 @@ module _ (k : Kept) (kept : AreQueuesKept k) (x : Cell) (o : Option Mark) (last 
               ])
             where
               positive : (c : Cell) → IsMarkOf k m c → 0 < m.number
-              positive c a = let b = kept.counted m.slot c a.there in omega (arith, b.0, number_of k m c a)
+              positive c a = let b = kept.counted m.slot c a.there in omega (arith, b.0, number_of_mark k m c a)
 
               up : (c : Cell) → IsMarkOf k m c → (d : Cell) → IsMarkOf k w d → m.number < w.number → c.number < d.number
-              up c a d b gt = omega (arith, gt, number_of k m c a, number_of k w d b)
+              up c a d b gt = omega (arith, gt, number_of_mark k m c a, number_of_mark k w d b)
 
               below : (d : Cell) → IsMarkOf k w d → d.number < x.number
-              below d b = omega (arith, l.1.1, number_of k w d b)
+              below d b = omega (arith, l.1.1, number_of_mark k w d b)

@@ -49,7 +49,7 @@ pub in_between : (low high : ℕ) (ms : List Mark) (m : Mark) → Has ms m → I
 in_between low high ms m h b = has_filter (is_between low high) ms m h (between_true low high m b)
 
 -- the lanes of one row: numbered, and no number in both
-pub record IsRow (reads writes : List Mark) : Type 0 where
+pub record AreLanesOfRow (reads writes : List Mark) : Type 0 where
   pub reads_numbered : HasRisingNumbers reads
   pub writes_numbered : HasRisingNumbers writes
   pub apart : (m k : Mark) → Has reads m → Has writes k → ¬ (m.number ≡ k.number)
@@ -63,7 +63,7 @@ some_more xs [] ne = let sum : length (xs ++ []) ≡ length xs + 0 = length-appe
 some_more xs (y ∷ ys) ne = (y, inl refl)
 
 -- where some read the row after the last write, they are the nearest
-pub near_reads : (reads writes : List Mark) (low high : ℕ) (w : Option Mark) → IsRow reads writes → IsLastBetween low high writes w
+pub near_reads : (reads writes : List Mark) (low high : ℕ) (w : Option Mark) → AreLanesOfRow reads writes → IsLastBetween low high writes w
     → (r : Mark) → Has (filter (is_between (number_or w low) high) reads) r → AreMarks (IsNearInRow reads writes low high) (filter (is_between (number_or w low) high) reads)
 near_reads reads writes low high None row last r here = record {
   numbered = filter_each (λ m k. m.number < k.number) (is_between low high) reads row.reads_numbered;
@@ -99,7 +99,7 @@ near_reads reads writes low high (Some w) row last r here = record {
     ]
 
 -- where none does, the last write is
-pub near_write : (reads writes : List Mark) (low high : ℕ) (w : Option Mark) → IsRow reads writes → IsLastBetween low high writes w
+pub near_write : (reads writes : List Mark) (low high : ℕ) (w : Option Mark) → AreLanesOfRow reads writes → IsLastBetween low high writes w
     → filter (is_between (number_or w low) high) reads ≡ [] → AreMarks (IsNearInRow reads writes low high) (option_to_list w)
 near_write reads writes low high None row last empty = record {
   numbered = tt;
@@ -149,7 +149,7 @@ near_write reads writes low high (Some w) row last empty = record {
 -- ---- the same the other way round: what is next
 
 -- the marks of a row that are next to an earlier entry that writes it: where some read the row before the first write, those
-pub next_reads : (reads writes : List Mark) (low high : ℕ) (w : Option Mark) → IsRow reads writes → IsFirstBetween low high writes w
+pub next_reads : (reads writes : List Mark) (low high : ℕ) (w : Option Mark) → AreLanesOfRow reads writes → IsFirstBetween low high writes w
     → (r : Mark) → Has reads r → IsBetween low (number_or w high) r → (m : Mark) → IsNextInRow reads writes low high m ↔ (Has reads m × IsBetween low (number_or w high) m)
 next_reads reads writes low high None row first r here between m = (
   λ near. elim near.1 [ inl read ↦ (read.0, near.0) | inr write ↦ absurd (first m write.0 near.0) ],
@@ -176,7 +176,7 @@ next_reads reads writes low high (Some w) row first r here between m = (
     ]
 
 -- where none does, the first write
-pub next_write : (reads writes : List Mark) (low high : ℕ) (w : Option Mark) → IsRow reads writes → IsFirstBetween low high writes w
+pub next_write : (reads writes : List Mark) (low high : ℕ) (w : Option Mark) → AreLanesOfRow reads writes → IsFirstBetween low high writes w
     → ((r : Mark) → Has reads r → ¬ (IsBetween low (number_or w high) r)) → (m : Mark) → IsNextInRow reads writes low high m ↔ (w ≡ Some m)
 next_write reads writes low high None row first empty m = (
   λ near. elim near.1 [ inl read ↦ absurd (empty m read.0 near.0) | inr write ↦ absurd (first m write.0 near.0) ],
@@ -239,7 +239,7 @@ next_of_one P (Some w) after n exact any first = record {
     by false e = λ m p. subst (λ (k : Mark). k.number ≤ after) (of_some m ((exact m).0 p)) (grind (arith, e))
 
 -- what is known of the marks of a row that are next, as it is searched
-pub next_in_row : (reads writes : List Mark) (low high : ℕ) (after start : ℕ) (w r f : Option Mark) (n : Next) → IsRow reads writes → IsFirstBetween low high writes w
+pub next_in_row : (reads writes : List Mark) (low high : ℕ) (after start : ℕ) (w r f : Option Mark) (n : Next) → AreLanesOfRow reads writes → IsFirstBetween low high writes w
     → IsFirstBetween low (number_or w high) reads r → is_some r ≡ true → low ≤ start → after ≤ start
     → ((start ≡ low) ⊎ (start ≡ after)) → IsFirstBetween start (number_or w high) reads f → n.any ≡ true → n.first ≡ f
     → IsKnownNext (IsNextInRow reads writes low high) after n
@@ -271,7 +271,7 @@ next_in_row reads writes low high after start w (Some r) f n row first read ther
       λ m p gt. let b = (exact m).0 p in g.2 m b.0 (past m b.1.0 gt, b.1.1),
     )
 
-pub next_of_row : (reads writes : List Mark) (low high : ℕ) (after : ℕ) (w r : Option Mark) (n : Next) → IsRow reads writes → IsFirstBetween low high writes w
+pub next_of_row : (reads writes : List Mark) (low high : ℕ) (after : ℕ) (w r : Option Mark) (n : Next) → AreLanesOfRow reads writes → IsFirstBetween low high writes w
     → IsFirstBetween low (number_or w high) reads r → is_some r ≡ false → n.any ≡ is_some w → n.first ≡ later_than after w → IsKnownNext (IsNextInRow reads writes low high) after n
 next_of_row reads writes low high after w (Some r) n row first read there any is = cc
 next_of_row reads writes low high after w None n row first read there any is =
@@ -279,7 +279,7 @@ next_of_row reads writes low high after w None n row first read there any is =
 
 -- ---- as the code asks
 
-pub row_of : (reads writes : List (List Mark)) → AreApart reads writes → (row : ℕ) → IsRow (get_or reads row []) (get_or writes row [])
+pub row_of : (reads writes : List (List Mark)) → AreApart reads writes → (row : ℕ) → AreLanesOfRow (get_or reads row []) (get_or writes row [])
 row_of reads writes a row = record {
   reads_numbered = a.reads_numbered row;
   writes_numbered = a.writes_numbered row;
@@ -287,7 +287,7 @@ row_of reads writes a row = record {
 }
 
 -- the last write was appended after no read was
-pub added_write : (old some new reads writes : List Mark) (low high n : ℕ) (w : Option Mark) → IsRow reads writes → IsLastBetween low high writes w → n ≡ number_or w low
+pub added_write : (old some new reads writes : List Mark) (low high n : ℕ) (w : Option Mark) → AreLanesOfRow reads writes → IsLastBetween low high writes w → n ≡ number_or w low
     → some ≡ old ++ filter (is_between n high) reads → length some ≡ length old → new ≡ some ++ option_to_list w → AddsMarks (IsNearInRow reads writes low high) old new
 added_write old some new reads writes low high n w row last is items same more =
     let items' : some ≡ old ++ filter (is_between (number_or w low) high) reads = subst (λ k. some ≡ old ++ filter (is_between k high) reads) is items in
@@ -298,7 +298,7 @@ added_write old some new reads writes low high n w row last is items same more =
     )
 
 -- some reads were appended
-pub added_reads : (old new reads writes : List Mark) (low high n : ℕ) (w : Option Mark) → IsRow reads writes → IsLastBetween low high writes w → n ≡ number_or w low
+pub added_reads : (old new reads writes : List Mark) (low high n : ℕ) (w : Option Mark) → AreLanesOfRow reads writes → IsLastBetween low high writes w → n ≡ number_or w low
     → new ≡ old ++ filter (is_between n high) reads → ¬ (length new ≡ length old) → AddsMarks (IsNearInRow reads writes low high) old new
 added_reads old new reads writes low high n w row last is items more =
     let items' : new ≡ old ++ filter (is_between (number_or w low) high) reads = subst (λ k. new ≡ old ++ filter (is_between k high) reads) is items in

@@ -16,10 +16,10 @@ use Rattle.dt_queue.specs.Lanes.{HasRisingNumbers, IsBetween, IsFirstBetween, Is
 use Rattle.dt_queue.specs.Next.{IsFirstAfter, IsKnownNext}
 use Rattle.dt_queue.specs.InUse.{rows_at}
 use Rattle.dt_queue.specs.Rows.{granule_at}
-use Rattle.dt_queue.proofs.NearMarks.{IsRow, either_between, next_of_one, next_reads, next_write, row_of, same_mark, trichotomy}
+use Rattle.dt_queue.proofs.NearMarks.{AreLanesOfRow, either_between, next_of_one, next_reads, next_write, row_of, same_mark, trichotomy}
 use Rattle.dt_queue.proofs.RowsNear.{next_as}
-use Rattle.dt_queue.proofs.CellUses.{InUseOf, IsMarkOf, IsPart, apart_lanes, cell_in_row, cell_of, clash_turned, clash_uses, lane_tells, use_of}
-use Rattle.dt_queue.proofs.CellUses.{number_of, on_one_row, one_cell, one_granule, part_of, reads_agree, taker_of, use_clashes, whole_clashes, write_clashes}
+use Rattle.dt_queue.proofs.CellUses.{InUseOf, IsMarkOf, IsNarrow, apart_lanes, cell_in_row, cell_of, clash_turned, clash_uses, lane_tells, one_use}
+use Rattle.dt_queue.proofs.CellUses.{number_of_mark, on_one_row, one_cell, one_granule, narrow_cell, reads_agree, taker_of, use_clashes, whole_clashes, write_clashes}
 
 -- ---- a row where no mark is next has none
 
@@ -35,7 +35,7 @@ first_there low high (x ∷ xs) num = elim (either_between low high x) [
     by ne (Some k, l) = (Some k, (inr l.0, l.1, λ j h b. elim h [ inl e ↦ absurd (ne (subst (IsBetween low high) (sym e) b)) | inr g ↦ l.2 j g b ]))
     by ne (None, l) = (None, λ j h c. elim h [ inl e ↦ ne (subst (IsBetween low high) (sym e) c) | inr g ↦ l j g c ])
 
-row_empty : (reads writes : List Mark) (low high : ℕ) → IsRow reads writes → ((m : Mark) → ¬ (IsNextInRow reads writes low high m)) → (m : Mark) → IsBetween low high m → Has reads m ⊎ Has writes m → ⊥
+row_empty : (reads writes : List Mark) (low high : ℕ) → AreLanesOfRow reads writes → ((m : Mark) → ¬ (IsNextInRow reads writes low high m)) → (m : Mark) → IsBetween low high m → Has reads m ⊎ Has writes m → ⊥
 row_empty reads writes low high row none m b h = by (first_there low high writes row.writes_numbered)
   where
     by : (o : Option Mark) × IsFirstBetween low high writes o → ⊥
@@ -52,8 +52,8 @@ row_empty reads writes low high row none m b h = by (first_there low high writes
 -- ---- what is next is in use, and clashes with nothing in use before it
 
 -- nothing in use before a mark clashes with it
-abbrev pub IsClear : Mode → Kept → Cell → Mark → Cell → Type 0
-IsClear mode k x m c = (j : Mark) (d : Cell) → IsMarkOf k j d → InUseOf mode k x.row j → x.number < j.number → j.number < m.number → ¬ (CellsClash k.rows d c)
+abbrev pub IsClearBefore : Mode → Kept → Cell → Mark → Cell → Type 0
+IsClearBefore mode k x m c = (j : Mark) (d : Cell) → IsMarkOf k j d → InUseOf mode k x.row j → x.number < j.number → j.number < m.number → ¬ (CellsClash k.rows d c)
 
 clear_row : (k : Kept) → AreQueuesKept k → (x : Cell) (row high : ℕ) (m : Mark) (c : Cell) → IsMarkOf k m c → IsNextInRow (lane k Read row) (lane k Write row) x.number high m
     → (j : Mark) (d : Cell) → IsMarkOf k j d → Has (lane k Read row) j ⊎ Has (lane k Write row) j → x.number < j.number → j.number < m.number → ¬ (CellsClash k.rows d c)
@@ -66,12 +66,12 @@ clear_row k kept x row high m c a near j d b used lt le clash = elim near.1 [
 ]
 
 next_is_clear : (mode : Mode) (k : Kept) → AreQueuesKept k → (x : Cell) (high : ℕ) (m : Mark) (c : Cell) → IsMarkOf k m c → IsNextOfMode mode k x.row x.number high m
-    → InUseOf mode k x.row m × IsBetween x.number high m × IsClear mode k x m c
+    → InUseOf mode k x.row m × IsBetween x.number high m × IsClearBefore mode k x m c
 next_is_clear Read k kept x high m c a near = (near.0, near.1, λ j d b used lt le clash. near.2 j used (lt, le))
-next_is_clear Write k kept x high m c a near = (use_of near.1, near.0, λ j d b used lt le clash. clear_row k kept x x.row high m c a near j d b used lt le clash)
+next_is_clear Write k kept x high m c a near = (one_use near.1, near.0, λ j d b used lt le clash. clear_row k kept x x.row high m c a near j d b used lt le clash)
 next_is_clear Whole k kept x high m c a near =
     let r = any_get (λ row. IsNextInRow (lane k Read row) (lane k Write row) x.number high m) (rows_at k.in_use (granule_at k.rows x.row)) near in (
-      any_put (λ row. Has (lane k Read row) m ⊎ Has (lane k Write row) m) (rows_at k.in_use (granule_at k.rows x.row)) r.0 r.1 (use_of r.2.1),
+      any_put (λ row. Has (lane k Read row) m ⊎ Has (lane k Write row) m) (rows_at k.in_use (granule_at k.rows x.row)) r.0 r.1 (one_use r.2.1),
       r.2.0,
       λ j d b used lt le clash. clear r.0 r.2 j d b (any_get (λ row. Has (lane k Read row) j ⊎ Has (lane k Write row) j) (rows_at k.in_use (granule_at k.rows x.row)) used) lt le clash,
     )
@@ -79,8 +79,8 @@ next_is_clear Whole k kept x high m c a near =
     clear : (row : ℕ) → IsNextInRow (lane k Read row) (lane k Write row) x.number high m → (j : Mark) (d : Cell) → IsMarkOf k j d
         → (s : ℕ) × Has (rows_at k.in_use (granule_at k.rows x.row)) s × (Has (lane k Read s) j ⊎ Has (lane k Write s) j) → x.number < j.number → j.number < m.number → ¬ (CellsClash k.rows d c)
     clear row near j d b s lt le clash =
-        let p = part_of k kept row m c a (use_of near.1) in
-        let q = part_of k kept s.0 j d b s.2 in
+        let p = narrow_cell k kept row m c a (one_use near.1) in
+        let q = narrow_cell k kept s.0 j d b s.2 in
         let one : s.0 ≡ row = sym q.1 ∙ on_one_row k.rows d c q.0 p.0 clash ∙ p.1 in
         clear_row k kept x row high m c a near j d b (subst (λ r. Has (lane k Read r) j ⊎ Has (lane k Write r) j) one s.2) lt le clash
 
@@ -103,7 +103,7 @@ next_in_row k kept x row high m c a (inr w) b clear = (b, inr (w, (λ j h e. mee
         let q = lane_tells k kept Write row m c a w in
         clear j d.0 d.1 used e.0 e.1 (clash_turned k.rows c d.0 (write_clashes k.rows c d.0 q.0 (q.1 ∙ sym d.2)))
 
-clear_is_next : (mode : Mode) (k : Kept) → AreQueuesKept k → (x : Cell) (high : ℕ) (m : Mark) (c : Cell) → IsMarkOf k m c → InUseOf mode k x.row m → IsBetween x.number high m → IsClear mode k x m c
+clear_is_next : (mode : Mode) (k : Kept) → AreQueuesKept k → (x : Cell) (high : ℕ) (m : Mark) (c : Cell) → IsMarkOf k m c → InUseOf mode k x.row m → IsBetween x.number high m → IsClearBefore mode k x m c
     → IsNextOfMode mode k x.row x.number high m
 clear_is_next Read k kept x high m c a used b clear = (used, b, λ j w e. meets j w e)
   where
@@ -146,7 +146,7 @@ module _ (k : Kept) (kept : AreQueuesKept k) (x : Cell) (top : ℕ) (within : k.
   taken = lane k Whole (granule_at k.rows x.row)
 
   below_top : (m : Mark) (c : Cell) → IsMarkOf k m c → m.number < top
-  below_top m c a = let b = kept.counted m.slot c a.there in omega (arith, b.1, within, number_of k m c a)
+  below_top m c a = let b = kept.counted m.slot c a.there in omega (arith, b.1, within, number_of_mark k m c a)
 
   -- what takes the granule stands not before the first that does
   not_earlier : (m : Mark) (c : Cell) → IsMarkOf k m c → Has taken m → x.number < m.number → number_or o top ≤ m.number
@@ -157,7 +157,7 @@ module _ (k : Kept) (kept : AreQueuesKept k) (x : Cell) (top : ℕ) (within : k.
       by (Some w) l = l.2 m h (lt, below_top m c a)
 
   -- a near mark that is in use stands before the first that takes the granule
-  earlier : (m : Mark) (c : Cell) → IsMarkOf k m c → IsPart c.mode → CellsClash k.rows x c → x.number < m.number
+  earlier : (m : Mark) (c : Cell) → IsMarkOf k m c → IsNarrow c.mode → CellsClash k.rows x c → x.number < m.number
       → ((t : ℕ) (d : Cell) → get k.cells t ≡ Some d → x.number < d.number → d.number < c.number → CellsClash k.rows x d → ¬ (CellsClash k.rows d c)) → m.number < number_or o top
   earlier m c a part clash lt free = by o first
     where
@@ -182,10 +182,10 @@ module _ (k : Kept) (kept : AreQueuesKept k) (x : Cell) (top : ℕ) (within : k.
               no_part e = cc
 
           down : (d : Cell) → IsMarkOf k w d → w.number < m.number → d.number < c.number
-          down d b gt = omega (arith, gt, number_of k w d b, number_of k m c a)
+          down d b gt = omega (arith, gt, number_of_mark k w d b, number_of_mark k m c a)
 
           above : (d : Cell) → IsMarkOf k w d → x.number < w.number → x.number < d.number
-          above d b lt = omega (arith, lt, number_of k w d b)
+          above d b lt = omega (arith, lt, number_of_mark k w d b)
 
   -- what is next by its mode is next
   next_of_mode : (m : Mark) → IsNextInMode k x (number_or o top) m → IsNextMark k x m
@@ -197,26 +197,26 @@ module _ (k : Kept) (kept : AreQueuesKept k) (x : Cell) (top : ℕ) (within : k.
     where
       near_cell : (mode : Mode) → IsNextOfMode mode k x.row x.number (number_or o top) m → (c : Cell) × IsMarkOf k m c
       near_cell Read n = let d = cell_of k kept Write x.row m n.0 in (d.0, d.1)
-      near_cell Write n = let d = cell_in_row k kept x.row m (use_of n.1) in (d.0, d.1)
+      near_cell Write n = let d = cell_in_row k kept x.row m (one_use n.1) in (d.0, d.1)
       near_cell Whole n =
           let r = any_get (λ row. IsNextInRow (lane k Read row) (lane k Write row) x.number (number_or o top) m) (rows_at k.in_use (granule_at k.rows x.row)) n in
-          let d = cell_in_row k kept r.0 m (use_of r.2.1) in
+          let d = cell_in_row k kept r.0 m (one_use r.2.1) in
           (d.0, d.1)
 
       above : (c : Cell) → IsMarkOf k m c → x.number < m.number → x.number < c.number
-      above c a lt = omega (arith, lt, number_of k m c a)
+      above c a lt = omega (arith, lt, number_of_mark k m c a)
 
-      free : (c : Cell) → IsMarkOf k m c → m.number < number_or o top → IsClear x.mode k x m c
+      free : (c : Cell) → IsMarkOf k m c → m.number < number_or o top → IsClearBefore x.mode k x m c
           → (t : ℕ) (d : Cell) → get k.cells t ≡ Some d → x.number < d.number → d.number < c.number → CellsClash k.rows x d → ¬ (CellsClash k.rows d c)
       free c a high clear t d e lt le clash other =
           let b : IsMarkOf k (mark_of t d) d = record { there = e; is = refl } in
           elim (clash_uses x.mode k kept x refl (mark_of t d) d b (clash_turned k.rows x d clash) d.mode refl) [
             | inl h ↦ past (not_earlier (mark_of t d) d b h lt)
-            | inr used ↦ clear (mark_of t d) d b used lt (omega (arith, le, number_of k m c a)) other
+            | inr used ↦ clear (mark_of t d) d b used lt (omega (arith, le, number_of_mark k m c a)) other
           ]
         where
           past : number_or o top ≤ d.number → ⊥
-          past h = omega (arith, h, high, le, number_of k m c a)
+          past h = omega (arith, h, high, le, number_of_mark k m c a)
 
   -- a next mark is next by its mode, or takes the granule as a whole
   mode_of_next : (m : Mark) → IsNextMark k x m → Has taken m ⊎ IsNextInMode k x (number_or o top) m
@@ -226,12 +226,12 @@ module _ (k : Kept) (kept : AreQueuesKept k) (x : Cell) (top : ℕ) (within : k.
       elim (clash_uses x.mode k kept x refl m c a (clash_turned k.rows x c n.4) c.mode refl) [
         | inl h ↦ inl h
         | inr used ↦ inr (clear_is_next x.mode k kept x (number_or o top) m c a used (above c a n.3, earlier m c a (use_clashes x.mode k kept x refl m c a used).0 n.4 (above c a n.3) n.5)
-            (λ j d b u lt le clash. n.5 j.slot d b.there (omega (arith, lt, number_of k j d b)) (omega (arith, le, number_of k m c a, number_of k j d b))
+            (λ j d b u lt le clash. n.5 j.slot d b.there (omega (arith, lt, number_of_mark k j d b)) (omega (arith, le, number_of_mark k m c a, number_of_mark k j d b))
             (clash_turned k.rows d x (use_clashes x.mode k kept x refl j d b u).1) clash))
       ]
     where
       above : (c : Cell) → IsMarkOf k m c → x.number < c.number → x.number < m.number
-      above c a lt = omega (arith, lt, number_of k m c a)
+      above c a lt = omega (arith, lt, number_of_mark k m c a)
 
   -- where some are next by their mode, nothing else is
   pub next_marks : (r : Mark) → IsNextInMode k x (number_or o top) r → (m : Mark) → IsNextInMode k x (number_or o top) m ↔ IsNextMark k x m
@@ -246,11 +246,11 @@ module _ (k : Kept) (kept : AreQueuesKept k) (x : Cell) (top : ℕ) (within : k.
           let b : IsMarkOf k r d = record { there = near.1; is = near.2 } in
           let clear = next_is_clear x.mode k kept x (number_or o top) r d b here in
           let t = taker_of k kept x m c a h in
-          n.5 r.slot d near.1 near.3 (down c a d b (not_earlier m c a h (omega (arith, n.3, number_of k m c a))) clear.1.1) near.4
+          n.5 r.slot d near.1 near.3 (down c a d b (not_earlier m c a h (omega (arith, n.3, number_of_mark k m c a))) clear.1.1) near.4
           (clash_turned k.rows c d (whole_clashes k.rows c d t.0 (t.1 ∙ one_granule k.rows x d near.4)))
         where
           down : (c : Cell) → IsMarkOf k m c → (d : Cell) → IsMarkOf k r d → number_or o top ≤ m.number → r.number < number_or o top → d.number < c.number
-          down c a d b le lt = omega (arith, le, lt, number_of k m c a, number_of k r d b)
+          down c a d b le lt = omega (arith, le, lt, number_of_mark k m c a, number_of_mark k r d b)
 
   -- where none is, the first that takes the granule as a whole is next
   pub next_taker : ((m : Mark) → ¬ (IsNextInMode k x (number_or o top) m)) → (m : Mark) → IsNextMark k x m ↔ (o ≡ Some m)
@@ -264,7 +264,7 @@ module _ (k : Kept) (kept : AreQueuesKept k) (x : Cell) (top : ℕ) (within : k.
           no_some e = cc
 
           above : IsNextMark k x m → x.number < m.number
-          above n = omega (arith, n.3, number_of k m n.0 (record { there = n.1; is = n.2 }))
+          above n = omega (arith, n.3, number_of_mark k m n.0 (record { there = n.1; is = n.2 }))
       by (Some w) l none all = (λ n. ap Some (is_w n), λ e. subst (IsNextMark k x) (of_some e) next_w)
         where
           of_some : Some w ≡ Some m → w ≡ m
@@ -276,18 +276,18 @@ module _ (k : Kept) (kept : AreQueuesKept k) (x : Cell) (top : ℕ) (within : k.
               (d.0, d.1.there, d.1.is, above d.0 d.1, clash_turned k.rows d.0 x (whole_clashes k.rows d.0 x d.2.0 d.2.1), λ t y e lt le clash other. free d.0 d.1 t y e lt le clash)
             where
               above : (d : Cell) → IsMarkOf k w d → x.number < d.number
-              above d a = omega (arith, l.1.0, number_of k w d a)
+              above d a = omega (arith, l.1.0, number_of_mark k w d a)
 
               free : (d : Cell) → IsMarkOf k w d → (t : ℕ) (y : Cell) → get k.cells t ≡ Some y → x.number < y.number → y.number < d.number → CellsClash k.rows x y → ⊥
               free d a t y e lt le clash =
                   let b : IsMarkOf k (mark_of t y) y = record { there = e; is = refl } in
                   elim (clash_uses x.mode k kept x refl (mark_of t y) y b (clash_turned k.rows x y clash) y.mode refl) [
                     | inl h ↦ before (l.2 (mark_of t y) h (lt, below_top (mark_of t y) y b))
-                    | inr used ↦ none (mark_of t y) used (lt, omega (arith, le, number_of k w d a))
+                    | inr used ↦ none (mark_of t y) used (lt, omega (arith, le, number_of_mark k w d a))
                   ]
                 where
                   before : w.number ≤ y.number → ⊥
-                  before h = omega (arith, h, le, number_of k w d a)
+                  before h = omega (arith, h, le, number_of_mark k w d a)
 
           is_w : IsNextMark k x m → w ≡ m
           is_w n =
@@ -296,7 +296,7 @@ module _ (k : Kept) (kept : AreQueuesKept k) (x : Cell) (top : ℕ) (within : k.
               let h = all m n in
               let t = taker_of k kept x m c a h in
               let d = cell_of k kept Whole (granule_at k.rows x.row) w l.0 in
-              let le : w.number ≤ m.number = l.2 m h (omega (arith, n.3, number_of k m c a), below_top m c a) in
+              let le : w.number ≤ m.number = l.2 m h (omega (arith, n.3, number_of_mark k m c a), below_top m c a) in
               same_mark taken (kept.lanes Whole (granule_at k.rows x.row)).numbered w m l.0 h
               (elim (trichotomy m.number w.number) [
                 | inl less ↦ absurd (omega (arith, less, le))
@@ -308,10 +308,10 @@ module _ (k : Kept) (kept : AreQueuesKept k) (x : Cell) (top : ℕ) (within : k.
               ])
             where
               down : (c : Cell) → IsMarkOf k m c → (d : Cell) → IsMarkOf k w d → w.number < m.number → d.number < c.number
-              down c a d b gt = omega (arith, gt, number_of k m c a, number_of k w d b)
+              down c a d b gt = omega (arith, gt, number_of_mark k m c a, number_of_mark k w d b)
 
               above : (d : Cell) → IsMarkOf k w d → x.number < d.number
-              above d b = omega (arith, l.1.0, number_of k w d b)
+              above d b = omega (arith, l.1.0, number_of_mark k w d b)
 
   -- what is known of those that are next by their mode answers which is the first
   pub first_of_some : (after : ℕ) (n : Next) → IsKnownNext (IsNextInMode k x (number_or o top)) after n → n.any ≡ true → IsFirstAfter (IsNextMark k x) after n.first

@@ -56,8 +56,8 @@ put_in xs n m = by (list_any (nat_eq n) xs) refl
     )
 
 -- a number was taken out
-pub taken_from : (xs ys : List ℕ) (n m : ℕ) → ((q : ℕ) → list_any (nat_eq q) ys ≡ cond (nat_eq n q) false (list_any (nat_eq q) xs)) → Has ys m ↔ Has xs m × (m ≢ n)
-taken_from xs ys n m tests = by (nat_eq n m) refl (tests m)
+pub number_taken : (xs ys : List ℕ) (n m : ℕ) → ((q : ℕ) → list_any (nat_eq q) ys ≡ cond (nat_eq n q) false (list_any (nat_eq q) xs)) → Has ys m ↔ Has xs m × (m ≢ n)
+number_taken xs ys n m tests = by (nat_eq n m) refl (tests m)
   where
     by : (t : Bool) → nat_eq n m ≡ t → list_any (nat_eq m) ys ≡ cond t false (list_any (nat_eq m) xs) → Has ys m ↔ Has xs m × (m ≢ n)
     by true s e = (λ h. absurd (clash (sym (test_of_has ys m h) ∙ e)), λ b. absurd (b.1 (sym (same_of_test n m s))))
@@ -122,8 +122,8 @@ module _ {A : Type 0} (f : A → List ℕ) (xs : List A) (i row : ℕ) (old new 
     where
       here : Has (get_or (map f (set xs i new)) i []) r ↔ Has (get_or (map f xs) i []) r × ¬ ((i ≡ i) × (r ≡ row))
       here = (
-        λ h. let b = (taken_from (f old) (f new) row r tests).0 (subst (λ l. Has l r) now_is h) in (subst (λ l. Has l r) was b.0, λ t. b.1 t.1),
-        λ b. subst (λ l. Has l r) (sym now_is) ((taken_from (f old) (f new) row r tests).1 (subst (λ l. Has l r) (sym was) b.0, λ e. b.1 (refl, e))),
+        λ h. let b = (number_taken (f old) (f new) row r tests).0 (subst (λ l. Has l r) now_is h) in (subst (λ l. Has l r) was b.0, λ t. b.1 t.1),
+        λ b. subst (λ l. Has l r) (sym now_is) ((number_taken (f old) (f new) row r tests).1 (subst (λ l. Has l r) (sym was) b.0, λ e. b.1 (refl, e))),
       )
 
       by : (g ≡ i) ⊎ (g ≢ i) → Has (get_or (map f (set xs i new)) g []) r ↔ Has (get_or (map f xs) g []) r × ¬ ((g ≡ i) × (r ≡ row))

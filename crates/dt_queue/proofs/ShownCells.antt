@@ -1,12 +1,13 @@
 -- What is shown of the cells: which entries wait, what their neighbours are, and what follows them.
-use Rattle.std.proofs.Common.{◌≡◌, ◌⊎◌, ℕ, ◌<◌, ◌≤◌, Bool, true, false, cond, not, ◌&&◌, ◌||◌, ◌==◌, nat_lt, List}
+use Rattle.std.proofs.Common.{◌≡◌, ◌⊎◌, ℕ, ◌<◌, ◌≤◌, Bool, true, false, cond, not, ◌&&◌, ◌||◌, ◌==◌, nat_lt, List, eq-eqb, eqb-true, ltb-true, lt-ltb}
 use Rattle.std.proofs.Common.{[], ◌∷◌, ◌++◌, map, length, slice_get, Option, Some, None, option_map, refl, ap, ap₂, sym, subst, inl, inr, arith, ◌∙◌}
 use Rattle.std.specs.List.{filter}
 use Rattle.std.proofs.lemmas.Simd.{map-map}
 use Rattle.std.proofs.lemmas.Option.{slice_get-get_or}
 use Rattle.slab.specs.Slab.{Updates, get, entries, entries_from}
-use Rattle.dt_lists.specs.Lists.{AnyIn, Distinct, EachThen, Has, IsFront}
-use Rattle.dt_lists.proofs.Callers.{all_get, any_get, any_image, any_of_image, any_of_test, any_put, ascending_same, each_at, each_image, filter_each, has_filter, has_map, has_of_filtered, test_of_any}
+use Rattle.dt_lists.specs.Lists.{AnyIn, EachThen, Has, IsFront}
+use Rattle.dt_lists.proofs.Callers.{all_get, any_get, any_image, any_of_image, any_of_test, any_put, ascending_same, each_image, filter_each, has_filter, has_map, has_of_filtered, one_place}
+use Rattle.dt_lists.proofs.Callers.{test_of_any, either_side}
 use Rattle.dt_access.specs.Clash.{Bytes, is_whole, may_change}
 use Rattle.dt_access.proofs.Callers.{clash_cases, uses_of_granule, uses_of_row}
 use Rattle.dt_queue.specs.declared.cell.Cell.{Cell}
@@ -21,34 +22,16 @@ use Rattle.dt_queue.specs.Next.{IsFirstAfter}
 use Rattle.dt_queue.specs.Queues.{IsQueued, Waiting, follower_of, followers_after, is_at, is_neighbour, nearest, neighbours, taken_out}
 use Rattle.dt_queue.specs.Rows.{granule_at, granule_name, name_at}
 use Rattle.dt_queue.proofs.InOrder.{IsListed, Rise, listed, listed_less, listed_more, same_list}
-use Rattle.dt_queue.proofs.NearMarks.{trichotomy}
-use Rattle.dt_queue.proofs.ShownLists.{Slots, after_is, before_is, entry_is, greater, lesser, meets, near_in, near_rises, nearest_is, of_near, slots_of, to_near, without_is}
-
--- in a list without repeats an item stands at one place
-unique_at : {A : Type 0} (xs : List A) (i j : ℕ) (a : A) → Distinct xs → slice_get xs i ≡ Some a → slice_get xs j ≡ Some a → i ≡ j
-unique_at xs i j a d e f = elim (trichotomy i j) [
-  | inl lt ↦ absurd (each_at (λ x y. ¬ (x ≡ y)) xs i j a a d lt e f refl)
-  | inr more ↦ elim more [ inl s ↦ s | inr gt ↦ absurd (each_at (λ x y. ¬ (x ≡ y)) xs j i a a d gt f e refl) ]
-]
+use Rattle.dt_queue.proofs.ShownLists.{Slots, after_is, before_is, entry_is, greater, lesser, meets, near_in, near_rises, nearest_is, of_near, slots_of_list, to_near, without_is}
 
 some_same : {A : Type 0} (a b : A) → Some a ≡ Some b → a ≡ b
 some_same a b e = cc
-
-either_or : (s t : Bool) → (s || t) ≡ true → (s ≡ true) ⊎ (t ≡ true)
-either_or true t e = inl refl
-either_or false t e = inr e
 
 or_one : (s t : Bool) → (s ≡ true) ⊎ (t ≡ true) → (s || t) ≡ true
 or_one true t e = refl
 or_one false true e = refl
 or_one false false (inl e) = cc
 or_one false false (inr e) = cc
-
-same_number : (a b : ℕ) → a ≡ b → (a == b) ≡ true
-same_number a b e = grind (arith, e)
-
-number_same : (a b : ℕ) → (a == b) ≡ true → a ≡ b
-number_same a b e = grind (arith, e)
 
 and_both : (s t : Bool) → s ≡ true → t ≡ true → (s && t) ≡ true
 and_both true true e f = refl
@@ -63,12 +46,6 @@ and_right : (s t : Bool) → (s && t) ≡ true → t ≡ true
 and_right true t e = e
 and_right false t e = cc
 
-lt_of : (a b : ℕ) → nat_lt a b ≡ true → a < b
-lt_of a b e = grind (arith, e)
-
-to_lt : (a b : ℕ) → a < b → nat_lt a b ≡ true
-to_lt a b lt = grind (arith, lt)
-
 module _ (k : Kept) (kept : AreQueuesKept k) where
   -- ---- cells clash where their entries do
 
@@ -76,12 +53,12 @@ module _ (k : Kept) (kept : AreQueuesKept k) where
   known_name row lt = slice_get-get_or k.rows.names.keys row (0, []) lt
 
   one_row : (i j : ℕ) → i < length k.rows.names.keys → j < length k.rows.names.keys → name_at k.rows.names.keys i ≡ name_at k.rows.names.keys j → i ≡ j
-  one_row i j a b e = unique_at k.rows.names.keys i j (name_at k.rows.names.keys j) kept.linked.names_once (known_name i a ∙ ap Some e) (known_name j b)
+  one_row i j a b e = one_place k.rows.names.keys i j (name_at k.rows.names.keys j) kept.linked.names_once (known_name i a ∙ ap Some e) (known_name j b)
 
   one_granule : (i j : ℕ) → i < length k.rows.names.keys → j < length k.rows.names.keys → granule_name (name_at k.rows.names.keys i) ≡ granule_name (name_at k.rows.names.keys j)
       → granule_at k.rows i ≡ granule_at k.rows j
   one_granule i j a b e =
-      unique_at k.rows.granules.keys (granule_at k.rows i) (granule_at k.rows j) (granule_name (name_at k.rows.names.keys j)) kept.linked.granules_once (kept.linked.granule i a ∙ ap Some e) (kept.linked.granule j b)
+      one_place k.rows.granules.keys (granule_at k.rows i) (granule_at k.rows j) (granule_name (name_at k.rows.names.keys j)) kept.linked.granules_once (kept.linked.granule i a ∙ ap Some e) (kept.linked.granule j b)
 
   same_name : (i j : ℕ) → i < length k.rows.names.keys → j < length k.rows.names.keys → granule_at k.rows i ≡ granule_at k.rows j
       → granule_name (name_at k.rows.names.keys i) ≡ granule_name (name_at k.rows.names.keys j)
@@ -90,19 +67,19 @@ module _ (k : Kept) (kept : AreQueuesKept k) where
   meets_of : (p q : ℕ × Cell) → p.1.row < length k.rows.names.keys → q.1.row < length k.rows.names.keys → CellsClash k.rows p.1 q.1 → meets k.rows.names.keys p q ≡ true
   meets_of p q a b (inl c) =
       let name : name_at k.rows.names.keys p.1.row ≡ name_at k.rows.names.keys q.1.row = ap (name_at k.rows.names.keys) c.0 in
-      and_both _ _ (same_number _ _ (ap (λ (n : ℕ × Bytes). n.0) name))
+      and_both _ _ (eq-eqb _ _ (ap (λ (n : ℕ × Bytes). n.0) name))
       (uses_of_row ((name_at k.rows.names.keys p.1.row).1, p.1.mode) ((name_at k.rows.names.keys q.1.row).1, q.1.mode) (ap (λ (n : ℕ × Bytes). n.1) name) (or_one (may_change p.1.mode) (may_change q.1.mode) c.1))
   meets_of p q a b (inr c) =
       let name = same_name p.1.row q.1.row a b c.0 in
-      and_both _ _ (same_number _ _ (ap (λ (n : ℕ × Bytes). n.0) name))
+      and_both _ _ (eq-eqb _ _ (ap (λ (n : ℕ × Bytes). n.0) name))
       (uses_of_granule ((name_at k.rows.names.keys p.1.row).1, p.1.mode) ((name_at k.rows.names.keys q.1.row).1, q.1.mode) (ap (λ (n : ℕ × Bytes). n.1) name) (or_one (is_whole p.1.mode) (is_whole q.1.mode) c.1))
 
   of_meets : (p q : ℕ × Cell) → p.1.row < length k.rows.names.keys → q.1.row < length k.rows.names.keys → meets k.rows.names.keys p q ≡ true → CellsClash k.rows p.1 q.1
   of_meets p q a b e =
-      let home : (name_at k.rows.names.keys p.1.row).0 ≡ (name_at k.rows.names.keys q.1.row).0 = number_same _ _ (and_left _ _ e) in
+      let home : (name_at k.rows.names.keys p.1.row).0 ≡ (name_at k.rows.names.keys q.1.row).0 = eqb-true _ _ (and_left _ _ e) in
       elim (clash_cases ((name_at k.rows.names.keys p.1.row).1, p.1.mode) ((name_at k.rows.names.keys q.1.row).1, q.1.mode) (and_right _ _ e)) [
-        | inl c ↦ inl (one_row p.1.row q.1.row a b (λ i. (home i, c.0 i)), either_or (may_change p.1.mode) (may_change q.1.mode) c.1)
-        | inr c ↦ inr (one_granule p.1.row q.1.row a b (λ i. (home i, c.0 i)), either_or (is_whole p.1.mode) (is_whole q.1.mode) c.1)
+        | inl c ↦ inl (one_row p.1.row q.1.row a b (λ i. (home i, c.0 i)), either_side (may_change p.1.mode) (may_change q.1.mode) c.1)
+        | inr c ↦ inr (one_granule p.1.row q.1.row a b (λ i. (home i, c.0 i)), either_side (is_whole p.1.mode) (is_whole q.1.mode) c.1)
       ]
 
   -- ---- the list of what waits
@@ -111,7 +88,7 @@ module _ (k : Kept) (kept : AreQueuesKept k) where
   the_list = listed k.cells kept.alone
 
   the_slots : Slots (in_order (entries k.cells))
-  the_slots = slots_of k.cells (in_order (entries k.cells)) the_list
+  the_slots = slots_of_list k.cells (in_order (entries k.cells)) the_list
 
   cell_there : (p : ℕ × Cell) → Has (in_order (entries k.cells)) p → get k.cells p.0 ≡ Some p.1
   cell_there p h = (the_list.members p).0 h
@@ -128,20 +105,16 @@ module _ (k : Kept) (kept : AreQueuesKept k) where
       let r = any_get (λ (p : ℕ × Cell). p.0 ≡ slot) (in_order (entries k.cells)) (any_of_image (λ (v : Waiting). v.slot ≡ slot) (entry k.rows.names.keys) (in_order (entries k.cells)) w) in
       (r.0.1, sym (ap (get k.cells) r.2) ∙ cell_there r.0 r.1)
 
-  -- and what has a cell waits
-  pub waits_at : (slot : ℕ) (c : Cell) → get k.cells slot ≡ Some c → IsQueued (waiting_of k) slot
-  waits_at slot c e = any_image (λ (v : Waiting). v.slot ≡ slot) (entry k.rows.names.keys) (in_order (entries k.cells)) (any_put (λ (p : ℕ × Cell). p.0 ≡ slot) (in_order (entries k.cells)) (slot, c) (in_list slot c e) refl)
-
   -- ---- neighbours
 
   earlier_rises : (n : ℕ) → EachThen Rise (lesser n (in_order (entries k.cells)))
   earlier_rises n = filter_each Rise (λ (p : ℕ × Cell). nat_lt p.1.number n) (in_order (entries k.cells)) the_list.numbered
 
   of_earlier : (n : ℕ) (p : ℕ × Cell) → Has (lesser n (in_order (entries k.cells))) p → Has (in_order (entries k.cells)) p × (p.1.number < n)
-  of_earlier n p h = let b = has_of_filtered (λ (q : ℕ × Cell). nat_lt q.1.number n) (in_order (entries k.cells)) p h in (b.0, lt_of _ _ b.1)
+  of_earlier n p h = let b = has_of_filtered (λ (q : ℕ × Cell). nat_lt q.1.number n) (in_order (entries k.cells)) p h in (b.0, ltb-true _ _ b.1)
 
   to_earlier : (n : ℕ) (p : ℕ × Cell) → Has (in_order (entries k.cells)) p → p.1.number < n → Has (lesser n (in_order (entries k.cells))) p
-  to_earlier n p h lt = has_filter (λ (q : ℕ × Cell). nat_lt q.1.number n) (in_order (entries k.cells)) p h (to_lt _ _ lt)
+  to_earlier n p h lt = has_filter (λ (q : ℕ × Cell). nat_lt q.1.number n) (in_order (entries k.cells)) p h (lt-ltb _ _ lt)
 
   -- the neighbours of an entry, as cells
   abbrev pub near_cells : ℕ × Cell → List (ℕ × Cell)
@@ -212,7 +185,7 @@ module _ (k : Kept) (kept : AreQueuesKept k) where
       let found : AnyIn (λ w. is_at slot w ≡ true) (map (entry k.rows.names.keys) (near_cells q)) = subst (AnyIn (λ w. is_at slot w ≡ true)) (neighbours_shown q own) (any_of_test (is_at slot) (neighbours (waiting_of k) q.0) t) in
       let r = any_get (λ (p : ℕ × Cell). (p.0 == slot) ≡ true) (near_cells q) (any_of_image (λ w. is_at slot w ≡ true) (entry k.rows.names.keys) (near_cells q) found) in
       let n = of_near_cells q r.0 own r.1 in
-      let one : r.0.1 ≡ x = some_same r.0.1 x (sym (cell_there r.0 n.there) ∙ ap (get k.cells) (number_same r.0.0 slot r.2) ∙ e) in (
+      let one : r.0.1 ≡ x = some_same r.0.1 x (sym (cell_there r.0 n.there) ∙ ap (get k.cells) (eqb-true r.0.0 slot r.2) ∙ e) in (
         q.1,
         cell_there q own,
         refl,
@@ -227,7 +200,7 @@ module _ (k : Kept) (kept : AreQueuesKept k) where
       let near : IsNear q (slot, x) = subst (λ (c : Cell). IsNear (q.0, c) (slot, x)) one (record { there = in_list slot x e; before = n.3; clash = n.4; free = n.5 }) in
       test_of_any (is_at slot) (neighbours (waiting_of k) q.0)
       (subst (AnyIn (λ w. is_at slot w ≡ true)) (sym (neighbours_shown q own))
-      (any_image (λ w. is_at slot w ≡ true) (entry k.rows.names.keys) (near_cells q) (any_put (λ (p : ℕ × Cell). (p.0 == slot) ≡ true) (near_cells q) (slot, x) (to_near_cells q (slot, x) own near) (same_number slot slot refl))))
+      (any_image (λ w. is_at slot w ≡ true) (entry k.rows.names.keys) (near_cells q) (any_put (λ (p : ℕ × Cell). (p.0 == slot) ≡ true) (near_cells q) (slot, x) (to_near_cells q (slot, x) own near) (eq-eqb slot slot refl))))
 
   filter_shown : (slot : ℕ) (G : List (ℕ × Cell)) → filter (λ w. is_neighbour (waiting_of k) slot w.slot) (map (entry k.rows.names.keys) G)
       ≡ map (entry k.rows.names.keys) (filter (λ (q : ℕ × Cell). is_neighbour (waiting_of k) slot q.0) G)
@@ -258,13 +231,13 @@ module _ (k : Kept) (kept : AreQueuesKept k) where
       of_F q h =
           let a = has_of_filtered (λ (q : ℕ × Cell). is_neighbour (waiting_of k) slot q.0) (greater y.number (in_order (entries k.cells))) q h in
           let b = has_of_filtered (λ (q : ℕ × Cell). nat_lt y.number q.1.number) (in_order (entries k.cells)) q a.0 in
-          (next_of slot x e q b.0 a.1, lt_of _ _ b.1)
+          (next_of slot x e q b.0 a.1, ltb-true _ _ b.1)
 
       to_F : (q : ℕ × Cell) → Has (in_order (entries k.cells)) q → IsNextMark k x (mark_of q.0 q.1) → y.number < q.1.number
           → Has (filter (λ (q : ℕ × Cell). is_neighbour (waiting_of k) slot q.0) (greater y.number (in_order (entries k.cells)))) q
       to_F q own n lt =
           has_filter (λ (q : ℕ × Cell). is_neighbour (waiting_of k) slot q.0) (greater y.number (in_order (entries k.cells))) q
-          (has_filter (λ (q : ℕ × Cell). nat_lt y.number q.1.number) (in_order (entries k.cells)) q own (to_lt _ _ lt)) (to_next slot x e q own n)
+          (has_filter (λ (q : ℕ × Cell). nat_lt y.number q.1.number) (in_order (entries k.cells)) q own (lt-ltb _ _ lt)) (to_next slot x e q own n)
 
       shown : (o : Option Mark) → IsFirstAfter (IsNextMark k x) y.number o
           → option_map (λ (m : Mark). record { slot = m.slot; vertex = m.vertex }) o

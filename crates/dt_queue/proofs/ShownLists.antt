@@ -1,10 +1,10 @@
 -- The list of entries that is shown of the cells in their order: what stands before and after an entry, and what is nearest.
-use Rattle.std.proofs.Common.{◌≡◌, ◌≢◌, ℕ, ◌<◌, ◌≤◌, Bool, true, false, cond, not, ◌==◌, ◌&&◌, ◌||◌}
+use Rattle.std.proofs.Common.{◌≡◌, ◌≢◌, ℕ, ◌<◌, ◌≤◌, Bool, true, false, cond, not, ◌==◌, ◌&&◌, ◌||◌, eqb-true, lt-ltb}
 use Rattle.std.proofs.Common.{nat_lt, List, [], ◌∷◌, map, Some, refl, ap, sym, subst, inl, inr, arith, ◌∙◌}
 use Rattle.std.specs.List.{filter, list_any}
 use Rattle.slab.specs.Slab.{Slab, get}
 use Rattle.dt_lists.specs.Lists.{AllIn, EachThen, Has}
-use Rattle.dt_lists.proofs.Callers.{all_get, all_map, all_put, any_of_test, any_put, any_get, test_of_any}
+use Rattle.dt_lists.proofs.Callers.{all_get, all_map, all_put, any_of_test, any_put, any_get, test_of_any, filter_none}
 use Rattle.dt_access.specs.Clash.{Bytes}
 use Rattle.dt_queue.specs.declared.cell.Cell.{Cell}
 use Rattle.dt_queue.specs.Kept.{entry}
@@ -15,8 +15,8 @@ use Rattle.dt_queue.proofs.InOrder.{IsListed, Rise}
 abbrev pub Slots : List (ℕ × Cell) → Type 0
 Slots K = EachThen (λ (p q : ℕ × Cell). ¬ (p.0 ≡ q.0)) K
 
-pub slots_of : (cells : Slab Cell) (K : List (ℕ × Cell)) → IsListed cells K → Slots K
-slots_of cells K l = by K (λ p h. (l.members p).0 h) l.numbered
+pub slots_of_list : (cells : Slab Cell) (K : List (ℕ × Cell)) → IsListed cells K → Slots K
+slots_of_list cells K l = by K (λ p h. (l.members p).0 h) l.numbered
   where
     apart : (p q : ℕ × Cell) → get cells p.0 ≡ Some p.1 → get cells q.0 ≡ Some q.1 → p.1.number < q.1.number → p.0 ≡ q.0 → ⊥
     apart p q a b lt e = let same : p.1 ≡ q.1 = some (sym a ∙ ap (get cells) e ∙ b) in omega (arith, lt, ap (λ (c : Cell). c.number) same)
@@ -37,14 +37,6 @@ lesser n K = filter (λ (p : ℕ × Cell). nat_lt p.1.number n) K
 
 abbrev pub greater : ℕ → List (ℕ × Cell) → List (ℕ × Cell)
 greater n K = filter (λ (p : ℕ × Cell). nat_lt n p.1.number) K
-
-filter_out : (test : ℕ × Cell → Bool) (xs : List (ℕ × Cell)) → AllIn (λ x. test x ≡ false) xs → filter test xs ≡ []
-filter_out test [] all = refl
-filter_out test (x ∷ xs) all = by (test x) all.0 (filter_out test xs all.1)
-  where
-    by : (t : Bool) → t ≡ false → filter test xs ≡ [] → cond t (x ∷ filter test xs) (filter test xs) ≡ []
-    by true e rest = cc
-    by false e rest = rest
 
 filter_in : (test : ℕ × Cell → Bool) (xs : List (ℕ × Cell)) → AllIn (λ x. test x ≡ true) xs → filter test xs ≡ xs
 filter_in test [] all = refl
@@ -67,14 +59,8 @@ tail_has : (x p : ℕ × Cell) (xs : List (ℕ × Cell)) → Has (x ∷ xs) p �
 tail_has x p xs (inl e) ne = absurd (ne (slot_of x p e))
 tail_has x p xs (inr h) ne = h
 
-equal : (a b : ℕ) → (a == b) ≡ true → a ≡ b
-equal a b e = grind (arith, e)
-
 unequal : (a b : ℕ) → (a == b) ≡ false → a ≢ b
 unequal a b e f = absurd (grind (arith, e, f))
-
-below_true : (a b : ℕ) → a < b → nat_lt a b ≡ true
-below_true a b lt = grind (arith, lt)
 
 below_false : (a b : ℕ) → b ≤ a → nat_lt a b ≡ false
 below_false a b le = grind (arith, le)
@@ -86,7 +72,7 @@ module _ (names : List (ℕ × Bytes)) where
   entry_is (x ∷ xs) p s h = by (x.0 == p.0) refl (λ g. entry_is xs p s.1 g)
     where
       by : (t : Bool) → (x.0 == p.0) ≡ t → (Has xs p → entry_at (map (entry names) xs) p.0 ≡ entry names p) → cond t (entry names x) (entry_at (map (entry names) xs) p.0) ≡ entry names p
-      by true e rest = ap (entry names) (head_is x p xs s h (equal x.0 p.0 e))
+      by true e rest = ap (entry names) (head_is x p xs s h (eqb-true x.0 p.0 e))
       by false e rest = rest (tail_has x p xs h (unequal x.0 p.0 e))
 
   -- what stands before an entry are those with lesser numbers
@@ -97,8 +83,8 @@ module _ (names : List (ℕ × Bytes)) where
       by : (t : Bool) → (x.0 == p.0) ≡ t → (Has xs p → pushed_before (map (entry names) xs) p.0 ≡ map (entry names) (lesser p.1.number xs))
           → cond t [] (entry names x ∷ pushed_before (map (entry names) xs) p.0) ≡ map (entry names) (lesser p.1.number (x ∷ xs))
       by true e rest =
-          let same = head_is x p xs s h (equal x.0 p.0 e) in
-          sym (ap (map (entry names)) (filter_out (λ (q : ℕ × Cell). nat_lt q.1.number p.1.number) (x ∷ xs)
+          let same = head_is x p xs s h (eqb-true x.0 p.0 e) in
+          sym (ap (map (entry names)) (filter_none (λ (q : ℕ × Cell). nat_lt q.1.number p.1.number) (x ∷ xs)
           (own same, all_map (Rise x) (λ (q : ℕ × Cell). nat_lt q.1.number p.1.number ≡ false) xs (λ q lt. higher same q lt) num.0)))
         where
           own : x ≡ p → nat_lt x.1.number p.1.number ≡ false
@@ -106,7 +92,7 @@ module _ (names : List (ℕ × Bytes)) where
 
           higher : x ≡ p → (q : ℕ × Cell) → x.1.number < q.1.number → nat_lt q.1.number p.1.number ≡ false
           higher f q lt = let n : x.1.number ≡ p.1.number = ap (λ (y : ℕ × Cell). y.1.number) f in below_false _ _ (omega (arith, n, lt))
-      by false e rest = pass (nat_lt x.1.number p.1.number) (below_true _ _ (all_get (Rise x) xs num.0 p (tail_has x p xs h (unequal x.0 p.0 e)))) (rest (tail_has x p xs h (unequal x.0 p.0 e)))
+      by false e rest = pass (nat_lt x.1.number p.1.number) (lt-ltb _ _ (all_get (Rise x) xs num.0 p (tail_has x p xs h (unequal x.0 p.0 e)))) (rest (tail_has x p xs h (unequal x.0 p.0 e)))
         where
           pass : (t : Bool) → t ≡ true → pushed_before (map (entry names) xs) p.0 ≡ map (entry names) (lesser p.1.number xs)
               → entry names x ∷ pushed_before (map (entry names) xs) p.0 ≡ map (entry names) (cond t (x ∷ lesser p.1.number xs) (lesser p.1.number xs))
@@ -121,7 +107,7 @@ module _ (names : List (ℕ × Bytes)) where
       by : (t : Bool) → (x.0 == p.0) ≡ t → (Has xs p → pushed_after (map (entry names) xs) p.0 ≡ map (entry names) (greater p.1.number xs))
           → cond t (map (entry names) xs) (pushed_after (map (entry names) xs) p.0) ≡ map (entry names) (greater p.1.number (x ∷ xs))
       by true e rest =
-          let same = head_is x p xs s h (equal x.0 p.0 e) in
+          let same = head_is x p xs s h (eqb-true x.0 p.0 e) in
           ap (map (entry names)) (sym (pass (nat_lt p.1.number x.1.number) (own same)
           (filter_in (λ (q : ℕ × Cell). nat_lt p.1.number q.1.number) xs (all_map (Rise x) (λ (q : ℕ × Cell). nat_lt p.1.number q.1.number ≡ true) xs (λ q lt. higher same q lt) num.0))))
         where
@@ -129,7 +115,7 @@ module _ (names : List (ℕ × Bytes)) where
           own f = let n : x.1.number ≡ p.1.number = ap (λ (y : ℕ × Cell). y.1.number) f in below_false _ _ (omega (arith, n))
 
           higher : x ≡ p → (q : ℕ × Cell) → x.1.number < q.1.number → nat_lt p.1.number q.1.number ≡ true
-          higher f q lt = let n : x.1.number ≡ p.1.number = ap (λ (y : ℕ × Cell). y.1.number) f in below_true _ _ (omega (arith, n, lt))
+          higher f q lt = let n : x.1.number ≡ p.1.number = ap (λ (y : ℕ × Cell). y.1.number) f in lt-ltb _ _ (omega (arith, n, lt))
 
           pass : (t : Bool) → t ≡ false → greater p.1.number xs ≡ xs → cond t (x ∷ greater p.1.number xs) (greater p.1.number xs) ≡ xs
           pass true f g = cc
@@ -185,8 +171,8 @@ module _ (names : List (ℕ × Bytes)) where
       by false e = e
 
   -- nothing of a list with a greater number clashes with both
-  abbrev pub IsFree : ℕ × Cell → List (ℕ × Cell) → ℕ × Cell → Type 0
-  IsFree x B b = (m : ℕ × Cell) → Has B m → b.1.number < m.1.number → meets b m ≡ true → ¬ (meets m x ≡ true)
+  abbrev pub IsFreeOfBoth : ℕ × Cell → List (ℕ × Cell) → ℕ × Cell → Type 0
+  IsFreeOfBoth x B b = (m : ℕ × Cell) → Has B m → b.1.number < m.1.number → meets b m ≡ true → ¬ (meets m x ≡ true)
 
   and_both : (s t : Bool) → s ≡ true → t ≡ true → (s && t) ≡ true
   and_both true true e f = refl
@@ -217,39 +203,39 @@ module _ (names : List (ℕ × Bytes)) where
   free_to x b later f = true_of_not _ (λ e. let r = any_get (λ m. (meets b m && meets m x) ≡ true) later (any_of_test (λ m. meets b m && meets m x) later e) in
       f r.0 r.1 (and_left (meets b r.0) (meets r.0 x) r.2) (and_right (meets b r.0) (meets r.0 x) r.2))
 
-  pub of_near : (x : ℕ × Cell) (B : List (ℕ × Cell)) → EachThen Rise B → (b : ℕ × Cell) → Has (near_in x B) b → Has B b × (meets b x ≡ true) × IsFree x B b
+  pub of_near : (x : ℕ × Cell) (B : List (ℕ × Cell)) → EachThen Rise B → (b : ℕ × Cell) → Has (near_in x B) b → Has B b × (meets b x ≡ true) × IsFreeOfBoth x B b
   of_near x [] num b h = absurd h
   of_near x (y ∷ later) num b h = by (meets y x && is_free x y later) refl h (λ g. of_near x later num.1 b g)
     where
       lower : Has later b → y.1.number < b.1.number
       lower g = all_get (Rise y) later num.0 b g
 
-      by : (t : Bool) → (meets y x && is_free x y later) ≡ t → Has (cond t (y ∷ near_in x later) (near_in x later)) b → (Has (near_in x later) b → Has later b × (meets b x ≡ true) × IsFree x later b)
-          → Has (y ∷ later) b × (meets b x ≡ true) × IsFree x (y ∷ later) b
+      by : (t : Bool) → (meets y x && is_free x y later) ≡ t → Has (cond t (y ∷ near_in x later) (near_in x later)) b → (Has (near_in x later) b → Has later b × (meets b x ≡ true) × IsFreeOfBoth x later b)
+          → Has (y ∷ later) b × (meets b x ≡ true) × IsFreeOfBoth x (y ∷ later) b
       by true e (inl f) rest = (
         inl f,
         subst (λ z. meets z x ≡ true) f (and_left _ _ e),
-        subst (IsFree x (y ∷ later)) f (λ m g lt s. elim g [ inl same ↦ absurd (self m same lt) | inr k ↦ free_of x y later (and_right (meets y x) _ e) m k s ]),
+        subst (IsFreeOfBoth x (y ∷ later)) f (λ m g lt s. elim g [ inl same ↦ absurd (self m same lt) | inr k ↦ free_of x y later (and_right (meets y x) _ e) m k s ]),
       )
         where
           self : (m : ℕ × Cell) → y ≡ m → y.1.number < m.1.number → ⊥
           self m same lt = omega (arith, lt, ap (λ (z : ℕ × Cell). z.1.number) same)
       by true e (inr g) rest = more (rest g)
         where
-          more : Has later b × (meets b x ≡ true) × IsFree x later b → Has (y ∷ later) b × (meets b x ≡ true) × IsFree x (y ∷ later) b
+          more : Has later b × (meets b x ≡ true) × IsFreeOfBoth x later b → Has (y ∷ later) b × (meets b x ≡ true) × IsFreeOfBoth x (y ∷ later) b
           more r = (inr r.0, r.1, λ m k lt s. elim k [ inl same ↦ absurd (behind m same lt (lower r.0)) | inr j ↦ r.2 m j lt s ])
             where
               behind : (m : ℕ × Cell) → y ≡ m → b.1.number < m.1.number → y.1.number < b.1.number → ⊥
               behind m same lt le = omega (arith, lt, le, ap (λ (z : ℕ × Cell). z.1.number) same)
       by false e g rest = more (rest g)
         where
-          more : Has later b × (meets b x ≡ true) × IsFree x later b → Has (y ∷ later) b × (meets b x ≡ true) × IsFree x (y ∷ later) b
+          more : Has later b × (meets b x ≡ true) × IsFreeOfBoth x later b → Has (y ∷ later) b × (meets b x ≡ true) × IsFreeOfBoth x (y ∷ later) b
           more r = (inr r.0, r.1, λ m k lt s. elim k [ inl same ↦ absurd (behind m same lt (lower r.0)) | inr j ↦ r.2 m j lt s ])
             where
               behind : (m : ℕ × Cell) → y ≡ m → b.1.number < m.1.number → y.1.number < b.1.number → ⊥
               behind m same lt le = omega (arith, lt, le, ap (λ (z : ℕ × Cell). z.1.number) same)
 
-  pub to_near : (x : ℕ × Cell) (B : List (ℕ × Cell)) → EachThen Rise B → (b : ℕ × Cell) → Has B b → meets b x ≡ true → IsFree x B b → Has (near_in x B) b
+  pub to_near : (x : ℕ × Cell) (B : List (ℕ × Cell)) → EachThen Rise B → (b : ℕ × Cell) → Has B b → meets b x ≡ true → IsFreeOfBoth x B b → Has (near_in x B) b
   to_near x [] num b h e free = absurd h
   to_near x (y ∷ later) num b h e free = by (meets y x && is_free x y later) refl h (λ g. to_near x later num.1 b g e (λ m k. free m (inr k)))
     where

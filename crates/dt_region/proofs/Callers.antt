@@ -1,9 +1,10 @@
 -- What the proofs of crates above may cite of this crate; they cite nothing else of its proofs.
-pub use Rattle.dt_region.proofs.Held.{held_id, held_homes}
-pub use Rattle.dt_region.proofs.Logs.{fronts_few, fronts_length, log_few, log_none, number_none}
+pub use Rattle.dt_region.proofs.HeldTransactions.{held_id, held_homes}
+pub use Rattle.dt_region.proofs.Logs.{fronts_few, fronts_length, log_few, number_none}
 pub use Rattle.dt_region.proofs.Rule3Deliver.{all_drop}
 pub use Rattle.dt_region.proofs.Rule6Execute.{executable_held}
 pub use Rattle.dt_region.proofs.Stamps.{kept_more, latest_more}
-pub use Rattle.dt_region.proofs.Drained.{HasInserted, has_all, has_inserted, has_one_more}
+pub use Rattle.dt_region.proofs.Drained.{HasInserted}
 pub use Rattle.dt_region.proofs.StepSound.{step_sound}
-pub use Rattle.dt_region.proofs.Leaving.{execute_leaves, insert_leaves, resolve_leaves}
+pub use Rattle.dt_region.proofs.ExecutableStays.{execute_leaves, insert_leaves, resolve_leaves}
+pub use Rattle.dt_region.proofs.ViewOfRegion.{under}

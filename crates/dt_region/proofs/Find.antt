@@ -28,10 +28,6 @@ pub hold_there : (es : List (TxnId × Txn)) (txn : Txn) → AreKeyed es → is_s
 hold_there es txn keyed there =
     ap (λ b. cond b (map (λ e. e.1) es) (map (λ e. e.1) es ++ txn ∷ [])) (sym there ∙ ap is_some (find_keyed es txn.id keyed))
 
-none_of_test : {A : Type 0} (o : Option A) → is_some o ≡ false → o ≡ None
-none_of_test None e = refl
-none_of_test (Some x) e = cc
-
 pub absent : (es : List (TxnId × Txn)) (txn : Txn) → is_some (lookup (same_id txn.id) es) ≡ false → insert_entry same_id es txn.id txn ≡ es ++ (txn.id, txn) ∷ []
 absent [] txn none = refl
 absent (e ∷ es) txn none =

@@ -1,11 +1,11 @@
 pub mod Callers
 pub mod Find
-pub mod Held
+pub mod HeldTransactions
 pub mod Logs
 pub mod Tables
-pub mod Asked
+pub mod RequestsUndone
 pub mod Order
-pub mod Seen
+pub mod ViewOfRegion
 pub mod OpeningRegion
 pub mod Rule1Submit
 pub mod Rule2Append
@@ -17,4 +17,4 @@ pub mod Drained
 pub mod Stamps
 pub mod Stock
 pub mod StepSound
-pub mod Leaving
+pub mod ExecutableStays

@@ -1,7 +1,7 @@
 -- Logs and their inserted fronts: what they come to while logs grow and parts are inserted.
 use Rattle.std.proofs.Common.{◌≡◌, ◌<◌, ◌≤◌, ◌+◌, ℕ, zero, suc, List, [], ◌∷◌, ◌++◌, length, length-append, set, take, replicate, slice_get, Some, refl, sym, ap, ◌∙◌, inl, inr, arith}
 use Rattle.std.specs.Prelude.{slice_index}
-use Rattle.std.proofs.lemmas.List.Sums.{sum_by-append, sum_by-set}
+use Rattle.std.proofs.lemmas.List.Sums.{sum_by-set}
 use Rattle.dt_lists.specs.Lists.{AllIn, Distinct}
 use Rattle.dt_lists.proofs.Callers.{all_get, has_map}
 use Rattle.dt_lists.proofs.Callers.{has_place}
@@ -9,21 +9,14 @@ use Rattle.dt_access.specs.declared.Part.{Part}
 use Rattle.dt_sched.specs.Views.{View, log_at, ids_of, HasPart}
 use Rattle.dt_sched.specs.Sched.{parts_in, with_part}
 use Rattle.dt_txn.specs.Replica.{fronts}
+use Rattle.dt_sched.proofs.Callers.{parts_cons}
 
 -- before anything happens
-
-pub log_none : (regions home : ℕ) → ◌≡◌ {A = List Part} (log_at (replicate regions []) home) []
-log_none zero home = refl
-log_none (suc regions) zero = refl
-log_none (suc regions) (suc home) = log_none regions home
 
 pub number_none : (regions home : ℕ) → slice_index (replicate regions 0) home ≡ 0
 number_none zero home = refl
 number_none (suc regions) zero = refl
 number_none (suc regions) (suc home) = number_none regions home
-
-parts_cons : (log : List Part) (logs : View) → parts_in (log ∷ logs) ≡ length log + parts_in logs
-parts_cons log logs = let e : parts_in (log ∷ logs) ≡ 0 + length log + parts_in logs = sum_by-append length (log ∷ []) logs in omega (arith, e)
 
 pub parts_none : (regions : ℕ) → parts_in (replicate regions []) ≡ 0
 parts_none zero = refl
@@ -74,8 +67,8 @@ fronts_few lengths [] = omega arith
 fronts_few [] (log ∷ logs) = let later = fronts_few [] logs in rw (parts_cons [] (fronts [] logs), parts_cons log logs) (omega (arith, later))
 fronts_few (n ∷ lengths) (log ∷ logs) = let first = take_few log n in let later = fronts_few lengths logs in rw (parts_cons (take n log) (fronts lengths logs), parts_cons log logs) (omega (arith, first, later))
 
-pub parts_with : (logs : View) (part : Part) → part.home < length logs → parts_in (with_part logs part) ≡ parts_in logs + 1
-parts_with logs part lt =
+pub parts_one_more : (logs : View) (part : Part) → part.home < length logs → parts_in (with_part logs part) ≡ parts_in logs + 1
+parts_one_more logs part lt =
     let e = sum_by-set length logs part.home (log_at logs part.home ++ part ∷ []) [] lt in
     let f = length-append (log_at logs part.home) (part ∷ []) in
     omega (arith, e, f)

@@ -5,7 +5,7 @@ use Rattle.dt_lists.specs.Lists.{AllIn, Distinct}
 use Rattle.dt_sched.specs.Views.{View, ids_of}
 use Rattle.dt_sched.specs.Decide.{IsSound}
 use Rattle.dt_sched.specs.Sched.{Sched, nothing_yet}
-use Rattle.dt_sched.proofs.Callers.{sound_at_first}
+use Rattle.dt_sched.proofs.Callers.{sound_at_first, empty_log}
 use Rattle.dt_table.specs.Table.{Table}
 use Rattle.dt_txn.specs.declared.txn.Txn.{Txn}
 use Rattle.dt_txn.specs.declared.outcome.Outcome.{Outcome}
@@ -15,7 +15,7 @@ use Rattle.dt_region.specs.Rules.{opening_state}
 use Rattle.dt_region.specs.Conditions.{IsTableFor}
 use Rattle.dt_region.specs.Sound.{IsSoundRegion, IsHeldPart}
 use Rattle.dt_region.specs.RegionInner.{AreWell}
-use Rattle.dt_region.proofs.Logs.{log_none, number_none, parts_none, fronts_none}
+use Rattle.dt_region.proofs.Logs.{number_none, parts_none, fronts_none}
 
 pub opening_sound : (number regions : ℕ) (table : Table) → number < regions → regions ≤ 8 → IsTableFor regions table → IsSoundRegion (opening_state number regions table)
 opening_sound number regions table below few fits = record {
@@ -29,8 +29,8 @@ opening_sound number regions table below few fits = record {
   foreign = tt;
   submitted_homes = tt;
   foreign_homes = tt;
-  once = λ home. subst (λ log. Distinct (ids_of log)) (sym (log_none regions home)) tt;
-  parts = λ home. subst (AllIn (IsHeldPart (opening_state number regions table) home)) (sym (log_none regions home)) tt;
+  once = λ home. subst (λ log. Distinct (ids_of log)) (sym (empty_log regions home)) tt;
+  parts = λ home. subst (AllIn (IsHeldPart (opening_state number regions table) home)) (sym (empty_log regions home)) tt;
   few = let none = parts_none regions in omega (arith, none);
   taken_few = λ source. let none = number_none regions source in omega (arith, none);
   inserted_few = λ home. let none = number_none regions home in omega (arith, none);

@@ -7,6 +7,3 @@ use Rattle.dt_access.proofs.Callers.{before_transitive}
 
 pub ascent_on : (a b : TxnId) (ids : List TxnId) → Before a b → AreAscending (a ∷ b ∷ ids) ↔ AreAscending (b ∷ ids)
 ascent_on a b ids before = (λ h. h.1, λ h. ((before, all_map (Before b) (Before a) ids (λ x k. before_transitive a b x before k) h.0), h))
-
-pub ascent_ends : (a b : TxnId) (ids : List TxnId) → ¬ (Before a b) → ¬ (AreAscending (a ∷ b ∷ ids))
-ascent_ends a b ids not h = not h.0.0

@@ -1,5 +1,5 @@
 -- Rule 1: what a submission makes of a region's fields is what the rule says, and keeps the region sound.
-use Rattle.std.proofs.Common.{◌≡◌, ◌<◌, ◌+◌, ℕ, Ok, List, [], ◌∷◌, ◌++◌, length, Option, Some, None, cond, slice_get, refl, sym, ap, ap₂, subst, ◌∙◌, inl, inr, arith}
+use Rattle.std.proofs.Common.{◌≡◌, ◌<◌, ◌+◌, ℕ, List, [], ◌∷◌, ◌++◌, length, Option, Some, None, cond, slice_get, refl, sym, ap, ap₂, subst, ◌∙◌, inl, inr, arith}
 use Rattle.std.proofs.lemmas.Option.{slice_get_past}
 use Rattle.dt_lists.specs.Lists.{AllIn}
 use Rattle.dt_lists.proofs.Callers.{all_map}
@@ -8,18 +8,17 @@ use Rattle.dt_access.specs.declared.TxnId.{TxnId}
 use Rattle.dt_sched.specs.Views.{log_at}
 use Rattle.dt_sched.specs.Sched.{Sched}
 use Rattle.dt_events.specs.declared.Stamped.{Stamped}
-use Rattle.dt_events.specs.declared.Event.TheVariants.{Submit}
 use Rattle.dt_txn.specs.declared.txn.Body.{Body}
 use Rattle.dt_txn.specs.declared.txn.Txn.{Txn}
 use Rattle.dt_proc.specs.Tree.{ProcTree}
 use Rattle.dt_txn.specs.Transaction.{annotate, homes_of, BodyFits, IsValid}
 use Rattle.dt_txn.specs.Asking.{ask}
 use Rattle.dt_txn.proofs.Callers.{ask_length}
-use Rattle.dt_region.specs.Region.{RegionState, RegionView, latest_stamp, find_txn, held}
-use Rattle.dt_region.specs.Rules.{id_for, txn_for, after_submit, MakesSubmit}
+use Rattle.dt_region.specs.Region.{RegionState, RegionView, find_txn, held}
+use Rattle.dt_region.specs.Rules.{id_for, txn_for, after_submit}
 use Rattle.dt_region.specs.Sound.{AreCounted, IsSoundRegion, IsHeldPart}
 use Rattle.dt_region.specs.RegionInner.{AreWell}
-use Rattle.dt_region.proofs.Seen.{IsSeenAs, kept_under, under}
+use Rattle.dt_region.proofs.ViewOfRegion.{IsSeenAs}
 use Rattle.dt_region.proofs.Find.{found_or_none, find_left, find_right, find_only, counted_at, apart}
 use Rattle.dt_access.proofs.Callers.{test_of_other}
 use Rattle.dt_region.proofs.Tables.{annotate_valid}
@@ -99,10 +98,3 @@ module _ (procs : List ProcTree) (r : RegionView) (s : RegionState) (events : Li
 
     pub submit_keeps : AreWell (made submitted asked) seen
     submit_keeps = subst (λ x. AreWell x seen) (sym submit_is) (submit_sound procs s stands.well.0 rank body fits_here, stands.well.1)
-
-    pub submit_made : (session : List ℕ) (stamp : ℕ) (is_next : stamp ≡ latest_stamp r + 1) (after : List Stamped)
-        → after ≡ events ++ under stamp (Submit s.number session) ∷ []
-        → MakesSubmit procs r session rank body (Ok id) (record { state = made submitted asked; events = after; heard = heard; room = room })
-    submit_made session stamp is_next after kept =
-        subst (λ x. MakesSubmit procs x session rank body (Ok id) (record { state = made submitted asked; events = after; heard = heard; room = room })) stands.view
-        (i, λ j. record { state = submit_is j; events = kept_under stands (Submit s.number session) stamp after is_next kept j; heard = heard; room = room })

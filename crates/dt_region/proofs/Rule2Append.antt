@@ -23,10 +23,10 @@ use Rattle.dt_region.specs.Rules.{keep, after_append, MakesAppend}
 use Rattle.dt_region.specs.Conditions.{CanAppend}
 use Rattle.dt_region.specs.Sound.{AreCounted, IsSoundRegion, IsHeldPart}
 use Rattle.dt_region.specs.RegionInner.{AreWell}
-use Rattle.dt_region.proofs.Seen.{IsSeenAs, kept_under, under}
-use Rattle.dt_region.proofs.Held.{hold_keeps, hold_holds, hold_foreign, hold_homes}
+use Rattle.dt_region.proofs.ViewOfRegion.{IsSeenAs, kept_under, under}
+use Rattle.dt_region.proofs.HeldTransactions.{hold_keeps, hold_holds, hold_foreign, hold_homes}
 use Rattle.dt_txn.proofs.Callers.{fronts_grown}
-use Rattle.dt_region.proofs.Logs.{log_few, parts_with}
+use Rattle.dt_region.proofs.Logs.{log_few, parts_one_more}
 
 ids_more : (log : List Part) (part : Part) → ids_of (log ++ part ∷ []) ≡ ids_of log ++ part.id ∷ []
 ids_more [] part = refl
@@ -135,7 +135,7 @@ module _ (r : RegionView) (s : RegionState) (events : List Stamped) (heard room 
   pub append_room : (length (log_at s.logs s.number) + 1 < 2 ^ 32) × (number + 1 < 2 ^ 32)
   append_room =
       let a = log_few s.logs s.number in
-      let b = parts_with s.logs (part_of txn s.number) (subst (λ n. s.number < n) (sym stands.well.0.logs) stands.well.0.number) in
+      let b = parts_one_more s.logs (part_of txn s.number) (subst (λ n. s.number < n) (sym stands.well.0.logs) stands.well.0.number) in
       let c = can_here.few turn_here in
       let d = stands.well.0.taken_few source in
       let room : length (log_at s.logs s.number) + 1 < 2 ^ 32 = omega (arith, a, b, c) in

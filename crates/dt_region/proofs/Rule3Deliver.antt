@@ -23,8 +23,8 @@ use Rattle.dt_region.specs.Rules.{keep_all, past_end, with_entries, after_delive
 use Rattle.dt_region.specs.Conditions.{CanDeliver, Agrees, HasHomesIn, IsPartOf}
 use Rattle.dt_region.specs.Sound.{IsSoundRegion, IsHeldPart, AreCounted}
 use Rattle.dt_region.specs.RegionInner.{AreWell}
-use Rattle.dt_region.proofs.Seen.{IsSeenAs, kept_under, under}
-use Rattle.dt_region.proofs.Held.{hold_all_keeps, hold_all_holds, hold_all_foreign, hold_all_homes}
+use Rattle.dt_region.proofs.ViewOfRegion.{IsSeenAs, kept_under, under}
+use Rattle.dt_region.proofs.HeldTransactions.{hold_all_keeps, hold_all_holds, hold_all_foreign, hold_all_homes}
 use Rattle.dt_txn.proofs.Callers.{fronts_grown}
 use Rattle.dt_region.proofs.Logs.{log_few}
 
@@ -213,10 +213,6 @@ module _ (r : RegionView) (s : RegionState) (events : List Stamped) (heard room 
           let held_is : foreign ≡ keep_all s.submitted s.foreign (map (λ e. e.txn) (past_end log_here first entries)) = keeps s.submitted stands.well.0.counted (own (count - new)) ∙ ap (keep_all s.submitted s.foreign) new_txns in
           let grown : logs ≡ set s.logs home (with_entries log_here first entries) = others ∙ ap (set s.logs home) (took.3 ∙ ap (λ x. log_here ++ x) new_parts) in
           ap₂ made held_is grown
-
-      -- the delivery's end is a place of 32 bits
-      pub new_room : first + count < 2 ^ 32
-      new_room = deliver_room took.0
 
       pub new_keeps : AreWell (made foreign logs) seen
       new_keeps = subst (λ x. AreWell x seen) (sym deliver_is) (deliver_well s stands.well.0 home first entries known_here can_here took.0 seen stands.well.1)

@@ -22,10 +22,10 @@ use Rattle.dt_region.specs.Region.{RegionState, RegionView, latest_stamp, held, 
 use Rattle.dt_region.specs.Rules.{after_step, MakesStep}
 use Rattle.dt_region.specs.Sound.{IsSoundRegion, IsHeldPart}
 use Rattle.dt_region.specs.RegionInner.{AreWell}
-use Rattle.dt_region.proofs.Seen.{IsSeenAs, kept_under, under}
-use Rattle.dt_region.proofs.Held.{held_homes, view_parts}
+use Rattle.dt_region.proofs.ViewOfRegion.{IsSeenAs, kept_under, under}
+use Rattle.dt_region.proofs.HeldTransactions.{held_homes, view_parts}
 use Rattle.dt_txn.proofs.Callers.{fronts_at}
-use Rattle.dt_region.proofs.Logs.{fronts_length, fronts_insert, fronts_few, parts_with, next_fresh, all_logs, log_few}
+use Rattle.dt_region.proofs.Logs.{fronts_length, fronts_insert, fronts_few, parts_one_more, next_fresh, all_logs, log_few}
 
 module _ (s : RegionState) (sound : IsSoundRegion s) (home : ℕ) (part : Part) (known : home < s.regions) (next : slice_get (log_at s.logs home) (slice_index s.here.inserted home) ≡ Some part) where
   abbrev sight : View
@@ -51,7 +51,7 @@ module _ (s : RegionState) (sound : IsSoundRegion s) (home : ℕ) (part : Part) 
 
   room : parts_in sight < 4294967295
   room =
-      let a : parts_in (with_part sight part) ≡ parts_in sight + 1 = parts_with sight part (subst (λ h. h < length sight) (sym part_home) (subst (λ n. home < n) (sym length_view) known)) in
+      let a : parts_in (with_part sight part) ≡ parts_in sight + 1 = parts_one_more sight part (subst (λ h. h < length sight) (sym part_home) (subst (λ n. home < n) (sym length_view) known)) in
       let b : parts_in (fronts lengths s.logs) ≤ parts_in s.logs = fronts_few lengths s.logs in
       let c : parts_in (fronts lengths s.logs) ≡ parts_in (with_part sight part) = ap parts_in view_now in
       let d = sound.few in

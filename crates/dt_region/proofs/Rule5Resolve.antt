@@ -1,17 +1,15 @@
 -- Rule 5: what a resolution makes of a region's fields is what the rule says, and keeps the region sound. Its scheduler
 -- goes along.
-use Rattle.std.proofs.Common.{◌≡◌, ◌+◌, ℕ, Ok, true, List, [], ◌∷◌, ◌++◌, sym, ap, subst, ◌∙◌}
+use Rattle.std.proofs.Common.{◌≡◌, ℕ, List, [], ◌∷◌, ◌++◌, sym, ap, subst, ◌∙◌}
 use Rattle.dt_access.specs.declared.TxnId.{TxnId}
 use Rattle.dt_events.specs.declared.Stamped.{Stamped}
-use Rattle.dt_events.specs.declared.Event.TheVariants.{Resolve}
 use Rattle.dt_sched.specs.Sched.{Sched, CanResolve, after_resolve}
 use Rattle.dt_sched.proofs.Callers.{sound_resolve}
 use Rattle.dt_txn.specs.Replica.{view_of, done_ids}
-use Rattle.dt_region.specs.Region.{RegionState, RegionView, latest_stamp, sched_of}
-use Rattle.dt_region.specs.Rules.{MakesStep}
+use Rattle.dt_region.specs.Region.{RegionState, RegionView, sched_of}
 use Rattle.dt_region.specs.Sound.{IsSoundRegion}
 use Rattle.dt_region.specs.RegionInner.{AreWell}
-use Rattle.dt_region.proofs.Seen.{IsSeenAs, kept_under, under}
+use Rattle.dt_region.proofs.ViewOfRegion.{IsSeenAs}
 
 pub resolve_sound : (s : RegionState) → IsSoundRegion s → (ids : List TxnId) → CanResolve (sched_of s.logs s.here) ids → IsSoundRegion (record s { here = record s.here { resolved = s.here.resolved ++ ids ∷ [] } })
 resolve_sound s sound ids may = record {
@@ -49,10 +47,3 @@ module _ (r : RegionView) (s : RegionState) (events : List Stamped) (heard room 
 
     pub resolve_keeps : AreWell (made now) now
     resolve_keeps = subst (λ x. AreWell x now) (sym (ap made now_is)) (resolve_sound s stands.well.0 ids may, now_is)
-
-    pub resolve_made : (stamp : ℕ) (is_next : stamp ≡ latest_stamp r + 1) (after : List Stamped)
-        → after ≡ events ++ under stamp (Resolve s.number ids) ∷ []
-        → MakesStep [] r (Resolve r.state.number ids) (Ok true) (record { state = made now; events = after; heard = heard; room = room })
-    resolve_made stamp is_next after kept =
-        subst (λ x. MakesStep [] x (Resolve x.state.number ids) (Ok true) (record { state = made now; events = after; heard = heard; room = room })) stands.view
-        (may, λ j. record { state = made (now_is j); events = kept_under stands (Resolve s.number ids) stamp after is_next kept j; heard = heard; room = room })

@@ -1,6 +1,6 @@
 -- Rule 6: what an execution makes of a region's fields is what the rule says, and keeps the region sound. Its scheduler
 -- goes along.
-use Rattle.std.proofs.Common.{◌≡◌, ◌<◌, ◌≤◌, ◌+◌, ◌-◌, arith, ℕ, Ok, true, List, [], ◌∷◌, ◌++◌, map, Some, refl, sym, ap, subst, ◌∙◌}
+use Rattle.std.proofs.Common.{◌≡◌, ◌≤◌, ◌+◌, ◌-◌, arith, ℕ, Ok, true, List, [], ◌∷◌, ◌++◌, map, Some, refl, sym, ap, subst, ◌∙◌}
 use Rattle.dt_lists.specs.Lists.{Has}
 use Rattle.dt_access.specs.declared.Part.{Part}
 use Rattle.dt_access.specs.declared.TxnId.{TxnId}
@@ -24,8 +24,8 @@ use Rattle.dt_region.specs.Rules.{after_finishing, after_step, with_event, Makes
 use Rattle.dt_region.specs.Conditions.{CanMove, HoldsValid}
 use Rattle.dt_region.specs.Sound.{IsSoundRegion, IsHeldPart}
 use Rattle.dt_region.specs.RegionInner.{AreWell}
-use Rattle.dt_region.proofs.Seen.{IsSeenAs, kept_under, under}
-use Rattle.dt_region.proofs.Held.{held_id, view_parts}
+use Rattle.dt_region.proofs.ViewOfRegion.{IsSeenAs, kept_under, under}
+use Rattle.dt_region.proofs.HeldTransactions.{held_id, view_parts}
 use Rattle.dt_region.proofs.Tables.{after_table, one_place}
 
 -- what is executable is held

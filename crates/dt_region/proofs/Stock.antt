@@ -1,6 +1,6 @@
 -- The room of a region: its stores still have places for as many executions when one event more was kept, and for one less
 -- when one was finished.
-use Rattle.std.proofs.Common.{◌≡◌, ◌≤◌, ◌<◌, ◌+◌, ◌-◌, ◌*◌, ◌^◌, ℕ, max, arith}
+use Rattle.std.proofs.Common.{◌≤◌, ◌+◌, ◌-◌, ℕ, arith}
 use Rattle.dt_region.specs.RegionInner.{HasStock}
 
 -- an event more is kept, for which a place was made beside those of the room

@@ -35,12 +35,12 @@
 #![tactic(auto)]
 
 mod ascent;
-mod asking;
 mod entries;
 mod execution;
 mod foreign;
 mod kept;
 mod opening;
 mod region;
+mod requests;
 
 pub use region::Region;

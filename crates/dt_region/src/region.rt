@@ -16,19 +16,19 @@ ghost use Rattle.dt_region.specs.Conditions.{IsTableFor, CanAppend, CanDeliver, 
 ghost use Rattle.dt_region.specs.Sound.{IsSoundRegion};
 
 use crate::ascent::are_ascending;
-use crate::asking::ask;
 use crate::entries::{keep_last, parts_and_txns, place, take};
 use crate::execution::note_outcome;
 use crate::foreign::Foreign;
 use crate::kept::Kept;
 use crate::opening::{no_counts, no_ids, no_parts};
+use crate::requests::ask;
 use dt_access::{Ids, TxnId};
 use dt_events::{Event, Stamped};
 use dt_log::{Log, Taken};
 use dt_proc::Procs;
 use dt_sched::Scheduler;
 use dt_table::{Effect, Table};
-use dt_text::{Name, NoMemory};
+use dt_text::{Common, Name, NoMemory};
 use dt_txn::{Body, Entry, Outcome, Txn, annotate, execute, homes, part_at};
 use indexmap::IndexMap;
 use std::alloc::Global;
@@ -385,7 +385,7 @@ impl<S: Scheduler> Region<S> {
         let stamp = self.next_stamp();
         let event = Event::Resolve {
             region: self.number,
-            ids: Ids::from_vec(ids.to_vec(alloc)?),
+            ids: Common::new(alloc, Ids::from_vec(ids.to_vec(alloc)?))?,
         };
         self.events.reserve(self.room as usize + 1)?;
         self.scheduler.resolve(alloc, ids)?;

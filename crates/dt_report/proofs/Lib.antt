@@ -1,2 +1,2 @@
-mod Appended
+mod WordsAndLines
 mod EventsOfText

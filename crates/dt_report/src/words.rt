@@ -2,7 +2,7 @@ ghost use Rattle.std.specs.Prelude.{◌≡◌, ◌++◌, ◌∷◌, [], OnOk, ma
 ghost use Rattle.std.specs.Fmt.{decimal};
 ghost use Rattle.dt_access.specs.Ids.{id_text};
 ghost use Rattle.dt_report.specs.Report.{cause_word, outcome_words, value_word};
-ghost use Rattle.dt_report.specs.WordsInner.{spaced};
+ghost use Rattle.dt_text.specs.Words.{spaced};
 
 use dt_access::{TxnId, put_id};
 use dt_eval::Cause;

@@ -1,6 +1,6 @@
 -- What one step counts: it is one more, it leaves the version of the table, and it moves a unit once at most, if it does one
 -- transaction more.
-use Rattle.std.proofs.Common.{◌≡◌, ◌<◌, ◌≤◌, ◌+◌, ℕ, suc, List, [], ◌∷◌, ◌++◌, length, set, Option, Some, refl, sym, ap, subst, inl, inr, arith}
+use Rattle.std.proofs.Common.{◌≡◌, ◌<◌, ◌≤◌, ◌+◌, ℕ, suc, List, [], ◌∷◌, ◌++◌, length, set, Some, refl, sym, ap, subst, inl, inr, arith}
 use Rattle.std.specs.Prelude.{slice_index, sum}
 use Rattle.std.proofs.lemmas.List.{get_or_past, length-append}
 use Rattle.std.proofs.lemmas.List.Sums.{sum_by-set}
@@ -24,7 +24,7 @@ use Rattle.dt_region.proofs.Callers.{executable_held}
 use Rattle.dt_round.specs.Steps.{steps_of}
 
 -- a replica has become another by one step
-pub record IsCounted (here next : Replica) : Type 0 where
+pub record IsOneStepOn (here next : Replica) : Type 0 where
   pub more : steps_of next ≡ steps_of here + 1
   pub version : next.table.version ≡ here.table.version
   pub moves : (key : Bytes) → counter_of next.table key + length here.done ≤ counter_of here.table key + length next.done
@@ -43,7 +43,7 @@ module _ (procs : List ProcTree) (s : RegionState) (sound : IsSoundRegion s) whe
           let empty : length (log_at s.logs home) ≡ 0 = ap length none in
           absurd (omega (arith, lt, empty))
 
-  inserts : (region home : ℕ) → MayMake s (Insert region home) → IsCounted s.here (stepped procs (held s) s.here (Insert region home))
+  inserts : (region home : ℕ) → MayMake s (Insert region home) → IsOneStepOn s.here (stepped procs (held s) s.here (Insert region home))
   inserts region home may = record {
     more =
         let more : sum (set s.here.inserted home (slice_index s.here.inserted home + 1)) + slice_index s.here.inserted home ≡ sum s.here.inserted + (slice_index s.here.inserted home + 1) =
@@ -53,14 +53,14 @@ module _ (procs : List ProcTree) (s : RegionState) (sound : IsSoundRegion s) whe
     moves = λ key. omega arith;
   }
 
-  resolves : (region : ℕ) (ids : List TxnId) → IsCounted s.here (stepped procs (held s) s.here (Resolve region ids))
+  resolves : (region : ℕ) (ids : List TxnId) → IsOneStepOn s.here (stepped procs (held s) s.here (Resolve region ids))
   resolves region ids = record {
     more = let more : length (s.here.resolved ++ ids ∷ []) ≡ length s.here.resolved + 1 = length-append s.here.resolved (ids ∷ []) in omega (arith, more);
     version = refl;
     moves = λ key. omega arith;
   }
 
-  does : (txn : Txn) → IsCounted s.here (executed procs s.here (Some txn))
+  does : (txn : Txn) → IsOneStepOn s.here (executed procs s.here (Some txn))
   does txn =
       let more : length (s.here.done ++ (txn.id, (one procs txn s.here.table).0) ∷ []) ≡ length s.here.done + 1 = length-append s.here.done ((txn.id, (one procs txn s.here.table).0) ∷ []) in
       record {
@@ -69,12 +69,12 @@ module _ (procs : List ProcTree) (s : RegionState) (sound : IsSoundRegion s) whe
         moves = λ key. (let moved = counter_of-apply (one procs txn s.here.table).1 s.here.table key in omega (arith, more, moved));
       }
 
-  pub step_counted : (event : Event) → MayMake s event → IsCounted s.here (stepped procs (held s) s.here event)
+  pub step_counted : (event : Event) → MayMake s event → IsOneStepOn s.here (stepped procs (held s) s.here event)
   step_counted (Insert region home) may = inserts region home may
   step_counted (Resolve region ids) may = resolves region ids
   step_counted (Execute region id) may =
       let r : (txn : Txn) × (held s id ≡ Some txn) = executable_held s sound id may in
-      subst (λ o. IsCounted s.here (executed procs s.here o)) (sym r.1) (does r.0)
+      subst (λ o. IsOneStepOn s.here (executed procs s.here o)) (sym r.1) (does r.0)
   step_counted (Submit region session) may = absurd may
   step_counted (Append home source number) may = absurd may
   step_counted (Deliver region home first last) may = absurd may

@@ -1,6 +1,6 @@
 pub mod Callers
-pub mod Counting
+pub mod StepCounts
 pub mod Effects
-pub mod Going
+pub mod OneStepMore
 pub mod Underway
 pub mod OneStep

@@ -1,27 +1,16 @@
 -- How one step of a round ends: each way by the call of the region that makes it.
-use Rattle.std.proofs.Common.{◌≡◌, ◌<◌, ◌≤◌, ◌+◌, ℕ, suc, Bool, true, false, List, [], Option, None, Result, Ok, Err, length, refl, sym, ap, subst, ◌∙◌, arith, inl, inr}
-use Rattle.std.specs.Prelude.{slice_index}
-use Rattle.dt_lists.specs.Lists.{Either, Has}
-use Rattle.dt_lists.proofs.Callers.{either_nat}
+use Rattle.std.proofs.Common.{◌≡◌, Bool, true, false, List, [], None, Result, Ok, Err, refl, subst, ◌∙◌}
 use Rattle.dt_text.specs.declared.NoMemory.{NoMemory}
 use Rattle.dt_access.specs.declared.TxnId.{TxnId}
-use Rattle.dt_events.specs.declared.Event.TheVariants.{Insert, Resolve, Execute}
-use Rattle.dt_sched.specs.Views.{log_at}
+use Rattle.dt_events.specs.declared.Event.TheVariants.{Resolve, Execute}
 use Rattle.dt_sched.specs.Sched.{CanExecute, CanResolve, IsNextClass, IsNextReady}
 use Rattle.dt_proc.specs.Tree.{ProcTree}
-use Rattle.dt_region.specs.Region.{RegionState, RegionView, sched_of}
+use Rattle.dt_region.specs.Region.{RegionView, sched_of}
 use Rattle.dt_region.specs.RegionInner.{HasInsertedAll}
-use Rattle.dt_region.specs.Rules.{MakesStep, MayMake}
-use Rattle.dt_region.specs.Sound.{IsSoundRegion}
-use Rattle.dt_region.proofs.Callers.{HasInserted, has_inserted, has_one_more}
+use Rattle.dt_region.specs.Rules.{MakesStep}
 use Rattle.dt_round.specs.Steps.{IsOwnStep, StepsOn}
 
 module _ (procs : List ProcTree) (r now : RegionView) (same : now ≡ r) where
-  pub inserts : (home : ℕ) (on : Bool) (after : RegionView) → on ≡ true → MakesStep [] now (Insert now.state.number home) (Ok on) after → IsOwnStep procs r after
-  inserts home on after e m =
-      let made : MakesStep procs now (Insert now.state.number home) (Ok true) after = subst (λ b. MakesStep procs now (Insert now.state.number home) (Ok b) after) e m in
-      subst (λ x. IsOwnStep procs x after) same (record { event = Insert now.state.number home; mine = refl; makes = made })
-
   pub executes : (id : TxnId) → CanExecute (sched_of now.state.logs now.state.here) id → (result : Result Bool NoMemory) (after : RegionView)
       → MakesStep procs now (Execute now.state.number id) result after → StepsOn procs r result after
   executes id can (Ok true) after m = subst (λ x. IsOwnStep procs x after) same (record { event = Execute now.state.number id; mine = refl; makes = m })
@@ -43,13 +32,3 @@ module _ (procs : List ProcTree) (r now : RegionView) (same : now ≡ r) where
     },
     same,
   )
-
--- a log of which nothing was inserted
-pub was_inserted : (now : RegionView) → IsSoundRegion now.state → (home : ℕ) (on : Bool) (after : RegionView) → on ≡ false → MakesStep [] now (Insert now.state.number home) (Ok on) after
-    → HasInserted now.state home × (after ≡ now)
-was_inserted now sound home on after e m =
-    let not : MakesStep [] now (Insert now.state.number home) (Ok false) after = subst (λ b. MakesStep [] now (Insert now.state.number home) (Ok b) after) e m in
-    (has_inserted now.state sound home (no_less (slice_index now.state.here.inserted home) (length (log_at now.state.logs home)) not.0), not.1)
-  where
-    no_less : (a b : ℕ) → ¬ (a < b) → b ≤ a
-    no_less a b n = grind arith

@@ -1,28 +1,26 @@
 -- A round on its way: what holds after each of its steps, and what follows for the next one.
-use Rattle.std.proofs.Common.{◌≡◌, ◌<◌, ◌≤◌, ◌+◌, ◌-◌, ◌*◌, ◌^◌, ℕ, List, [], ◌∷◌, ◌++◌, length, Ok, true, Some, sym, ap, subst, ◌∙◌, arith}
+use Rattle.std.proofs.Common.{◌≡◌, ◌<◌, ◌≤◌, ◌+◌, ◌*◌, ◌^◌, ℕ, List, [], ◌∷◌, ◌++◌, length, sym, ap, subst, ◌∙◌, arith}
 use Rattle.std.proofs.lemmas.List.{length-append, length-map}
-use Rattle.dt_access.specs.Clash.{Bytes}
 use Rattle.dt_access.specs.declared.TxnId.{TxnId}
 use Rattle.dt_sched.specs.Sched.{CanExecute, parts_in}
 use Rattle.dt_sched.proofs.Callers.{sound_execute}
 use Rattle.dt_proc.specs.Tree.{ProcTree}
-use Rattle.dt_table.specs.Table.{Table, counter_of}
+use Rattle.dt_table.specs.Table.{counter_of}
 use Rattle.dt_txn.specs.declared.txn.Body.{Body}
 use Rattle.dt_txn.specs.declared.txn.Body.TheVariants.{Call, Move}
-use Rattle.dt_txn.specs.declared.txn.Txn.{Txn}
 use Rattle.dt_txn.specs.Transaction.{IsValid}
-use Rattle.dt_txn.specs.Replica.{Replica, done_ids, stepped, view_of}
-use Rattle.dt_region.specs.Region.{HasStamp, RegionState, RegionView, held, latest_stamp, sched_of}
+use Rattle.dt_txn.specs.Replica.{done_ids, view_of}
+use Rattle.dt_region.specs.Region.{HasStamp, RegionView, held, latest_stamp, sched_of}
 use Rattle.dt_region.specs.Rules.{after_step}
 use Rattle.dt_region.specs.Conditions.{CanMove, HasPlaceToMove, HoldsValid}
 use Rattle.dt_region.specs.Sound.{IsSoundRegion}
 use Rattle.dt_region.proofs.Callers.{fronts_few, latest_more}
-use Rattle.dt_round.specs.Rounds.{CanRound, Continues}
+use Rattle.dt_round.specs.Rounds.{CanRound}
 use Rattle.dt_round.specs.Steps.{IsOwnStep, steps_left, steps_of}
 use Rattle.dt_round.specs.Underway.{IsUnderway}
-use Rattle.dt_round.proofs.Counting.{few_done, few_steps}
-use Rattle.dt_round.proofs.Effects.{IsCounted, step_counted}
-use Rattle.dt_round.proofs.Going.{continues_more, continues_none}
+use Rattle.dt_round.proofs.StepCounts.{few_done, few_steps}
+use Rattle.dt_round.proofs.Effects.{IsOneStepOn, step_counted}
+use Rattle.dt_round.proofs.OneStepMore.{continues_more, continues_none}
 
 pub at_first : (procs : List ProcTree) (r : RegionView) → CanRound procs r → IsSoundRegion r.state → IsUnderway procs r r
 at_first procs r can sound = record {
@@ -88,8 +86,8 @@ module _ (procs : List ProcTree) (entry now : RegionView) (u : IsUnderway procs 
 
   -- one step more
   module _ (next : RegionView) (step : IsOwnStep procs now next) (sound : IsSoundRegion next.state) where
-    counts : IsCounted now.state.here next.state.here
-    counts = subst (λ (r : RegionView). IsCounted now.state.here r.state.here) (sym step.makes.1) (step_counted procs now.state u.sound step.event step.makes.0)
+    counts : IsOneStepOn now.state.here next.state.here
+    counts = subst (λ (r : RegionView). IsOneStepOn now.state.here r.state.here) (sym step.makes.1) (step_counted procs now.state u.sound step.event step.makes.0)
 
     latest : latest_stamp next ≡ latest_stamp now + 1
     latest = ap latest_stamp step.makes.1 ∙ latest_more now (after_step procs now.state step.event) step.event

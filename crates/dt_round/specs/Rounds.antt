@@ -2,7 +2,7 @@
 -- it, and nothing else (`Continues`). These three rules look at the region's own fields alone, so a region may go on so
 -- whatever others do. One also learns when a round may be made (`CanRound`). That nothing is left after a round is
 -- `IsDrained` of `Replica`, in dt_txn. Read next: src/rounds.rt, the trait.
-use Rattle.std.specs.Prelude.{◌≡◌, ◌<◌, ◌+◌, ◌^◌, ℕ, List, [], ◌∷◌, ◌++◌, Option}
+use Rattle.std.specs.Prelude.{◌≡◌, ◌<◌, ◌+◌, ◌^◌, List, [], ◌∷◌, ◌++◌, Option}
 use Rattle.dt_access.specs.Clash.{Bytes}
 use Rattle.dt_access.specs.declared.TxnId.{TxnId}
 use Rattle.dt_events.specs.declared.Event.{Event}

@@ -1,9 +1,8 @@
 -- Only proofs need this file, and the private calls of `Alone`: what one step of a round is, and how many there can be.
 -- Read `Rounds` for what a round is.
-use Rattle.std.specs.Prelude.{◌≡◌, ◌+◌, ◌-◌, ◌*◌, ◌<◌, ℕ, List, length, sum, slice_index, Bool, true, false, Result, Ok, Err}
+use Rattle.std.specs.Prelude.{◌≡◌, ◌+◌, ◌-◌, ◌*◌, ℕ, List, length, sum, Bool, true, false, Result, Ok, Err}
 use Rattle.dt_text.specs.declared.NoMemory.{NoMemory}
 use Rattle.dt_events.specs.declared.Event.{Event}
-use Rattle.dt_events.specs.declared.Event.TheVariants.{Insert}
 use Rattle.dt_events.specs.Events.{region_of}
 use Rattle.dt_sched.specs.Sched.{parts_in}
 use Rattle.dt_proc.specs.Tree.{ProcTree}

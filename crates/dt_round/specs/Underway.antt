@@ -1,7 +1,7 @@
 -- A round on its way: what holds between two steps of it, whoever makes them. A round that is shared by threads stands on
 -- this, and so does the one on the calling thread: each step keeps it, and where nothing is left to do it is the promise
 -- of a round. Read `Rounds` before, for that promise.
-use Rattle.std.specs.Prelude.{◌≡◌, ◌≤◌, ◌+◌, ℕ, List, length}
+use Rattle.std.specs.Prelude.{◌≡◌, ◌≤◌, ◌+◌, List, length}
 use Rattle.dt_access.specs.Clash.{Bytes}
 use Rattle.dt_proc.specs.Tree.{ProcTree}
 use Rattle.dt_table.specs.Table.{counter_of}

@@ -25,7 +25,7 @@ pub record NodesView : Type 0 where
   -- some phase has run out of memory; then links and marks are given up
   pub broken : Bool
 
--- stands for a node that there is not
+-- stands in where there is no such thing: a node
 abbrev pub no_running_node : NodeView
 no_running_node = record {
   site = no_site;

@@ -29,7 +29,7 @@ pub record SeatView : Type 0 where
   pub marks : List ℕ
   pub failed : Bool
 
--- stands for a seat that there is not
+-- stands in where there is no such thing: a seat
 abbrev pub no_seat : SeatView
 no_seat = record { node = no_running_node; ins = []; outs = []; marks = []; failed = false }
 

@@ -1,14 +1,13 @@
 -- The class of an id exists as a list, and there is only one.
 use Rattle.std.proofs.Common.{◌≡◌, ◌≢◌, ◌≤◌, List, [], ◌∷◌, length, sym, subst, inl, inr}
-use Rattle.dt_lists.specs.Lists.{AnyIn, AllIn, Has, Either}
-use Rattle.dt_lists.proofs.Callers.{any_get, any_put, all_put, two_of_different, either_any, either_same, either_list, IsPicked, ascending_same, pick}
+use Rattle.dt_lists.specs.Lists.{AnyIn, Has, Either}
+use Rattle.dt_lists.proofs.Callers.{any_get, any_put, two_of_different, either_any, either_same, either_list, IsPicked, ascending_same, pick}
 use Rattle.dt_lists.proofs.Callers.{chain_join}
 use Rattle.dt_access.specs.Ids.{Before, AreAscending}
 use Rattle.dt_access.specs.declared.TxnId.{TxnId}
-use Rattle.dt_sched.specs.Views.{View, here, IsClosed, Mutual, IsClass}
+use Rattle.dt_sched.specs.Views.{View, here, Mutual, IsClass}
 use Rattle.dt_access.proofs.Callers.{before_irreflexive, before_transitive, before_total, either_id}
 use Rattle.dt_sched.proofs.Reach.{ids_in, reach_listed, mutual_decided}
-use Rattle.dt_sched.proofs.Closed.{closed_before}
 
 pub mutual_refl : (view : View) (t : TxnId) → Mutual view t t
 mutual_refl view t = (here, here)
@@ -58,10 +57,6 @@ class_of_member view t u ids c h =
       );
     }
 
--- two classes that share a member are one
-pub class_shared : (view : View) (t u v : TxnId) (ids others : List TxnId) → IsClass view t ids → IsClass view u others → Has ids v → Has others v → ids ≡ others
-class_shared view t u v ids others c d h k = class_unique view v ids others (class_of_member view t v ids c h) (class_of_member view u v others d k)
-
 -- a class with a second member has at least two
 pub several_in_class : (view : View) (t u : TxnId) (ids : List TxnId) → IsClass view t ids → u ≢ t → Mutual view u t → 2 ≤ length ids
 several_in_class view t u ids c ne m = two_of_different ids u t ((c.members u).1 m) (in_own_class view t ids c) ne
@@ -81,7 +76,3 @@ some_class_decided view ids = either_same (AnyIn (λ t. IsClass view t ids) ids)
     (λ a. let r : (t : TxnId) × Has ids t × IsClass view t ids = any_get _ ids a in (r.0, r.2))
     (λ c. any_put (λ t. IsClass view t ids) ids c.0 (in_own_class view c.0 ids c.1) c.1)
     (either_any _ ids (λ t. class_decided view t ids))
-
--- the class of a closed id is closed
-pub class_closed : (view : View) (t : TxnId) (ids : List TxnId) → IsClass view t ids → IsClosed view t → AllIn (IsClosed view) ids
-class_closed view t ids c closed = all_put (IsClosed view) ids (λ u h. closed_before view u t ((c.members u).0 h).0 closed)

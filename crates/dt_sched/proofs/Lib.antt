@@ -8,6 +8,6 @@ pub mod Decisions
 pub mod Staying
 pub mod OneHome
 pub mod NothingToDo
-pub mod Growing
+pub mod OnePartMore
 pub mod Sound
 pub mod Callers

@@ -1,16 +1,16 @@
--- What a view has, a longer view has; and the shorter one is well formed where the longer is.
-use Rattle.std.proofs.Common.{ℕ, List, []}
+-- What a view has, a longer view has; and the shorter one is well formed where the longer is. And what one log more adds.
+use Rattle.std.proofs.Common.{ℕ, List, [], ◌≡◌, ◌+◌, ◌∷◌, length}
+use Rattle.std.proofs.lemmas.List.Sums.{sum_by-cons}
 use Rattle.dt_lists.specs.Lists.{IsFront}
-use Rattle.dt_lists.proofs.Callers.{any_map, all_map, front_refl, front_trans, front_map, any_front, some_front, all_front, each_front, pairwise_refl}
-use Rattle.dt_lists.proofs.Callers.{pairwise_trans, pairwise_at, pairwise_any, chain_map}
+use Rattle.dt_lists.proofs.Callers.{any_map, all_map, front_refl, front_map, any_front, some_front, all_front, each_front, pairwise_refl}
+use Rattle.dt_lists.proofs.Callers.{pairwise_at, pairwise_any, chain_map}
 use Rattle.dt_access.specs.declared.TxnId.{TxnId}
+use Rattle.dt_access.specs.declared.Part.{Part}
 use Rattle.dt_sched.specs.Views.{View, ids_of, log_at, HasPart, IsLonger, AreClashing, Edge, Reaches, IsPresent, HasParts, IsComplete, IsWellFormed}
+use Rattle.dt_sched.specs.Sched.{parts_in}
 
 pub longer_refl : (view : View) → IsLonger view view
 longer_refl view = pairwise_refl IsFront (λ log. front_refl log) view
-
-pub longer_trans : (a b c : View) → IsLonger a b → IsLonger b c → IsLonger a c
-longer_trans a b c l m = pairwise_trans IsFront (λ x y z f g. front_trans x y z f g) a b c l m
 
 pub log_longer : (short long : View) → IsLonger short long → (home : ℕ) → IsFront (log_at short home) (log_at long home)
 log_longer short long l home = pairwise_at IsFront [] [] short long (front_refl []) l home
@@ -43,3 +43,7 @@ well_formed_front short long l w = record {
   ranked = λ home other. all_front _ (log_at short home) (log_at long home) (log_longer short long l home)
       (all_map _ _ (log_at long home) (λ p a. all_front _ (log_at short other) (log_at long other) (log_longer short long l other) a) (w.ranked home other));
 }
+
+-- the parts of one log more
+pub parts_cons : (log : List Part) (logs : View) → parts_in (log ∷ logs) ≡ length log + parts_in logs
+parts_cons log logs = sum_by-cons length log logs

@@ -1,18 +1,17 @@
--- Where nothing is left to do, all that is closed is done; and what is complete with all its preceders done is closed.
-use Rattle.std.proofs.Common.{◌≡◌, ◌≤◌, ◌⊎◌, ◌↔◌, List, [], ◌∷◌, length, refl, sym, subst, inl, inr}
+-- Where nothing is left to do, all that is closed is done.
+use Rattle.std.proofs.Common.{◌≤◌, ◌⊎◌, ◌↔◌, List, [], ◌∷◌, length, refl, sym, subst, inl, inr}
 use Rattle.dt_lists.specs.Lists.{AllIn, Has, Either}
-use Rattle.dt_lists.proofs.Callers.{all_get, all_put, either_not, either_and, either_le, IsLeast, least, IsPicked, chain_join}
+use Rattle.dt_lists.proofs.Callers.{all_get, all_put, either_not, either_and, either_le, IsMinimal, least, IsPicked, chain_join}
 use Rattle.dt_access.specs.Ids.{Before}
 use Rattle.dt_access.specs.declared.TxnId.{TxnId}
-use Rattle.dt_sched.specs.Views.{View, Reaches, IsComplete, IsClosed, IsSooner, PrecedesBy, Precedes, IsClass}
+use Rattle.dt_sched.specs.Views.{View, Reaches, IsComplete, IsClosed, IsSooner, PrecedesBy, IsClass}
 use Rattle.dt_sched.specs.Ties.{BreaksTies}
-use Rattle.dt_sched.specs.Decide.{IsExecutable, IsExecutableBy, IsResolvable, HasNothingToDo, HasNothingToDoBy}
-use Rattle.dt_access.proofs.Callers.{either_id}
-use Rattle.dt_sched.proofs.Reach.{ids_in, has_of_present, present_of_complete, reach_decided, closed_decided}
+use Rattle.dt_sched.specs.Decide.{IsExecutableBy, IsResolvable, HasNothingToDo, HasNothingToDoBy}
+use Rattle.dt_sched.proofs.Reach.{ids_in, has_of_present, present_of_complete, closed_decided}
 use Rattle.dt_sched.proofs.Precedence.{decided_by, transitive_by}
 use Rattle.dt_sched.proofs.Ranks.{sooner_breaks_ties}
 use Rattle.dt_sched.proofs.Closed.{closed_before, complete_of_closed}
-use Rattle.dt_sched.proofs.Classes.{pick_ids, class_of, class_unique, several_in_class, in_own_class}
+use Rattle.dt_sched.proofs.Classes.{pick_ids, class_of, class_unique, in_own_class}
 use Rattle.dt_sched.proofs.Decisions.{has_id_decided, has_class_decided}
 
 -- some id is executable where the order breaks ties, or some class is resolvable
@@ -73,7 +72,7 @@ module _ (order : View → TxnId → TxnId → Type 0) (ties : BreaksTies order)
           from [] m = absurd ((m t).1 (listed t closed, (closed, waiting)))
           from (x ∷ xs) m = first (least (PrecedesBy order view) (λ t p. p.0 refl) (transitive_by order ties view) (decided_by order ties view) x xs)
             where
-              first : (s : TxnId) × IsLeast (PrecedesBy order view) (x ∷ xs) s → IsSomethingToDo order view resolved done
+              first : (s : TxnId) × IsMinimal (PrecedesBy order view) (x ∷ xs) s → IsSomethingToDo order view resolved done
               first s = elim (executable_or_resolvable view resolved done s.0 its.1.0 its.1.1 before) [ inl e ↦ inl (s.0, e) | inr c ↦ inr c ]
                 where
                   its : Has (ids_in view) s.0 × (IsClosed view s.0 × ¬ (Has done s.0))
@@ -97,25 +96,3 @@ module _ (order : View → TxnId → TxnId → Type 0) (ties : BreaksTies order)
 
 pub done_where_closed : (view : View) (resolved : List (List TxnId)) (done : List TxnId) → AllIn (IsClosed view) done → HasNothingToDo view resolved done → (t : TxnId) → Has done t ↔ IsClosed view t
 done_where_closed = done_where_closed_by IsSooner sooner_breaks_ties
-
--- a complete id whose preceders are done, and whose class is single or resolved, is closed
-pub closed_of_complete : (view : View) (resolved : List (List TxnId)) (done : List TxnId) (t : TxnId) → AllIn (IsClosed view) done
-    → AllIn (AllIn (IsClosed view)) resolved → IsComplete view t → ((u : TxnId) → Precedes view u t → Has done u)
-    → ((ids : List TxnId) → IsClass view t ids → 2 ≤ length ids → Has resolved ids) → IsClosed view t
-closed_of_complete view resolved done t closed known complete preceders settled u r = at (either_id u t) (reach_decided view t u)
-  where
-    at : Either (u ≡ t) → Either (Reaches view t u) → IsComplete view u
-    at (inl e) back = subst (IsComplete view) (sym e) complete
-    at (inr ne) (inr n) = complete_of_closed view u (all_get (IsClosed view) done closed u (preceders u (ne, r, inl n)))
-    at (inr ne) (inl back) =
-        let c : (ids : List TxnId) × IsClass view t ids = class_of view t in
-        let h : Has resolved c.0 = settled c.0 c.1 (several_in_class view t u c.0 c.1 ne (r, back)) in
-        complete_of_closed view u (all_get (IsClosed view) c.0 (all_get (AllIn (IsClosed view)) resolved known c.0 h) u ((c.1.members u).1 (r, back)))
-
--- so it is executable, if it is not done
-pub executable_of_complete : (view : View) (resolved : List (List TxnId)) (done : List TxnId) (t : TxnId) → AllIn (IsClosed view) done
-    → AllIn (AllIn (IsClosed view)) resolved → IsComplete view t → ¬ (Has done t) → ((u : TxnId) → Precedes view u t → Has done u)
-    → ((ids : List TxnId) → IsClass view t ids → 2 ≤ length ids → Has resolved ids) → IsExecutable view resolved done t
-executable_of_complete view resolved done t closed known complete waiting preceders settled =
-    let whole : IsClosed view t = closed_of_complete view resolved done t closed known complete preceders settled in
-    record { closed = whole; waiting = waiting; preceders = preceders; settled = settled }

@@ -1,7 +1,7 @@
 -- Where each transaction has one home, there is no deadlock, and single edges decide all.
 use Rattle.std.proofs.Common.{◌≡◌, ◌≢◌, ◌<◌, ◌≤◌, ◌⊎◌, ◌↔◌, ℕ, List, [], ◌∷◌, length, refl, sym, ap, subst, ◌∙◌, inl, inr, arith}
 use Rattle.dt_lists.specs.Lists.{AllIn, SomeThen, Has, EachThen}
-use Rattle.dt_lists.proofs.Callers.{any_at, any_from_at, any_get, any_put, all_get, all_put, all_at, some_map, each_of_image, KeyBefore, key_first}
+use Rattle.dt_lists.proofs.Callers.{any_at, any_from_at, any_get, any_put, all_get, all_put, all_at, some_map, each_of_image, HasKeyBefore, key_first}
 use Rattle.dt_lists.proofs.Callers.{key_second, key_before_irreflexive, key_before_transitive, chain_step}
 use Rattle.dt_access.specs.declared.TxnId.{TxnId}
 use Rattle.dt_access.specs.declared.Part.{Part}
@@ -21,8 +21,8 @@ only_item (x ∷ []) a b e (inr h) k = absurd h
 only_item (x ∷ y ∷ ys) a b e h k = absurd (omega arith)
 
 -- u's part stands before t's part in the log
-abbrev pub StandsBefore : List Part → TxnId → TxnId → Type 0
-StandsBefore log u t = KeyBefore (λ p. p.id) log u t
+abbrev pub HasPartBefore : List Part → TxnId → TxnId → Type 0
+HasPartBefore log u t = HasKeyBefore (λ p. p.id) log u t
 
 module _ (view : View) (w : IsWellFormed view) (one : HasOneHomeEach view) where
   one_at : (home : ℕ) → AllIn (λ p. length p.homes ≡ 1) (log_at view home)
@@ -42,32 +42,32 @@ module _ (view : View) (w : IsWellFormed view) (one : HasOneHomeEach view) where
   once_at home = each_of_image (λ a b. ¬ (a ≡ b)) (λ p. p.id) (log_at view home) (w.once home)
 
   -- what reaches t from elsewhere stands before it in its log
-  pub stands_before : {u t : TxnId} → Reaches view u t → (u ≡ t) ⊎ ((home : ℕ) × StandsBefore (log_at view home) u t)
+  pub stands_before : {u t : TxnId} → Reaches view u t → (u ≡ t) ⊎ ((home : ℕ) × HasPartBefore (log_at view home) u t)
   stands_before here = inl refl
   stands_before {u = u} (onward {y = v} {z = t} c e) = inr (at (home_of_edge view v t e) (stands_before c))
     where
-      at : (home : ℕ) × SomeThen (AreClashing v t) (log_at view home) → (u ≡ v) ⊎ ((home : ℕ) × StandsBefore (log_at view home) u v) → (home : ℕ) × StandsBefore (log_at view home) u t
+      at : (home : ℕ) × SomeThen (AreClashing v t) (log_at view home) → (u ≡ v) ⊎ ((home : ℕ) × HasPartBefore (log_at view home) u v) → (home : ℕ) × HasPartBefore (log_at view home) u t
       at r s = then s
         where
-          last : StandsBefore (log_at view r.0) v t
+          last : HasPartBefore (log_at view r.0) v t
           last = some_map _ _ (log_at view r.0) (λ p q h. (h.0, h.1)) r.1
 
-          then : (u ≡ v) ⊎ ((home : ℕ) × StandsBefore (log_at view home) u v) → (home : ℕ) × StandsBefore (log_at view home) u t
-          then (inl same) = (r.0, subst (λ c. StandsBefore (log_at view r.0) c t) (sym same) last)
+          then : (u ≡ v) ⊎ ((home : ℕ) × HasPartBefore (log_at view home) u v) → (home : ℕ) × HasPartBefore (log_at view home) u t
+          then (inl same) = (r.0, subst (λ c. HasPartBefore (log_at view r.0) c t) (sym same) last)
           then (inr k) =
               let e : k.0 ≡ r.0 = same_home v k.0 r.0 (key_second (λ p. p.id) (log_at view k.0) u v k.1) (key_first (λ p. p.id) (log_at view r.0) v t last) in
-              (r.0, key_before_transitive (λ p. p.id) (log_at view r.0) u v t (once_at r.0) (subst (λ home. StandsBefore (log_at view home) u v) e k.1) last)
+              (r.0, key_before_transitive (λ p. p.id) (log_at view r.0) u v t (once_at r.0) (subst (λ home. HasPartBefore (log_at view home) u v) e k.1) last)
 
   pub mutual_same : (u t : TxnId) → Mutual view u t → u ≡ t
   mutual_same u t m = at (stands_before m.0) (stands_before m.1)
     where
-      at : (u ≡ t) ⊎ ((home : ℕ) × StandsBefore (log_at view home) u t) → (t ≡ u) ⊎ ((home : ℕ) × StandsBefore (log_at view home) t u) → u ≡ t
+      at : (u ≡ t) ⊎ ((home : ℕ) × HasPartBefore (log_at view home) u t) → (t ≡ u) ⊎ ((home : ℕ) × HasPartBefore (log_at view home) t u) → u ≡ t
       at (inl e) k = e
       at (inr h) (inl e) = sym e
       at (inr h) (inr k) =
           let e : k.0 ≡ h.0 = same_home t k.0 h.0 (key_first (λ p. p.id) (log_at view k.0) t u k.1) (key_second (λ p. p.id) (log_at view h.0) u t h.1) in
           absurd (key_before_irreflexive (λ p. p.id) (log_at view h.0) u (once_at h.0)
-          (key_before_transitive (λ p. p.id) (log_at view h.0) u t u (once_at h.0) h.1 (subst (λ home. StandsBefore (log_at view home) t u) e k.1)))
+          (key_before_transitive (λ p. p.id) (log_at view h.0) u t u (once_at h.0) h.1 (subst (λ home. HasPartBefore (log_at view home) t u) e k.1)))
 
   pub class_single : (t : TxnId) (ids : List TxnId) → IsClass view t ids → ids ≡ t ∷ []
   class_single t ids c = class_alone view t ids c (λ u m. mutual_same u t m)

@@ -1,7 +1,8 @@
 -- What reaches what is decided, and all that is said by it on single ids.
-use Rattle.std.proofs.Common.{◌≡◌, ◌≢◌, ◌⊎◌, true, List, [], ◌∷◌, ◌++◌, refl, sym, subst, inl, inr}
+use Rattle.std.proofs.Common.{◌≡◌, ◌≢◌, ◌⊎◌, true, List, [], ◌∷◌, ◌++◌, refl, sym, subst, inl, inr, length, length-append, ◌+◌, ap₂, ◌∙◌}
+use Rattle.std.proofs.lemmas.List.{length-map}
 use Rattle.dt_lists.specs.Lists.{AllIn, Has, Either}
-use Rattle.dt_lists.proofs.Callers.{any_map, any_put, any_image, any_of_image, any_append, any_append_left, any_append_right, some_get, all_get, all_put}
+use Rattle.dt_lists.proofs.Callers.{any_map, any_put, any_image, any_append_left, any_append_right, some_get, all_get, all_put}
 use Rattle.dt_lists.proofs.Callers.{either_not, either_and, either_and3, either_implies, either_same, either_any, either_all, either_some}
 use Rattle.dt_lists.proofs.Callers.{either_true, chain_decided}
 use Rattle.dt_access.specs.Clash.{clash}
@@ -9,18 +10,13 @@ use Rattle.dt_access.specs.declared.TxnId.{TxnId}
 use Rattle.dt_access.specs.declared.Part.{Part}
 use Rattle.dt_sched.specs.Views.{View, ids_of, log_at, HasPart, AreClashing, Edge, here, onward, Reaches, IsPresent, HasParts, IsComplete, IsClosed, Mutual}
 use Rattle.dt_access.proofs.Callers.{either_id}
+use Rattle.dt_sched.specs.Sched.{parts_in}
+use Rattle.dt_sched.proofs.Longer.{parts_cons}
 
 -- the ids that have a part in the view
 abbrev pub ids_in : View → List TxnId
 ids_in [] = []
 ids_in (log ∷ logs) = ids_of log ++ ids_in logs
-
-pub present_of_has : (view : View) (u : TxnId) → Has (ids_in view) u → IsPresent view u
-present_of_has [] u h = absurd h
-present_of_has (log ∷ logs) u h = elim (any_append _ (ids_of log) (ids_in logs) h) [
-  | inl a ↦ inl (any_of_image (λ y. y ≡ u) (λ p. p.id) log a)
-  | inr b ↦ inr (present_of_has logs u b)
-]
 
 pub has_of_present : (view : View) (u : TxnId) → IsPresent view u → Has (ids_in view) u
 has_of_present [] u h = absurd h
@@ -38,10 +34,6 @@ edge_target view u t e = any_map _ _ view (λ log s. let r : (p q : Part) × Has
 pub reach_source : (view : View) {u t : TxnId} → Reaches view u t → (u ≡ t) ⊎ IsPresent view u
 reach_source view here = inl refl
 reach_source view {u = u} (onward {y = y} {z = t} c e) = elim (reach_source view c) [ inl same ↦ inr (subst (IsPresent view) (sym same) (edge_source view y t e)) | inr p ↦ inr p ]
-
-pub reach_target : (view : View) {u t : TxnId} → Reaches view u t → (u ≡ t) ⊎ IsPresent view t
-reach_target view here = inl refl
-reach_target view {u = u} (onward {y = y} {z = t} c e) = inr (edge_target view y t e)
 
 -- what reaches t stands in this list
 pub reach_listed : (view : View) (u t : TxnId) → Reaches view u t → Has (t ∷ ids_in view) u
@@ -79,3 +71,8 @@ closed_decided view t = each_reaching_decided view t (IsComplete view) (complete
 -- a complete id has a part
 pub present_of_complete : (view : View) (t : TxnId) → IsComplete view t → IsPresent view t
 present_of_complete view t c = any_map _ _ view (λ log s. any_map _ _ log (λ p h. h.0) s) c
+
+-- as many ids as parts
+pub ids_in_length : (view : View) → length (ids_in view) ≡ parts_in view
+ids_in_length [] = refl
+ids_in_length (log ∷ view) = length-append (ids_of log) (ids_in view) ∙ ap₂ (λ a b. a + b) (length-map log (λ (p : Part). p.id)) (ids_in_length view) ∙ sym (parts_cons log view)

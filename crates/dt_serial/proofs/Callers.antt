@@ -9,7 +9,7 @@ pub use Rattle.dt_serial.proofs.Outcome.{across_moves, counters_exact, counters_
 pub use Rattle.dt_serial.proofs.Outcome.{one_outcome, one_restricted, one_set, single_outcome}
 pub use Rattle.dt_serial.proofs.Past.{down_of_order, down_push}
 pub use Rattle.dt_serial.proofs.Rows.{same_moves, test_of_key}
-pub use Rattle.dt_serial.proofs.Runs.{movers_ran, moves_grow, outcome_at, outcomes_append, outcomes_ids, table_after_append}
+pub use Rattle.dt_serial.proofs.Runs.{movers_ran, moves_grow, has_outcome_at, outcomes_append, outcomes_ids, table_after_append}
 pub use Rattle.dt_serial.proofs.SameOrder.{down_as, history_as}
 pub use Rattle.dt_serial.proofs.Valid.{valid_keeps}
-pub use Rattle.dt_serial.proofs.Unseen.{seen_apart}
+pub use Rattle.dt_serial.proofs.NoClash.{seen_apart}

@@ -19,7 +19,7 @@ use Rattle.dt_serial.specs.Order.{IsLive}
 use Rattle.dt_serial.specs.Evidence.{MadeMove, own_outcome, IsGrounded, HasReason}
 use Rattle.dt_serial.proofs.One.{mover_at, IsStaleAt, live_or_stale, one_live}
 use Rattle.dt_serial.proofs.Rows.{same_moves}
-use Rattle.dt_serial.proofs.Runs.{version_after, table_after_append, outcomes_append, outcome_at, IsOutcomeAt, outcome_get, moves_grow, IsMoveAt, numbered_move}
+use Rattle.dt_serial.proofs.Runs.{version_after, table_after_append, outcomes_append, has_outcome_at, IsOutcomeAt, outcome_get, moves_grow, IsMoveAt, numbered_move}
 
 -- the move of each number was made by one of the run
 pub move_made : (procs : List ProcTree) (xs : List Txn) (start : Table) (key : Bytes) (i : ℕ) (m : Moved) → moves_of start key ≡ []
@@ -34,7 +34,7 @@ move_made procs xs start key i m none e =
       id = r.makes.by;
       body = r.makes.body;
       same = r.makes.same;
-      gave = subst (Has (outcomes procs xs start)) (λ j. (r.makes.by j, r.makes.gave j)) (outcome_at procs xs start r.mover r.at);
+      gave = subst (Has (outcomes procs xs start)) (λ j. (r.makes.by j, r.makes.gave j)) (has_outcome_at procs xs start r.mover r.at);
       number = e;
     }
 

@@ -21,7 +21,7 @@ use Rattle.dt_serial.specs.Order.{txn_ids, Ordered, IsDown, FollowsMove, IsLive,
 use Rattle.dt_serial.specs.Replay.{replay}
 use Rattle.dt_serial.proofs.One.{live_entries, IsMoveOf, change_of_one, clash_of_change, unit_of_change}
 use Rattle.dt_serial.proofs.Rows.{same_moves}
-use Rattle.dt_serial.proofs.Runs.{version_after, table_after_append, IsMoveAt, numbered_move, mover_in, replay_append, replay_all, replay_none, chosen_moves, replay_moves}
+use Rattle.dt_serial.proofs.Runs.{version_after, table_after_append, IsMoveAt, numbered_move, mover_ran, replay_append, replay_all, replay_none, chosen_moves, replay_moves}
 use Rattle.dt_serial.proofs.Past.{IsPast, past_of_down, same_past, down_preceders}
 
 module _ (procs : List ProcTree) (order : TxnId → TxnId → Type 0) (start : Table) (txns : List Txn) (h : IsHistory procs order start txns) where
@@ -39,12 +39,12 @@ module _ (procs : List ProcTree) (order : TxnId → TxnId → Type 0) (start : T
   pub apart_at : (x : Txn) (s : Spot txns x) (i : TxnId) → Has (txn_ids s.front) i → ¬ (Has (x.id ∷ txn_ids s.rest) i)
   apart_at x s i a b = each_across _ (txn_ids s.front) (x.id ∷ txn_ids s.rest) i i (down_at x s).once a b refl
 
-  pub last_at : (x : Txn) (s : Spot txns x) → table_after procs txns start ≡ table_after procs (x ∷ s.rest) (table_after procs s.front start)
-  last_at x s = ap (λ l. table_after procs l start) s.is ∙ table_after_append procs s.front (x ∷ s.rest) start
+  pub table_from : (x : Txn) (s : Spot txns x) → table_after procs txns start ≡ table_after procs (x ∷ s.rest) (table_after procs s.front start)
+  table_from x s = ap (λ l. table_after procs l start) s.is ∙ table_after_append procs s.front (x ∷ s.rest) start
 
   -- the table before a transaction is the replay of those before it
-  pub replay_at : (x : Txn) (s : Spot txns x) → replay procs (is_among (txn_ids s.front)) txns start start ≡ table_after procs s.front start
-  replay_at x s =
+  pub replay_before : (x : Txn) (s : Spot txns x) → replay procs (is_among (txn_ids s.front)) txns start start ≡ table_after procs s.front start
+  replay_before x s =
       ap (λ l. replay procs (is_among (txn_ids s.front)) l start start) s.is
       ∙ replay_append procs (is_among (txn_ids s.front)) s.front (x ∷ s.rest) start start
       ∙ replay_none procs (is_among (txn_ids s.front)) (x ∷ s.rest) _ _ (all_put _ (x ∷ s.rest) (λ y k. not_among (txn_ids s.front) y.id (λ a. apart_at x s y.id a (has_map (λ z. z.id) (x ∷ s.rest) y k))))
@@ -99,9 +99,9 @@ module _ (procs : List ProcTree) (order : TxnId → TxnId → Type 0) (start : T
           close (inl lt) = omega arith
           close (inr low) =
               let before : Has (txn_ids r.at.front) (f.0).by = down_preceders order (txn_ids r.at.front) r.mover.id (txn_ids r.at.rest) (f.0).by (down_at r.mover r.at) f.2 in
-              let later : slice_get (moves_of (table_after procs (r.mover ∷ r.at.rest) (table_after procs r.at.front start)) key) c ≡ Some f.0 = subst (λ t. slice_get (moves_of t key) c ≡ Some f.0) (last_at r.mover r.at) f.1 in
+              let later : slice_get (moves_of (table_after procs (r.mover ∷ r.at.rest) (table_after procs r.at.front start)) key) c ≡ Some f.0 = subst (λ t. slice_get (moves_of t key) c ≡ Some f.0) (table_from r.mover r.at) f.1 in
               let from : counter_of (table_after procs r.at.front start) key ≤ c = subst (λ n. n ≤ c) (sym r.number) low in
-              absurd (apart_at r.mover r.at (f.0).by before (mover_in procs (r.mover ∷ r.at.rest) (table_after procs r.at.front start) key c f.0 from later))
+              absurd (apart_at r.mover r.at (f.0).by before (mover_ran procs (r.mover ∷ r.at.rest) (table_after procs r.at.front start) key c f.0 from later))
 
   -- each mover of a key precedes all later movers of that key
   pub chain : (key : Bytes) → EachThen (λ a b. order a.by b.by) (moves_of (table_after procs txns start) key)
@@ -168,8 +168,8 @@ module _ (procs : List ProcTree) (order : TxnId → TxnId → Type 0) (start : T
       go (inr ne) = elim (follower x a m (spot_has txns x s) ka e ne) [
         | inl r ↦ absurd (apart_at x s m.by
             (down_preceders order (txn_ids s.front) x.id (txn_ids s.rest) m.by (down_at x s) r)
-            (mover_in procs (x ∷ s.rest) (table_after procs s.front start) a.key a.counter m (all_get _ x.access (live_entries x (table_after procs s.front start) live) a ka)
-            (subst (λ t. slice_get (moves_of t a.key) a.counter ≡ Some m) (last_at x s) e)))
+            (mover_ran procs (x ∷ s.rest) (table_after procs s.front start) a.key a.counter m (all_get _ x.access (live_entries x (table_after procs s.front start) live) a ka)
+            (subst (λ t. slice_get (moves_of t a.key) a.counter ≡ Some m) (table_from x s) e)))
         | inr r ↦ inr r
       ]
 

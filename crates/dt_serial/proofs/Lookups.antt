@@ -8,11 +8,6 @@ use Rattle.dt_access.specs.declared.TxnId.{TxnId}
 use Rattle.dt_txn.specs.declared.txn.Txn.{Txn}
 use Rattle.dt_serial.specs.Order.{txn_ids}
 
--- look-ups that find the same give the same list
-pub looked_same : (f g : TxnId → Option Txn) (ids : List TxnId) → AllIn (λ i. f i ≡ g i) ids → filter_map f ids ≡ filter_map g ids
-looked_same f g [] all = refl
-looked_same f g (i ∷ ids) all = ap₂ cons_option all.0 (looked_same f g ids all.1)
-
 module _ (f : TxnId → Option Txn) (own : (i : TxnId) (x : Txn) → f i ≡ Some x → x.id ≡ i) where
   -- where each id is found, the ids are those of the transactions
   pub looked_ids : (ids : List TxnId) → AllIn (λ i. (x : Txn) × (f i ≡ Some x)) ids → txn_ids (filter_map f ids) ≡ ids

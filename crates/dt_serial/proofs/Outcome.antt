@@ -1,11 +1,11 @@
 -- One outcome: in each list whose transactions come after all that precedes them, a transaction does what it does in the
 -- history, and the table is the replay of the history for those of the list.
-use Rattle.std.proofs.Common.{◌≡◌, ◌≢◌, ◌<◌, ◌≤◌, ◌⊎◌, ℕ, zero, suc, Bool, true, false, cond, List, [], ◌∷◌, ◌++◌, length, take, slice_get, Some, None, refl, sym, ap, subst, ◌∙◌}
+use Rattle.std.proofs.Common.{◌≡◌, ◌≢◌, ◌<◌, ◌≤◌, ◌⊎◌, ℕ, zero, suc, Bool, true, false, cond, List, [], ◌∷◌, ◌++◌, length, slice_get, Some, None, refl, sym, ap}
+use Rattle.std.proofs.Common.{subst, ◌∙◌}
 use Rattle.std.proofs.Common.{append_assoc, append-nil, inl, inr, arith, le_antisymm, ◌↔◌}
 use Rattle.std.specs.Prelude.{Option, option_map, filter}
 use Rattle.std.proofs.lemmas.Bool.{cases_Bool, both_ways}
 use Rattle.std.proofs.lemmas.List.{map-append}
-use Rattle.std.proofs.Math.Seq.{take-append_seam}
 use Rattle.std.proofs.lemmas.Option.{slice_get_within}
 use Rattle.dt_lists.specs.Lists.{AnyIn, AllIn, Has, IsFront, Distinct, Either}
 use Rattle.dt_lists.proofs.Callers.{any_map, any_get, any_put, any_of_image, any_append, any_append_left, all_get, all_put, all_append_left, all_map}
@@ -30,9 +30,10 @@ use Rattle.dt_serial.specs.Order.{txn_ids, Ordered, IsDown, FollowsMove, IsLive,
 use Rattle.dt_serial.specs.Replay.{replay}
 use Rattle.dt_serial.proofs.Rows.{either_changes}
 use Rattle.dt_serial.proofs.One.{clash_of_change, mover_at, one_alike, live_entries, live_of_outcome, change_of_one}
-use Rattle.dt_serial.proofs.Runs.{table_after_append, outcomes_ids, outcome_at, AlongRun, along_put, replay_append, replay_version, replay_alike, replay_none, replay_value, replay_swap}
+use Rattle.dt_serial.proofs.Runs.{table_after_append, outcomes_ids, has_outcome_at, AlongRun, along_put, replay_append, replay_version, replay_alike, replay_none, replay_value, replay_swap}
 use Rattle.dt_serial.proofs.Past.{among_same, IsPast, past_of_down, same_past, down_front, down_closed, filter_ids, down_filter}
-use Rattle.dt_serial.proofs.History.{down_at, past_at, apart_at, replay_at, keys_at, anchor_at, IsMoveNumber, index, follower, live_before, same_movers, across, closed_front, replayed_moves, replayed_mover}
+use Rattle.dt_serial.proofs.History.{down_at, past_at, apart_at, replay_before, keys_at, anchor_at, IsMoveNumber, index, follower, live_before, same_movers, across, closed_front, replayed_moves}
+use Rattle.dt_serial.proofs.History.{replayed_mover}
 
 module _ (procs : List ProcTree) (order : TxnId → TxnId → Type 0) (start : Table) (txns : List Txn) (h : IsHistory procs order start txns) where
   -- two live transactions that change one row are ordered
@@ -67,7 +68,7 @@ module _ (procs : List ProcTree) (order : TxnId → TxnId → Type 0) (start : T
   same_one y r p pp =
       let q : TxnId → Bool = is_among (txn_ids r.front) in
       let pq : IsPast order q y.id = past_at procs order start txns h y r in
-      let before : replay procs q txns start start ≡ table_after procs r.front start = replay_at procs order start txns h y r in
+      let before : replay procs q txns start start ≡ table_after procs r.front start = replay_before procs order start txns h y r in
       one_alike procs y (replay procs p txns start start) (replay procs q txns start start)
       (replay_version procs start.version p txns start start refl ∙ sym (replay_version procs start.version q txns start start refl))
       (same_movers procs order start txns h y p q (spot_has txns y r) pp pq)
@@ -162,7 +163,7 @@ module _ (procs : List ProcTree) (order : TxnId → TxnId → Type 0) (start : T
   walk_outcomes xs (y ∷ ys) all down =
       let r : Spot txns y = spot txns y all.0 in
       let same : one procs y (canon xs) ≡ one procs y (table_after procs r.front start) = same_one y r (is_among (txn_ids xs)) (past_in xs y ys down) in (
-        subst (λ o. Has (outcomes procs txns start) (y.id, o)) (sym (ap (λ e. e.0) same)) (outcome_at procs txns start y r),
+        subst (λ o. Has (outcomes procs txns start) (y.id, o)) (sym (ap (λ e. e.0) same)) (has_outcome_at procs txns start y r),
         subst (λ t. AllIn (λ r. Has (outcomes procs txns start) r) (outcomes procs ys t)) (sym (canon_step xs y ys all.0 down))
             (walk_outcomes (xs ++ y ∷ []) ys all.1 (subst (λ l. IsDown order (txn_ids l)) (sym (append_assoc xs (y ∷ []) ys)) down)),
       )
@@ -177,11 +178,6 @@ module _ (procs : List ProcTree) (order : TxnId → TxnId → Type 0) (start : T
 
   members_front : (xs : List Txn) (y : Txn) (ys : List Txn) → AllIn (λ x. Has txns x) (xs ++ y ∷ ys) → IsDown order (txn_ids (xs ++ y ∷ ys)) → table_after procs xs start ≡ canon xs
   members_front xs y ys all down = one_table xs (all_append_left _ xs (y ∷ ys) all) (down_front order (txn_ids xs) (txn_ids (y ∷ ys)) (subst (IsDown order) (map-append (λ z. z.id) xs (y ∷ ys)) down))
-
-  -- and what it does there is what it does in the history
-  pub one_effect : (xs : List Txn) (y : Txn) (ys : List Txn) (r : Spot txns y) → AllIn (λ x. Has txns x) (xs ++ y ∷ ys) → IsDown order (txn_ids (xs ++ y ∷ ys))
-      → one procs y (table_after procs xs start) ≡ one procs y (table_after procs r.front start)
-  one_effect xs y ys r all down = ap (one procs y) (members_front xs y ys all down) ∙ same_one y r (is_among (txn_ids xs)) (past_in xs y ys down)
 
   -- two such lists with the same members end with equal tables
   pub one_set : (xs ys : List Txn) → AllIn (λ x. Has txns x) xs → AllIn (λ x. Has txns x) ys → IsDown order (txn_ids xs) → IsDown order (txn_ids ys)
@@ -218,13 +214,6 @@ module _ (procs : List ProcTree) (order : TxnId → TxnId → Type 0) (start : T
   pub moves_front : (xs : List Txn) (key : Bytes) → AllIn (λ x. Has txns x) xs → IsDown order (txn_ids xs) → IsFront (moves_of (table_after procs xs start) key) (moves_of (table_after procs txns start) key)
   moves_front xs key all down = subst (λ l. IsFront l (moves_of (table_after procs txns start) key)) (sym (ap (λ t. moves_of t key) (one_table xs all down) ∙ replayed_moves procs order start txns h (is_among (txn_ids xs)) key))
       (front_filtered _ _ (closed_front procs order start txns h (is_among (txn_ids xs)) (closed_in xs down) key))
-
-  -- namely as many of them as there are
-  pub moves_taken : (xs : List Txn) (key : Bytes) → AllIn (λ x. Has txns x) xs → IsDown order (txn_ids xs)
-      → take (counter_of (table_after procs xs start) key) (moves_of (table_after procs txns start) key) ≡ moves_of (table_after procs xs start) key
-  moves_taken xs key all down =
-      let front : IsFront (moves_of (table_after procs xs start) key) (moves_of (table_after procs txns start) key) = moves_front xs key all down in
-      ap (take (counter_of (table_after procs xs start) key)) (sym front.1) ∙ take-append_seam (moves_of (table_after procs xs start) key) front.0
 
   -- the next mover of a transaction's entry is that of the history's last table, if it precedes the transaction
   pub flag_up : (xs : List Txn) (y : Txn) (ys : List Txn) (a : Access) (by : TxnId) → AllIn (λ x. Has txns x) (xs ++ y ∷ ys) → IsDown order (txn_ids (xs ++ y ∷ ys)) → Has y.access a
@@ -304,14 +293,9 @@ module _ (procs : List ProcTree) (order : TxnId → TxnId → Type 0) (start : T
   pub single_outcome : (i : TxnId) (o p : Outcome) → Has (outcomes procs txns start) (i, o) → Has (outcomes procs txns start) (i, p) → o ≡ p
   single_outcome i o p a b = ap (λ r. r.1) (same_by_key (λ r. r.0) (outcomes procs txns start) (i, o) (i, p) (subst Distinct (sym (outcomes_ids procs txns start)) h.down.once) a b refl)
 
-  -- so an outcome in two such lists is one
-  pub one_outcome_each : (xs ys : List Txn) → AllIn (λ x. Has txns x) xs → AllIn (λ x. Has txns x) ys → IsDown order (txn_ids xs) → IsDown order (txn_ids ys) → (i : TxnId) (o p : Outcome)
-      → Has (outcomes procs xs start) (i, o) → Has (outcomes procs ys start) (i, p) → o ≡ p
-  one_outcome_each xs ys allx ally downx downy i o p a b = single_outcome i o p (all_get _ (outcomes procs xs start) (one_outcome xs allx downx) (i, o) a) (all_get _ (outcomes procs ys start) (one_outcome ys ally downy) (i, p) b)
-
   -- a transaction whose outcome in the history is not stale is live where it ran
   live_there : (x : Txn) (s : Spot txns x) (o : Outcome) → Has (outcomes procs txns start) (x.id, o) → ¬ (IsStaleOutcome o) → IsLive x (table_after procs s.front start)
-  live_there x s o k fresh = live_of_outcome procs x (table_after procs s.front start) (λ w. fresh (subst IsStaleOutcome (single_outcome x.id _ o (outcome_at procs txns start x s) k) w))
+  live_there x s o k fresh = live_of_outcome procs x (table_after procs s.front start) (λ w. fresh (subst IsStaleOutcome (single_outcome x.id _ o (has_outcome_at procs txns start x s) k) w))
 
   -- across moves: of two transactions that are not stale, and whose uses clash, one precedes the other
   pub across_moves : (x y : Txn) (o p : Outcome) → Has txns x → Has txns y → x.id ≢ y.id → Has (outcomes procs txns start) (x.id, o) → Has (outcomes procs txns start) (y.id, p) → ¬ (IsStaleOutcome o)

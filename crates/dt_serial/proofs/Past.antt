@@ -25,9 +25,6 @@ among_same xs ys id f g = go (cases_Bool (is_among xs id))
 -- down lists
 
 module _ (order : TxnId → TxnId → Type 0) where
-  pub down_empty : IsDown order []
-  down_empty = record { once = tt; preceders = λ u t h. absurd h }
-
   pub down_preceders : (front : List TxnId) (t : TxnId) (rest : List TxnId) (u : TxnId) → IsDown order (front ++ t ∷ rest) → order u t → Has front u
   down_preceders front t rest u down r = before_has u t front rest down.once (down.preceders u t (has_middle front t rest) r)
 

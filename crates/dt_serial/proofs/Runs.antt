@@ -1,5 +1,5 @@
 -- Serial runs and replays: they go on where a front of them ends; moves only get more; and what a replay reads.
-use Rattle.std.proofs.Common.{◌≡◌, ◌<◌, ◌≤◌, ◌⊎◌, ℕ, zero, suc, ◌+◌, Bool, true, false, cond, List, [], ◌∷◌, ◌++◌, length, map}
+use Rattle.std.proofs.Common.{◌≡◌, ◌<◌, ◌≤◌, ◌⊎◌, ℕ, ◌+◌, Bool, true, false, cond, List, [], ◌∷◌, ◌++◌, length, map}
 use Rattle.std.proofs.Common.{slice_get, Some, refl, sym, ap, ap₂, subst, ◌∙◌, append-nil, length-append, inl, inr, arith}
 use Rattle.std.specs.Prelude.{filter}
 use Rattle.std.proofs.lemmas.Bool.{cases_Bool, cases_lt}
@@ -16,7 +16,7 @@ use Rattle.dt_txn.specs.declared.txn.Txn.{Txn}
 use Rattle.dt_txn.specs.declared.outcome.Outcome.{Outcome}
 use Rattle.dt_txn.specs.Execution.{one}
 use Rattle.dt_txn.specs.Serial.{after, outcomes, table_after}
-use Rattle.dt_serial.specs.Order.{txn_ids, FollowsMove, Changes}
+use Rattle.dt_serial.specs.Order.{txn_ids, Changes}
 use Rattle.dt_serial.specs.Replay.{replay}
 use Rattle.dt_table.proofs.Callers.{move_at, moves_of-apply, version-apply}
 use Rattle.dt_serial.proofs.Rows.{apply_value, apply_keeps_value, apply_swap}
@@ -37,8 +37,8 @@ pub outcomes_ids : (procs : List ProcTree) (xs : List Txn) (t : Table) → map (
 outcomes_ids procs [] t = refl
 outcomes_ids procs (x ∷ xs) t = ap (λ l. x.id ∷ l) (outcomes_ids procs xs (after procs x t))
 
-pub outcome_at : (procs : List ProcTree) (xs : List Txn) (t : Table) (x : Txn) (s : Spot xs x) → Has (outcomes procs xs t) (x.id, (one procs x (table_after procs s.front t)).0)
-outcome_at procs xs t x s = subst (λ l. Has (outcomes procs l t) (x.id, (one procs x (table_after procs s.front t)).0)) (sym s.is)
+pub has_outcome_at : (procs : List ProcTree) (xs : List Txn) (t : Table) (x : Txn) (s : Spot xs x) → Has (outcomes procs xs t) (x.id, (one procs x (table_after procs s.front t)).0)
+has_outcome_at procs xs t x s = subst (λ l. Has (outcomes procs l t) (x.id, (one procs x (table_after procs s.front t)).0)) (sym s.is)
     (subst (λ l. Has l (x.id, (one procs x (table_after procs s.front t)).0)) (sym (outcomes_append procs s.front (x ∷ s.rest) t)) (any_append_right _ (outcomes procs s.front t) _ (inl refl)))
 
 -- whose outcome it is, and where that one ran
@@ -71,11 +71,6 @@ after_moves procs version x t key is = moves_of-apply (one procs x t).1 t key �
 pub moves_grow : (procs : List ProcTree) (xs : List Txn) (t : Table) (key : Bytes) → IsFront (moves_of t key) (moves_of (table_after procs xs t) key)
 moves_grow procs [] t key = front_refl (moves_of t key)
 moves_grow procs (x ∷ xs) t key = front_trans _ _ _ (move_at t.version key (one procs x t).1.moved, sym (after_moves procs t.version x t key refl)) (moves_grow procs xs (after procs x t) key)
-
--- what follows a move goes on following it while more moves are made
-pub follows_longer : (order : TxnId → TxnId → Type 0) (ms ns : List Moved) (c : ℕ) (t : TxnId) → IsFront ms ns → FollowsMove order ms c t → FollowsMove order ns c t
-follows_longer order ms ns zero t front f = f
-follows_longer order ms ns (suc c) t front f = (f.0, get_front ms ns c f.0 front f.1, f.2)
 
 -- where in a run the move of this number was made
 pub record IsMoveAt (procs : List ProcTree) (version : ℕ) (xs : List Txn) (t : Table) (key : Bytes) (i : ℕ) (m : Moved) : Type 0 where
@@ -112,14 +107,14 @@ numbered_move procs version (x ∷ xs) t key i m is low e = go (cases_lt i (coun
         record { mover = r.mover; at = record { front = x ∷ r.at.front; rest = r.at.rest; is = ap (λ l. x ∷ l) r.at.is }; number = r.number; makes = r.makes }
 
 -- the mover of a later move is among those that ran
-pub mover_in : (procs : List ProcTree) (xs : List Txn) (t : Table) (key : Bytes) (i : ℕ) (m : Moved) → counter_of t key ≤ i → slice_get (moves_of (table_after procs xs t) key) i ≡ Some m → Has (txn_ids xs) m.by
-mover_in procs xs t key i m low e =
+pub mover_ran : (procs : List ProcTree) (xs : List Txn) (t : Table) (key : Bytes) (i : ℕ) (m : Moved) → counter_of t key ≤ i → slice_get (moves_of (table_after procs xs t) key) i ≡ Some m → Has (txn_ids xs) m.by
+mover_ran procs xs t key i m low e =
     let r : IsMoveAt procs t.version xs t key i m = numbered_move procs t.version xs t key i m refl low e in
     subst (Has (txn_ids xs)) r.makes.by (has_map (λ x. x.id) xs r.mover (spot_has xs r.mover r.at))
 
 -- so after a run from a table without moves each mover is among those that ran
 pub movers_ran : (procs : List ProcTree) (xs : List Txn) (t : Table) (key : Bytes) → moves_of t key ≡ [] → AllIn (λ m. Has (txn_ids xs) m.by) (moves_of (table_after procs xs t) key)
-movers_ran procs xs t key none = all_of_gets _ (moves_of (table_after procs xs t) key) (λ i m e. mover_in procs xs t key i m (omega (arith, ap length none)) e)
+movers_ran procs xs t key none = all_of_gets _ (moves_of (table_after procs xs t) key) (λ i m e. mover_ran procs xs t key i m (omega (arith, ap length none)) e)
 
 -- what holds of each transaction of a run, on the table on which it ran
 abbrev pub AlongRun : List ProcTree → (Txn → Table → Type 0) → List Txn → Table → Type 0

@@ -116,8 +116,8 @@ module _ (procs : List ProcTree) (start : Table) (unmoved : (key : Bytes) → mo
   anchored_later : (txns : List Txn) → AllIn (λ a. FollowsMove First (moves_of (table_after procs txns (after procs (mover start.version key) start)) a.key) a.counter (later start.version key).id) (later start.version key).access
   anchored_later txns = (first_move txns, tt)
 
-  pub history : IsHistory procs First start (three_txns start.version key)
-  history = record {
+  pub three_are_history : IsHistory procs First start (three_txns start.version key)
+  three_are_history = record {
     transitive = λ u v t r s. absurd (no_later v s.0 r.1);
     unmoved = unmoved;
     keys = (
@@ -140,6 +140,6 @@ module _ (procs : List ProcTree) (start : Table) (unmoved : (key : Bytes) → mo
 
   pub either_way : IsPartOfRun (three_txns start.version key) × IsPartOfRun (mover start.version key ∷ stale start.version key ∷ later start.version key ∷ [])
   either_way = (
-    record { fits = history; members = (inl refl, (inr (inl refl), (inr (inr (inl refl)), tt))); down = later_first },
-    record { fits = history; members = (inl refl, (inr (inr (inl refl)), (inr (inl refl), tt))); down = stale_first },
+    record { fits = three_are_history; members = (inl refl, (inr (inl refl), (inr (inr (inl refl)), tt))); down = later_first },
+    record { fits = three_are_history; members = (inl refl, (inr (inr (inl refl)), (inr (inl refl), tt))); down = stale_first },
   )

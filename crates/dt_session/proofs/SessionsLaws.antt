@@ -202,8 +202,8 @@ waits_there s index p a e =
 pub looked_up : (entries : List (Bytes × Seat)) (name : Bytes) → lookup (same_key name) entries ≡ lookup (is_named name) entries
 looked_up entries name = ap (λ test. lookup test entries) (λ j other. texts_ties name other j)
 
-pub written : (entries : List (Bytes × Seat)) (name : Bytes) (seat : Seat) → set_value (same_key name) entries seat ≡ set_value (is_named name) entries seat
-written entries name seat = ap (λ test. set_value test entries seat) (λ j other. texts_ties name other j)
+pub seat_written : (entries : List (Bytes × Seat)) (name : Bytes) (seat : Seat) → set_value (same_key name) entries seat ≡ set_value (is_named name) entries seat
+seat_written entries name seat = ap (λ test. set_value test entries seat) (λ j other. texts_ties name other j)
 
 -- so the map finds the session of a name
 pub mapped : (s : SessionsView) (name : Bytes) (o : Option Seat) → o ≡ lookup (same_key name) s.seats → seat_of s name ≡ o

@@ -71,7 +71,7 @@ opening_world cluster workload = record {
   places = map (λ session. idle_place) workload.sessions;
 }
 
--- stands for a region that there is not
+-- stands in where there is no such thing: a region
 abbrev pub no_node : Node
 no_node = opening_node 0 (opening 1 0 [] [])
 

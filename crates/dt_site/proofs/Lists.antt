@@ -4,7 +4,6 @@ use Rattle.std.proofs.Common.{Some, refl, sym, ap, subst, ◌∙◌, inl, inr, a
 use Rattle.std.specs.Prelude.{is_some}
 use Rattle.std.proofs.lemmas.Bool.{cases_Bool}
 use Rattle.std.proofs.lemmas.List.{length_push}
-use Rattle.std.proofs.lemmas.List.Sums.{sum_by-cons}
 use Rattle.dt_lists.specs.Lists.{Has}
 use Rattle.dt_access.proofs.Callers.{id_of_test, test_of_id}
 use Rattle.dt_access.specs.Ids.{same_id}
@@ -14,6 +13,7 @@ use Rattle.dt_sched.specs.Views.{View, log_at}
 use Rattle.dt_sched.specs.Sched.{parts_in}
 use Rattle.dt_txn.specs.declared.Txn.{Txn}
 use Rattle.dt_txn.specs.Replica.{fronts}
+use Rattle.dt_sched.proofs.Callers.{parts_cons}
 use Rattle.dt_region.specs.Region.{find_txn}
 use Rattle.dt_region.specs.Rules.{keep, keep_all}
 use Rattle.dt_session.specs.World.{Submission}
@@ -27,9 +27,6 @@ fronts_set (m ∷ lengths) (l ∷ logs) zero n log lt = refl
 fronts_set (m ∷ lengths) (l ∷ logs) (suc home) n log lt = ap (λ v. take m l ∷ v) (fronts_set lengths logs home n log (omega arith))
 
 -- how many parts there are
-
-parts_cons : (l : List Part) (logs : View) → parts_in (l ∷ logs) ≡ length l + parts_in logs
-parts_cons l logs = sum_by-cons length l logs
 
 pub parts_set : (logs : View) (home : ℕ) (part : Part) → parts_in (set logs home (log_at logs home ++ part ∷ [])) ≤ parts_in logs + 1
 parts_set [] home part = omega arith

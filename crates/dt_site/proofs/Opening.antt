@@ -5,10 +5,10 @@ use Rattle.dt_access.specs.declared.Part.{Part}
 use Rattle.dt_sched.specs.Views.{View}
 use Rattle.dt_table.specs.Table.{Table}
 use Rattle.dt_txn.specs.Replica.{fronts}
+use Rattle.dt_sched.proofs.Callers.{empty_log}
 use Rattle.dt_region.specs.Conditions.{IsTableFor}
 use Rattle.dt_region.specs.Rules.{opening_state}
 use Rattle.dt_region.specs.Sound.{IsSoundRegion}
-use Rattle.dt_region.proofs.Callers.{log_none}
 use Rattle.dt_cluster.specs.declared.Cluster.{Cluster}
 use Rattle.dt_cluster.specs.Valid.{IsValidCluster}
 use Rattle.dt_workload.specs.declared.Workload.{Workload}
@@ -49,7 +49,7 @@ one_of_all (suc n) zero x d lt = refl
 one_of_all (suc n) (suc i) x d lt = one_of_all n i x d (omega arith)
 
 pub opening_node_is : (number regions : ℕ) (t : Table) → node_of (opening_site number regions t) ≡ opening_node regions t
-opening_node_is number regions t = ap₂ (λ (a : List Part) (b : List ℕ). record (opening_node regions t) { log = a; received = b }) (log_none regions number) (no_lengths regions number)
+opening_node_is number regions t = ap₂ (λ (a : List Part) (b : List ℕ). record (opening_node regions t) { log = a; received = b }) (empty_log regions number) (no_lengths regions number)
 
 module _ (cluster : Cluster) (workload : Workload) (region : ℕ) (lr : region < cluster.regions) where
   pub opening_stands : IsSoundRegion (opening_state region cluster.regions (opening_table cluster))

@@ -5,7 +5,7 @@ use Rattle.std.proofs.Common.{take, drop, Ok, Some, refl, sym, ap, ap₂, subst,
 use Rattle.std.proofs.lemmas.Bool.Decides.{nat_tests}
 use Rattle.std.proofs.lemmas.List.{length-map, length-set, length-take-le, length-drop, map-set, get_or-set_same, get_or-set_other, set-get_or}
 use Rattle.dt_lists.specs.Lists.{AllIn, Distinct, Has, IsFront}
-use Rattle.dt_lists.proofs.Callers.{map_of_set, any_front, each_front, front_map, front_take, either_le, all_get, all_image, all_map, all_put, has_map, set_apart}
+use Rattle.dt_lists.proofs.Callers.{map_of_set, any_front, each_front, front_map, front_take, either_le, all_get, all_image, all_map, all_put, has_map, set_apart, has_dropped}
 use Rattle.dt_region.proofs.Callers.{fronts_few}
 use Rattle.dt_access.specs.declared.TxnId.{TxnId}
 use Rattle.dt_access.specs.declared.Part.{Part}
@@ -75,11 +75,6 @@ drop_fronts (suc n) (suc a) (suc b) (x ∷ xs) le = drop_fronts n a b xs (omega 
 
 has_taken : {A : Type 0} (n : ℕ) (xs : List A) (x : A) → Has (take n xs) x → Has xs x
 has_taken n xs x h = any_front (λ y. y ≡ x) (take n xs) xs (front_take n xs) h
-
-has_dropped : {A : Type 0} (n : ℕ) (xs : List A) (x : A) → Has (drop n xs) x → Has xs x
-has_dropped zero xs x h = h
-has_dropped (suc n) [] x h = h
-has_dropped (suc n) (y ∷ xs) x h = inr (has_dropped n xs x h)
 
 -- a delivery goes on where what was received ends
 abbrev pub joins : ℕ → ℕ → ℕ → Bool

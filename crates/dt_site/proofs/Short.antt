@@ -6,7 +6,7 @@ use Rattle.std.proofs.lemmas.Bool.{cases_Bool}
 use Rattle.std.proofs.lemmas.List.{length_push, get_or-set_same, get_or-set_other}
 use Rattle.std.proofs.lemmas.Option.{some_pair_parts}
 use Rattle.dt_lists.specs.Lists.{AllIn, Either}
-use Rattle.dt_lists.proofs.Callers.{all_at, all_map, either_nat, from_right, field_of_set, map_of_set}
+use Rattle.dt_lists.proofs.Callers.{all_at, all_map, either_nat, from_right, field_of_set, map_of_set, all_set}
 use Rattle.dt_access.specs.Clash.{Bytes}
 use Rattle.dt_access.specs.declared.TxnId.{TxnId}
 use Rattle.dt_sched.specs.Sched.{parts_in}
@@ -58,11 +58,6 @@ place_put P (t ∷ sessions) (x ∷ places) region name p a b = go (is_session r
     go false r = (a.0, r)
 
 -- one node more that is short, in the place of another
-
-all_set : {A : Type 0} (P : A → Type 0) (xs : List A) (i : ℕ) (x : A) → AllIn P xs → P x → AllIn P (set xs i x)
-all_set P [] i x a p = tt
-all_set P (y ∷ xs) zero x a p = (p, a.1)
-all_set P (y ∷ xs) (suc i) x a p = (a.0, all_set P xs i x a.1 p)
 
 done_longer : (w : World) (n : ℕ) → HasShortLists w n → AllIn (λ x. length x.here.done ≤ n + 1) w.nodes
 done_longer w n s = all_map _ _ w.nodes (λ x a. omega arith) s.done

@@ -33,7 +33,7 @@ abbrev pub place_in : Option Seat → Place
 place_in None = idle_place
 place_in (Some seat) = record { answered = seat.answered; waits = option_map (λ (w : Waiting). w.id) seat.waits }
 
--- stands for the sessions of a region that there is not
+-- stands in where there is no such thing: the sessions of a region
 abbrev pub no_sessions : SessionsView
 no_sessions = record { tries = 0; seats = [] }
 

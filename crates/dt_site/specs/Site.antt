@@ -44,7 +44,7 @@ node_of p = record {
 abbrev pub opening_site : ℕ → ℕ → Table → SiteView
 opening_site number regions table = record { region = record { state = opening_state number regions table; events = []; heard = 0; room = 0 }; origins = [] }
 
--- stands for a site that there is not
+-- stands in where there is no such thing: a site
 abbrev pub no_site : SiteView
 no_site = opening_site 0 0 (opening 1 0 [] [])
 

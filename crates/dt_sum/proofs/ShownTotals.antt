@@ -11,7 +11,7 @@ use Rattle.std.specs.Cmp.Lexicographic.{slice_cmp, nat_list_cmp_total, texts_tie
 use Rattle.std.specs.FinMap.{FinMap, contains_key-keys, entries, entries_sorted, get, get-from_entries, get-retain_keys, is_sorted, keys, retain_keys}
 use Rattle.std.specs.FinMap.Entries.{below_all, is_some-find}
 use Rattle.dt_lists.specs.Lists.{AllIn, Distinct, Has}
-use Rattle.dt_lists.proofs.Callers.{any_get, any_of_image, any_put, any_image, each_image, either_any}
+use Rattle.dt_lists.proofs.Callers.{any_get, any_of_image, any_put, any_image, each_image, either_any, sum_mapped}
 use Rattle.dt_text.specs.Texts.{Bytes}
 use Rattle.dt_text.specs.declared.Value.{Value}
 use Rattle.dt_text.specs.declared.Value.TheVariants.{Int}
@@ -21,7 +21,7 @@ use Rattle.dt_access.specs.Granules.{unit_of}
 use Rattle.dt_table.specs.declared.Shown.{Shown}
 use Rattle.dt_table.specs.Table.{Table, counter_of, is_shown, set_of_keys, shown_at, value_of}
 use Rattle.dt_gen.specs.Load.{account, account_numbers}
-use Rattle.dt_gen.proofs.Callers.{accounts_apart, sum_by-image}
+use Rattle.dt_gen.proofs.Callers.{accounts_apart}
 use Rattle.dt_sum.specs.Balances.{HoldsAccounts, amount_of, balance, total_of}
 use Rattle.dt_sum.specs.Summary.{number_of_row}
 use Rattle.dt_sum.specs.Laws.{ShownSumIsTotal}
@@ -133,7 +133,7 @@ module _ (total : ℕ) (t : Table) (holds : HoldsAccounts total t) where
   shown_counts =
       let distinct : Distinct (map account account_numbers) = each_image (λ (x y : Bytes). ¬ (x ≡ y)) account account_numbers accounts_apart in
       let same = same_sums (counted t) (shown_keys t) (map account account_numbers) (keys_distinct (retain_keys (set_of_keys (keys t.values ++ keys t.moves)) (is_shown t))) distinct all_shown nothing in
-      let image : sum_by (counted t) (map account account_numbers) ≡ total_of t = sum_by-image (counted t) account account_numbers in
+      let image : sum_by (counted t) (map account account_numbers) ≡ total_of t = sum_mapped (counted t) account account_numbers in
       same ∙ image ∙ holds.together
     where
       all_shown : (key : Bytes) → Has (map account account_numbers) key → Has (shown_keys t) key

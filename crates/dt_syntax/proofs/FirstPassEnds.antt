@@ -1,11 +1,9 @@
 -- Every text passes first or has a first fault: its tokens are tried from the front on, until one is refused or none is left.
-use Rattle.std.proofs.Common.{◌≡◌, ◌⊎◌, inl, inr, ℕ, Bool, true, false, List, [], ◌∷◌, ◌++◌, length, Option, Some, None, refl, sym, ap, ◌∙◌, subst, append_assoc, append-nil}
-use Rattle.dt_syntax.specs.declared.token.Token.{Token}
+use Rattle.std.proofs.Common.{◌≡◌, ◌⊎◌, inl, inr, ℕ, Bool, true, false, List, [], ◌∷◌, ◌++◌, length, Option, Some, None, refl, sym, ap, ◌∙◌, append_assoc, append-nil}
 use Rattle.dt_syntax.specs.declared.token.Placed.{Placed}
 use Rattle.dt_syntax.specs.declared.machine.Sym.{Sym}
 use Rattle.dt_syntax.specs.declared.machine.Sym.TheVariants as expect
 use Rattle.dt_syntax.specs.Tokens.{tokens_of}
-use Rattle.dt_syntax.specs.Grammar.{InGrammar, Begins}
 use Rattle.dt_syntax.specs.MachineInner.{advance, onward, run}
 use Rattle.dt_syntax.specs.FirstPass.{is_too_many, NoneTooMany, StartsWell, PassesFirst, IsSyntaxFault, IsTooMany, backwards}
 use Rattle.dt_syntax.proofs.MachineComplete.{grammar_read, beginning_read}

@@ -22,27 +22,27 @@ use Rattle.std.proofs.lemmas.List.Sums.{take_while-cons}
 use Rattle.dt_syntax.proofs.LexerLemmas.{passed, at_front}
 
 -- the size of a token
-abbrev pub Fits : ℕ → Option Sized → Type 0
-Fits most None = Unit {0}
-Fits most (Some s) = (1 ≤ s.1) × (s.1 ≤ most)
+abbrev pub FitsSize : ℕ → Option Sized → Type 0
+FitsSize most None = Unit {0}
+FitsSize most (Some s) = (1 ≤ s.1) × (s.1 ≤ most)
 
-fits_map : (most n : ℕ) (o : Option Token) → 1 ≤ n → n ≤ most → Fits most (option_map (λ t. (t, n)) o)
+fits_map : (most n : ℕ) (o : Option Token) → 1 ≤ n → n ≤ most → FitsSize most (option_map (λ t. (t, n)) o)
 fits_map most n None low high = tt
 fits_map most n (Some t) low high = (low, high)
 
-fits_first : (most : ℕ) (a b : Option Sized) → Fits most a → Fits most b → Fits most (first_of a b)
+fits_first : (most : ℕ) (a b : Option Sized) → FitsSize most a → FitsSize most b → FitsSize most (first_of a b)
 fits_first most None b fa fb = fb
 fits_first most (Some s) b fa fb = fa
 
-fits_text : (b : Bool) (t : Token) (n most : ℕ) → n + 1 ≤ most → Fits most (cond b (Some (t, n + 1)) None)
+fits_text : (b : Bool) (t : Token) (n most : ℕ) → n + 1 ≤ most → FitsSize most (cond b (Some (t, n + 1)) None)
 fits_text true t n most h = (omega arith, h)
 fits_text false t n most h = tt
 
-found_fits : (bs : List ℕ) (o : Option (List ℕ × List ℕ)) → Fits (suc (length bs)) (text_found bs o)
+found_fits : (bs : List ℕ) (o : Option (List ℕ × List ℕ)) → FitsSize (suc (length bs)) (text_found bs o)
 found_fits bs None = tt
 found_fits bs (Some r) = fits_text _ _ (length bs - length r.1) (suc (length bs)) (omega arith)
 
-sign_fits : (b : ℕ) (bs : List ℕ) → Fits (suc (length bs)) (sign_before b bs)
+sign_fits : (b : ℕ) (bs : List ℕ) → FitsSize (suc (length bs)) (sign_before b bs)
 sign_fits b [] = fits_map _ 1 (single_sign b) (omega arith) (omega arith)
 sign_fits b (c ∷ bs) =
     fits_first _ _ _ (fits_map _ 2 (double_sign b c) (omega arith) (omega arith)) (fits_map _ 1 (single_sign b) (omega arith) (omega arith))
@@ -59,15 +59,15 @@ some_taken : (b : ℕ) (bs : List ℕ) → is_name_byte b ≡ true → 1 ≤ len
 some_taken b bs e = rw (take_while-cons is_name_byte b bs, e) (omega arith)
 
 chosen_fits : (v : Bool) (b : ℕ) (bs : List ℕ) → is_name_byte b ≡ v →
-    Fits (suc (length bs)) (cond v (front_word (b ∷ bs)) (cond (b == 34) (text_after bs) (sign_before b bs)))
+    FitsSize (suc (length bs)) (cond v (front_word (b ∷ bs)) (cond (b == 34) (text_after bs) (sign_before b bs)))
 chosen_fits true b bs e = fits_map (suc (length bs)) (length (take_while is_name_byte (b ∷ bs))) (word_token (take_while is_name_byte (b ∷ bs))) (some_taken b bs e) (taken_short is_name_byte (b ∷ bs))
 chosen_fits false b bs e = quoted (b == 34)
   where
-    quoted : (q : Bool) → Fits (suc (length bs)) (cond q (text_after bs) (sign_before b bs))
+    quoted : (q : Bool) → FitsSize (suc (length bs)) (cond q (text_after bs) (sign_before b bs))
     quoted true = found_fits bs (items_of bs)
     quoted false = sign_fits b bs
 
-pub front_fits : (bs : List ℕ) → Fits (length bs) (front_token bs)
+pub front_fits : (bs : List ℕ) → FitsSize (length bs) (front_token bs)
 front_fits [] = tt
 front_fits (b ∷ bs) = chosen_fits (is_name_byte b) b bs refl
 
@@ -84,18 +84,6 @@ pub record Reading (text : List ℕ) (tokens : List Placed) (stack : List Sym) (
   pub few : NoneTooMany [] tokens
   pub counted : counts ≡ counts_of (backwards tokens [])
   pub short : length tokens ≤ place
-
-pub first_tokens : (text : List ℕ) (place : ℕ) (counts : Counts) (stack : List Sym) → place ≤ length text → BeginsToken (drop place text) →
-    tokens_from 0 0 (drop 0 text) ≡ tokens_from 0 place (drop place text) → counts ≡ counts_of [] → stack ≡ expect.Procs ∷ [] → Reading text [] stack counts place
-first_tokens text place counts stack within starts same counted is = record {
-  within = within;
-  starts = starts;
-  lexed = same;
-  read = ap Some (sym is);
-  few = tt;
-  counted = counted;
-  short = omega arith;
-}
 
 -- at the end of the text there are no more tokens
 no_more : (text : List ℕ) (place : ℕ) → length text ≤ place → tokens_from 0 place (drop place text) ≡ record { tokens = []; bad = None }
@@ -121,7 +109,7 @@ next_front text place t n lt starts is =
     let b = some_byte text place lt in
     let here = at_front b.0 b.1 place (subst BeginsToken b.2 starts) in
     let front : front_token (b.0 ∷ b.1) ≡ Some (t, n) = subst (λ v. front_token v ≡ Some (t, n)) b.2 is in
-    let fits : Fits (length (b.0 ∷ b.1)) (Some (t, n)) = subst (Fits (length (b.0 ∷ b.1))) front (front_fits (b.0 ∷ b.1)) in
+    let fits : FitsSize (length (b.0 ∷ b.1)) (Some (t, n)) = subst (FitsSize (length (b.0 ∷ b.1))) front (front_fits (b.0 ∷ b.1)) in
     let over = passed (n - 1) (place + 1) b.1 in
     let stands : place + 1 + (n - 1) ≡ place + n = omega (arith, fits.0) in
     let left : drop (n - 1) b.1 ≡ drop (place + n) text = left_is text place n b.0 b.1 b.2 fits.0 in
@@ -137,7 +125,7 @@ next_front text place t n lt starts is =
 pub front_within : (text : List ℕ) (place : ℕ) (t : Token) (n : ℕ) → place < length text → front_token (drop place text) ≡ Some (t, n) →
     (1 ≤ n) × (place + n ≤ length text)
 front_within text place t n lt is =
-    let fits : Fits (length (drop place text)) (Some (t, n)) = subst (Fits (length (drop place text))) is (front_fits (drop place text)) in
+    let fits : FitsSize (length (drop place text)) (Some (t, n)) = subst (FitsSize (length (drop place text))) is (front_fits (drop place text)) in
     (fits.0, omega (arith, fits.1, length-drop place text))
 
 pub few_more : (earlier ts : List Placed) (t : Placed) → NoneTooMany earlier ts → is_too_many (backwards ts earlier) t.token ≡ false → NoneTooMany earlier (ts ++ t ∷ [])

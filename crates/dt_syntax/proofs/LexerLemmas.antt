@@ -1,13 +1,12 @@
 -- How the tokens of some bytes come from those of what is left of them.
-use Rattle.std.proofs.Common.{◌≡◌, ◌≢◌, ℕ, zero, suc, ◌+◌, ◌-◌, ◌<◌, ◌≤◌, Bool, true, false, cond, ◌==◌, List, [], ◌∷◌, ◌++◌, length, take, drop, Option, Some}
-use Rattle.std.proofs.Common.{None, refl, sym, ap, ◌∙◌, arith, append_assoc, take_while, get_or, eq-eqb, length-drop}
+use Rattle.std.proofs.Common.{◌≡◌, ℕ, zero, suc, ◌+◌, ◌-◌, ◌<◌, Bool, true, false, cond, ◌==◌, List, [], ◌∷◌, ◌++◌, length, take, drop, Option}
+use Rattle.std.proofs.Common.{refl, sym, ap, ◌∙◌, arith, take_while, get_or, eq-eqb, length-drop}
 use Rattle.std.proofs.Math.Seq.{take-length}
-use Rattle.std.proofs.lemmas.List.{drop_more, drop_all, drop-drop}
+use Rattle.std.proofs.lemmas.List.{drop_more, drop-drop}
 use Rattle.std.proofs.lemmas.List.Sums.{take_while-cons}
 use Rattle.std.specs.Option.{option_map}
 use Rattle.std.specs.List.{list_all}
-use Rattle.std.proofs.lemmas.Bool.Decides.{nat_tests}
-use Rattle.dt_syntax.specs.Tokens.{tokens_from, with_front, front_token, is_blank, is_no_line_end, with_item, BeginsToken}
+use Rattle.dt_syntax.specs.Tokens.{tokens_from, with_front, front_token, is_blank, is_no_line_end, BeginsToken}
 
 -- what was read of a text, and what comes after it
 abbrev pub with_items : List ℕ → Option (List ℕ × List ℕ) → Option (List ℕ × List ℕ)
@@ -35,15 +34,6 @@ gap_comment bs i k lt blank hash is =
     let test : (get_or bs i 0 == 35) ≡ true = eq-eqb _ _ hash in
     rw (drop_more bs i 0 lt, blank, test, ← is) (passed k (i + 1) (drop (i + 1) bs) ∙ ap (tokens_from 0 (i + 1 + k)) (drop-drop k (i + 1) bs))
 
--- where no blank and no comment begins, a token does
-pub gap_over : (bs : List ℕ) (i : ℕ) → i < length bs → is_blank (get_or bs i 0) ≡ false → get_or bs i 0 ≢ 35 → BeginsToken (drop i bs)
-gap_over bs i lt blank other =
-    let test : (get_or bs i 0 == 35) ≡ false = grind (arith, nat_tests) in
-    rw (drop_more bs i 0 lt) (blank, test)
-
-pub gap_at_end : (bs : List ℕ) (i : ℕ) → length bs ≤ i → BeginsToken (drop i bs)
-gap_at_end bs i le = rw (drop_all i bs le) tt
-
 -- what a token begins is that token, and then what follows it
 pub at_front : (b : ℕ) (bs : List ℕ) (at : ℕ) → BeginsToken (b ∷ bs) →
     tokens_from 0 at (b ∷ bs) ≡ with_front at (front_token (b ∷ bs)) (λ more. tokens_from more (at + 1) bs)
@@ -64,11 +54,6 @@ all_of p b bs false e h = refl
 pub all_taken : (p : ℕ → Bool) (bs : List ℕ) → list_all p (take_while p bs) ≡ true
 all_taken p [] = refl
 all_taken p (b ∷ bs) = rw (take_while-cons p b bs) (all_of p b (take_while p bs) (p b) refl (all_taken p bs))
-
--- one more item
-pub item_more : (read : List ℕ) (b : ℕ) (o : Option (List ℕ × List ℕ)) → with_items read (with_item b o) ≡ with_items (read ++ b ∷ []) o
-item_more read b None = refl
-item_more read b (Some r) = ap (λ v. Some (v, r.1)) (sym (append_assoc read (b ∷ []) r.0))
 
 -- the rest of a list from a place on, as a slice has it
 pub rest_from : (xs : List ℕ) (i : ℕ) → take (length xs - i) (drop i xs) ≡ drop i xs

@@ -28,10 +28,6 @@ few_right : (e xs ys : List Placed) → NoneTooMany e (xs ++ ys) → NoneTooMany
 few_right e [] ys h = h
 few_right e (x ∷ xs) ys h = few_right (x ∷ e) xs ys h.1
 
-backwards_join : (xs ys e : List Placed) → backwards (xs ++ ys) e ≡ backwards ys (backwards xs e)
-backwards_join [] ys e = refl
-backwards_join (x ∷ xs) ys e = backwards_join xs ys (x ∷ e)
-
 -- a token that begins no procedure
 abbrev NoProc : Placed → Type 0
 NoProc t = is_proc t.token ≡ false

@@ -1,5 +1,6 @@
 -- Which words are numbers.
-use Rattle.std.proofs.Common.{◌≡◌, ℕ, ◌<◌, ◌≤◌, ◌^◌, Bool, true, false, cond, ◌&&◌, ◌||◌, ◌==◌, not, nat_lt, List, [], ◌∷◌, length, get_or, ℤ, pos, negsuc, w64}
+use Rattle.std.proofs.Common.{◌≡◌, ℕ, ◌<◌, ◌≤◌, ◌^◌, Bool, true, false, cond, ◌||◌, ◌==◌, not, nat_lt, List, [], ◌∷◌, length, get_or, ℤ, pos, negsuc, w64, lt-ltb}
+use Rattle.std.proofs.Common.{ltb-true}
 use Rattle.std.proofs.Common.{FitsSigned, Option, Some, None, refl, subst, arith}
 use Rattle.std.specs.Option.{option_map}
 use Rattle.std.specs.List.{list_all}
@@ -42,12 +43,6 @@ plain_test a n h = grind (arith, nat_tests)
 test_plain : (a n : ℕ) → (not (a == 48) || n == 1) ≡ true → a ≡ 48 → n ≡ 1
 test_plain a n h e = grind (arith, nat_tests)
 
-below : (a b : ℕ) → a < b → nat_lt a b ≡ true
-below a b h = grind (arith, nat_tests)
-
-is_below : (a b : ℕ) → nat_lt a b ≡ true → a < b
-is_below a b h = grind (arith, nat_tests)
-
 chosen : (t : Bool) (v n : ℕ) → cond t (Some v) None ≡ Some n → (t ≡ true) × (v ≡ n)
 chosen true v n e = (refl, cc)
 chosen false v n e = absurd cc
@@ -59,7 +54,7 @@ number_known word n small is =
     let value : digits_value 10 word ≡ n = facts.2 in
     let all : list_all is_digit word ≡ true = digits_all word facts.1 in
     let plain = plain_test (get_or word 0 0) (length word) facts.0.1 in
-    let low : nat_lt (digits_value 10 word) (2 ^ 63) ≡ true = below (digits_value 10 word) (2 ^ 63) (omega arith) in
+    let low : nat_lt (digits_value 10 word) (2 ^ 63) ≡ true = lt-ltb (digits_value 10 word) (2 ^ 63) (omega arith) in
     rw (all, plain, low, value) refl
 
 -- a word that is a number is its printed form
@@ -68,7 +63,7 @@ number_spelled word n some is =
     let facts = chosen _ _ _ is in
     let all : list_all is_digit word ≡ true = (and_parts _ _ ((and_parts _ _ facts.0).0)).0 in
     let plain : (not (get_or word 0 0 == 48) || length word == 1) ≡ true = (and_parts _ _ ((and_parts _ _ facts.0).0)).1 in
-    let low : digits_value 10 word < 2 ^ 63 = is_below (digits_value 10 word) (2 ^ 63) ((and_parts _ _ facts.0).1) in
+    let low : digits_value 10 word < 2 ^ 63 = ltb-true (digits_value 10 word) (2 ^ 63) ((and_parts _ _ facts.0).1) in
     let value : digits_value 10 word ≡ n = facts.1 in
     let small : n < 2 ^ 63 = omega arith in
     (small, (one_spelling word n (omega arith)).1 ((some, test_plain _ _ plain), all_digits word all, value))
@@ -100,6 +95,6 @@ number_is word (Some (negsuc n)) digit h =
 pub whole_small : (word : List ℕ) (n : ℕ) → whole_number word ≡ Some n → n < 2 ^ 63
 whole_small word n is =
     let facts = chosen _ _ _ is in
-    let low : digits_value 10 word < 2 ^ 63 = is_below (digits_value 10 word) (2 ^ 63) ((and_parts _ _ facts.0).1) in
+    let low : digits_value 10 word < 2 ^ 63 = ltb-true (digits_value 10 word) (2 ^ 63) ((and_parts _ _ facts.0).1) in
     let value : digits_value 10 word ≡ n = facts.1 in
     omega arith

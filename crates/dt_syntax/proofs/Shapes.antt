@@ -1,6 +1,6 @@
 -- What the first token of a part of the grammar says of the part, and where a part ends.
-use Rattle.std.proofs.Common.{◌≡◌, inl, inr, ℕ, suc, ◌+◌, ◌<◌, ◌≤◌, List, [], ◌∷◌, ◌++◌, Ok, Err, refl, sym, ap, ◌∙◌, subst, arith, append_assoc, take, drop}
-use Rattle.std.proofs.Common.{get_or, length, length-append, add-one, Bool, true, false, ℤ, ◌-◌, append-nil, map, Result, OnOk, MatchResult, cond, nat_eq, ◌⊎◌}
+use Rattle.std.proofs.Common.{◌≡◌, inl, inr, ℕ, suc, ◌+◌, ◌<◌, ◌≤◌, List, [], ◌∷◌, ◌++◌, refl, sym, ap, ◌∙◌, subst, arith, append_assoc, take, drop}
+use Rattle.std.proofs.Common.{get_or, length, length-append, add-one, Bool, true, false, ◌-◌, ◌⊎◌}
 use Rattle.std.proofs.Math.Seq.{take-length}
 use Rattle.dt_syntax.specs.declared.token.Token.{Token}
 use Rattle.dt_syntax.specs.declared.token.Token.TheVariants as tok
@@ -10,10 +10,10 @@ use Rattle.dt_syntax.specs.declared.operator.Op.TheVariants as op
 use Rattle.dt_syntax.specs.Grammar.{front_place, at, Bracketed, bracketed_tokens, Syntax, chain, minus, denial, int, text, truth, name, parens, of_key, made}
 use Rattle.dt_syntax.specs.Grammar.{Links, no_link, link, syntax_tokens, links_tokens, level_of, IsLevel, AreLinks, reads_int, reads_text, reads_presence}
 use Rattle.dt_syntax.specs.Grammar.{makes_length, makes_text, Item, item_tokens, items_tokens, IsItem, KeyPart, text_part, name_part, show_part, part_tokens}
-use Rattle.dt_syntax.specs.Grammar.{KeySyntax, key_tokens, mode_token, params, params_tokens, statements_tokens, ProcSyntax, proc_tokens, Statement, let_new}
+use Rattle.dt_syntax.specs.Grammar.{KeySyntax, key_tokens, mode_token, params_tokens, statements_tokens, ProcSyntax, proc_tokens, Statement, let_new}
 use Rattle.dt_syntax.specs.Grammar.{set_key, clear_key, when, choose, abort, give, Statements, nothing, first, statement_tokens, IsStatement, AreStatements}
 use Rattle.dt_syntax.specs.FrontsInner.{Stops, FrontStops, joined_part, NoElse}
-use Rattle.std.specs.List.{flat_map, list_any}
+use Rattle.std.specs.List.{flat_map}
 use Rattle.dt_lists.specs.Lists.{AllIn}
 
 pub up : (n : ℕ) (x : Syntax) → IsLevel (suc n) x → IsLevel (n + 1) x
@@ -67,34 +67,19 @@ pub inner : (xs : List Placed) (y : Placed) (us : List Placed) → xs ++ y ∷ u
 inner xs y us = sym (append_assoc xs (y ∷ []) us)
 
 -- what is left after the first token, as a slice has it
-abbrev pub left_of : List Placed → List Placed
-left_of ts = take (length ts - 1) (drop 1 ts)
+abbrev pub after_first : List Placed → List Placed
+after_first ts = take (length ts - 1) (drop 1 ts)
 
-pub left_is : (t : Placed) (ts : List Placed) → left_of (t ∷ ts) ≡ ts
+pub left_is : (t : Placed) (ts : List Placed) → after_first (t ∷ ts) ≡ ts
 left_is t ts = ap (λ n. take n ts) (let e : suc (length ts) - 1 ≡ length ts = omega arith in e) ∙ take-length ts
 
 -- the first token of some, and the others
-pub cut_first : (ts : List Placed) (one : Placed) → 1 ≤ length ts → one ≡ get_or ts 0 one → ts ≡ one ∷ left_of ts
+pub cut_first : (ts : List Placed) (one : Placed) → 1 ≤ length ts → one ≡ get_or ts 0 one → ts ≡ one ∷ after_first ts
 cut_first [] one some is = absurd (omega arith)
 cut_first (t ∷ ts) one some is = ap (λ v. v ∷ ts) (sym is) ∙ ap (λ v. one ∷ v) (sym (left_is t ts))
 
-pub some_tokens : (x : Syntax) → 0 < length (syntax_tokens x)
-some_tokens (chain head links) = omega (arith, some_tokens head, length-append (syntax_tokens head) (links_tokens links))
-some_tokens (minus p x) = omega arith
-some_tokens (denial p x) = omega arith
-some_tokens (int p z) = omega arith
-some_tokens (text p z) = omega arith
-some_tokens (truth p z) = omega arith
-some_tokens (name p z) = omega arith
-some_tokens (parens p x q) = omega arith
-some_tokens (of_key p r b) = omega arith
-some_tokens (made p m o x q) = omega arith
-
-pub not_empty : (x : Syntax) (rest ts : List Placed) → length ts < 1 → syntax_tokens x ++ rest ≡ ts → ⊥
-not_empty x rest ts none e = omega (arith, some_tokens x, length-append (syntax_tokens x) rest, ap length e)
-
 -- where one does, it is the first
-pub record IsLinked (n : ℕ) (p : ℕ) (o : Op) (after : List Placed) (ls : Links) (rest : List Placed) : Type 0 where
+pub record IsFirstLink (n : ℕ) (p : ℕ) (o : Op) (after : List Placed) (ls : Links) (rest : List Placed) : Type 0 where
   pub x : Syntax
   pub more : Links
   pub is : ls ≡ link p o x more
@@ -109,7 +94,7 @@ operator_is : (o u : Op) → tok.Op o ≡ tok.Op u → o ≡ u
 operator_is o u e = cc
 
 pub link_first : (n p : ℕ) (o : Op) (after : List Placed) (ls : Links) (rest ts : List Placed) → AreLinks n ls → FrontStops n rest →
-    level_of o ≡ n → at p (tok.Op o) ∷ after ≡ ts → links_tokens ls ++ rest ≡ ts → IsLinked n p o after ls rest
+    level_of o ≡ n → at p (tok.Op o) ∷ after ≡ ts → links_tokens ls ++ rest ≡ ts → IsFirstLink n p o after ls rest
 link_first n p o after no_link [] ts h stop is e f = absurd stop
 link_first n p o after no_link (t ∷ rest) ts h stop is e f =
     let same : at p (tok.Op o) ≡ t = head_is _ _ _ _ (e ∙ sym f) in
@@ -208,7 +193,7 @@ pub no_join_semicolon : ¬ (tok.Op op.Join ≡ tok.Semicolon)
 no_join_semicolon e = cc
 
 -- a key comes first, or none
-pub record IsKey (all : List KeySyntax) (w : Bool) (p : ℕ) (last after : List Placed) : Type 0 where
+pub record IsFirstKey (all : List KeySyntax) (w : Bool) (p : ℕ) (last after : List Placed) : Type 0 where
   pub key : KeySyntax
   pub more : List KeySyntax
   pub is : all ≡ key ∷ more
@@ -235,7 +220,7 @@ mode_begin true e = cc
 mode_begin false e = cc
 
 pub key_first : (all : List KeySyntax) (b : ℕ) (rest : List Placed) (t : Placed) (ts : List Placed) (w : Bool) → t.token ≡ mode_token w →
-    flat_map key_tokens all ++ at b tok.Begin ∷ rest ≡ t ∷ ts → IsKey all w t.place (at b tok.Begin ∷ rest) ts
+    flat_map key_tokens all ++ at b tok.Begin ∷ rest ≡ t ∷ ts → IsFirstKey all w t.place (at b tok.Begin ∷ rest) ts
 key_first [] b rest t ts w is e = absurd (mode_begin w (ap (λ v. v.token) (head_is _ _ _ _ e) ∙ is))
 key_first (k ∷ ks) b rest t ts w is e =
     let whole = sym (key_cut k (flat_map key_tokens ks ++ at b tok.Begin ∷ rest))
@@ -376,9 +361,9 @@ step_shape (give p i more e) rest t ts h is =
     shape_at (at p tok.Give) t _ ts (give p i more e) rest is (i, more, e, refl, h.0, h.1, inner (items_tokens i more) (at e tok.Semicolon) rest)
 
 pub step_when : (s : Statement) (rest ts : List Placed) (one : Placed) (k : Token) → IsStatement s → 1 ≤ length ts → one ≡ get_or ts 0 one →
-    statement_tokens s ++ rest ≡ ts → one.token ≡ k → StepShape k one.place (left_of ts) s rest
+    statement_tokens s ++ rest ≡ ts → one.token ≡ k → StepShape k one.place (after_first ts) s rest
 step_when s rest ts one k h some is e same =
-    subst (λ t. StepShape t one.place (left_of ts) s rest) same (step_shape s rest one (left_of ts) h (e ∙ cut_first ts one some is))
+    subst (λ t. StepShape t one.place (after_first ts) s rest) same (step_shape s rest one (after_first ts) h (e ∙ cut_first ts one some is))
 
 pub some_statement : (s : Statement) (rest ts : List Placed) → length ts < 1 → statement_tokens s ++ rest ≡ ts → ⊥
 some_statement (let_new p q n i x e) rest ts none is = omega (arith, ap length is)

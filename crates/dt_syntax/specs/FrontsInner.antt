@@ -6,7 +6,6 @@ use Rattle.dt_syntax.specs.declared.token.Token.{Token}
 use Rattle.dt_syntax.specs.declared.token.Token.TheVariants as tok
 use Rattle.dt_syntax.specs.declared.token.Placed.{Placed}
 use Rattle.dt_syntax.specs.Grammar.{at, level_of, Param, param_tokens, KeyPart, part_tokens}
-use Rattle.dt_syntax.specs.declared.operator.Op.{Op}
 use Rattle.dt_syntax.specs.declared.operator.Op.TheVariants as op
 
 -- an expression of the level does not go on with this token

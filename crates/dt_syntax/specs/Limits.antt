@@ -1,7 +1,7 @@
 -- What the first pass ensures beside the grammar: the values of tokens are in range, and procedures have few parameters
 -- and keys. The second pass rests on it, so that no procedure that it makes is too large. The limits themselves, with the
 -- token at which each is reported, stand in FirstPass. Read next: SecondPass of dt_proc.
-use Rattle.std.specs.Prelude.{ℕ, ◌≤◌, ◌∷◌, length, FitsSigned, List}
+use Rattle.std.specs.Prelude.{◌≤◌, ◌∷◌, length, FitsSigned, List}
 use Rattle.dt_syntax.specs.declared.token.Token.{Token}
 use Rattle.dt_syntax.specs.declared.token.Token.TheVariants as tok
 use Rattle.dt_syntax.specs.declared.token.Placed.{Placed}

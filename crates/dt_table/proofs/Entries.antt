@@ -4,22 +4,13 @@ use Rattle.std.specs.Option.{option_map}
 use Rattle.std.specs.Ordering.{eq_by_cmp}
 use Rattle.std.specs.declared.cmp.Ordering.{Ordering}
 use Rattle.std.specs.Cmp.{IsTotalOrder, IsEquivalence}
-use Rattle.std.specs.Map.{lookup, set_value}
+use Rattle.std.specs.Map.{lookup}
 use Rattle.std.specs.FinMap.{get, insert, from_entries, get-insert, get-from_entries, same_map, IsAntisymmetric}
 use Rattle.std.specs.FinMap.Entries.{find}
 use Rattle.indexmap.specs.IndexMap.{insert_entry}
 use Rattle.dt_lists.specs.Lists.{AllIn}
 
 module _ {K V : Type 0} (eq : K → K → Bool) where
-  -- where the key is there, to insert is to set its value
-  pub insert_entry-present : (es : List (K × V)) (k : K) (v w : V) → lookup (eq k) es ≡ Some v → insert_entry eq es k w ≡ set_value (eq k) es w
-  insert_entry-present [] k v w there = cc
-  insert_entry-present (e ∷ es) k v w there =
-      elim (eq k e.0) as (λ b. cond b (Some e.1) (lookup (eq k) es) ≡ Some v → cond b ((e.0, w) ∷ es) (e ∷ insert_entry eq es k w) ≡ cond b ((e.0, w) ∷ es) (e ∷ set_value (eq k) es w)) [
-        | true ↦ λ _. refl
-        | false ↦ λ later. ap (λ l. e ∷ l) (insert_entry-present es k v w later)
-      ] there
-
   -- a look-up after an insert
   pub lookup-insert_entry : IsEquivalence eq → (es : List (K × V)) (k : K) (w : V) (q : K) → lookup (eq q) (insert_entry eq es k w) ≡ cond (eq k q) (Some w) (lookup (eq q) es)
   lookup-insert_entry laws [] k w q = ap (λ b. cond b (Some w) None) (laws.symm q k)

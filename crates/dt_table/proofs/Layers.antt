@@ -15,7 +15,7 @@ use Rattle.dt_table.specs.RowsInner.{first_values, layered, unchanged_rows, unch
 use Rattle.dt_table.specs.StoredUnitInner.{keys_with_value}
 use Rattle.dt_table.proofs.Entries.{lookup-insert_entry}
 use Rattle.dt_table.proofs.SortedEntries.{order, find-lookup}
-use Rattle.dt_table.proofs.ShownKeys.{distinct_append, each_of_them, kept_any, kept_at, kept_distinct}
+use Rattle.dt_table.proofs.ShownKeys.{distinct_append, each_of_them, kept_any, passes_at, kept_distinct}
 
 -- ---- look-ups
 
@@ -157,6 +157,6 @@ distinct-layered changed rows dc dr =
     keep : Bytes → Value → Bool
     keep k v = not (is_some (lookup (same_key k) changed))
 
-    by : (q : Bytes) → is_some (lookup (same_key q) changed) ≡ true → (o : Option Value) → kept_at (λ k (v : Value). not (is_some (lookup (same_key k) changed))) q o ≡ false
+    by : (q : Bytes) → is_some (lookup (same_key q) changed) ≡ true → (o : Option Value) → passes_at (λ k (v : Value). not (is_some (lookup (same_key k) changed))) q o ≡ false
     by q there None = refl
     by q there (Some v) = ap not there

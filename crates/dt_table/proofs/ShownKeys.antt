@@ -81,16 +81,16 @@ module _ {V : Type 0} (keep : Bytes → V → Bool) where
       ]
 
   -- whether the entry that a look-up found passes
-  abbrev pub kept_at : Bytes → Option V → Bool
-  kept_at q None = false
-  kept_at q (Some v) = keep q v
+  abbrev pub passes_at : Bytes → Option V → Bool
+  passes_at q None = false
+  passes_at q (Some v) = keep q v
 
   -- a key is kept where its entry passes
-  pub kept_any : (es : List (Bytes × V)) (q : Bytes) → IsDistinct same_key (keys_of es) → list_any (same_key q) (kept es) ≡ kept_at q (lookup (same_key q) es)
+  pub kept_any : (es : List (Bytes × V)) (q : Bytes) → IsDistinct same_key (keys_of es) → list_any (same_key q) (kept es) ≡ passes_at q (lookup (same_key q) es)
   unfolding IsDistinct
   kept_any [] q d = refl
   kept_any (e ∷ es) q d =
-      elim (same_key q e.0) as (λ b. same_key q e.0 ≡ b → list_any (same_key q) ((if keep e.0 e.1 then e.0 ∷ [] else []) ++ kept es) ≡ kept_at q (cond b (Some e.1) (lookup (same_key q) es))) [
+      elim (same_key q e.0) as (λ b. same_key q e.0 ≡ b → list_any (same_key q) ((if keep e.0 e.1 then e.0 ∷ [] else []) ++ kept es) ≡ passes_at q (cond b (Some e.1) (lookup (same_key q) es))) [
         | true ↦ λ tied.
             let is : q ≡ e.0 = (bytes_decides q e.0).0 tied in
             let others : list_any (same_key q) (kept es) ≡ false = none_of q (kept es) (kept_all (λ y. same_key q y ≡ false) es (subst (λ k. AllByRecursion (λ y. same_key k y ≡ false) (keys_of es)) (sym is) d.0)) in
@@ -99,7 +99,7 @@ module _ {V : Type 0} (keep : Bytes → V → Bool) where
               | false ↦ λ no. others ∙ sym (ap (λ k. keep k e.1) is ∙ no)
             ] refl
         | false ↦ λ apart.
-            elim (keep e.0 e.1) as (λ k. list_any (same_key q) ((if k then e.0 ∷ [] else []) ++ kept es) ≡ kept_at q (lookup (same_key q) es)) [
+            elim (keep e.0 e.1) as (λ k. list_any (same_key q) ((if k then e.0 ∷ [] else []) ++ kept es) ≡ passes_at q (lookup (same_key q) es)) [
               | true ↦ ap (λ b. b || list_any (same_key q) (kept es)) apart ∙ kept_any es q d.1
               | false ↦ kept_any es q d.1
             ]
@@ -152,12 +152,12 @@ module _ (a : Inside) (sound : IsSoundTable a) (vd : IsDistinct same_key (keys_o
   collected = keys_with_value vals ++ moved_without_value vals units
 
   abbrev moved_in : Bytes → Bool
-  moved_in q = kept_at (λ k (s : StoredUnit). nat_lt 0 s.counter && not (has_value vals k)) q (lookup (same_key q) units)
+  moved_in q = passes_at (λ k (s : StoredUnit). nat_lt 0 s.counter && not (has_value vals k)) q (lookup (same_key q) units)
 
   any-keys_with_value : (q : Bytes) → list_any (same_key q) (keys_with_value vals) ≡ has_value vals q
   any-keys_with_value q = kept_any (λ k v. is_some v) vals q vd ∙ by (lookup (same_key q) vals)
     where
-      by : (o : Option (Option Value)) → kept_at (λ k (v : Option Value). is_some v) q o ≡ is_some (unwrap_or o None)
+      by : (o : Option (Option Value)) → passes_at (λ k (v : Option Value). is_some v) q o ≡ is_some (unwrap_or o None)
       by None = refl
       by (Some v) = refl
 
@@ -174,7 +174,7 @@ module _ (a : Inside) (sound : IsSoundTable a) (vd : IsDistinct same_key (keys_o
       distinct_append (keys_with_value vals) (moved_without_value vals units) (kept_distinct (λ k v. is_some v) vals vd) (kept_distinct (λ k (s : StoredUnit). nat_lt 0 s.counter && not (has_value vals k)) units ud)
       (all_map _ _ (keys_with_value vals) (λ q h. any-moved q ∙ by q (sym (any-keys_with_value q) ∙ h) (lookup (same_key q) units)) (each_of_them (keys_with_value vals)))
     where
-      by : (q : Bytes) → has_value vals q ≡ true → (o : Option StoredUnit) → kept_at (λ k (s : StoredUnit). nat_lt 0 s.counter && not (has_value vals k)) q o ≡ false
+      by : (q : Bytes) → has_value vals q ≡ true → (o : Option StoredUnit) → passes_at (λ k (s : StoredUnit). nat_lt 0 s.counter && not (has_value vals k)) q o ≡ false
       by q has None = refl
       by q has (Some s) = ap (λ b. nat_lt 0 s.counter && not b) has ∙ and_false (nat_lt 0 s.counter)
 
@@ -202,7 +202,7 @@ module _ (a : Inside) (sound : IsSoundTable a) (vd : IsDistinct same_key (keys_o
 
   -- a key with a value, or a unit that was moved, is what is shown of what stands in the maps
   cases : (q : Bytes) (value : Option (Option Value)) (unit : Option StoredUnit) (is_unit was_moved : Bool) → AgreesWith unit is_unit was_moved
-      → (is_some (unwrap_or value None) || kept_at (λ k (s : StoredUnit). nat_lt 0 s.counter && not (is_some (unwrap_or value None))) q unit)
+      → (is_some (unwrap_or value None) || passes_at (λ k (s : StoredUnit). nat_lt 0 s.counter && not (is_some (unwrap_or value None))) q unit)
       ≡ ((is_some (unwrap_or value None) || (is_unit && was_moved)) && (is_some value || is_some unit))
   cases q (Some (Some v)) unit is_unit was_moved f = refl
   cases q (Some None) None is_unit was_moved f = ap (λ b. b && true) (sym f)

@@ -6,13 +6,11 @@ use Rattle.std.specs.Ordering.{nat_cmp}
 use Rattle.std.specs.Cmp.Lexicographic.{slice_cmp, nat_list_cmp_total, nat_list_eq_equiv, texts_ties, bytes_decides}
 use Rattle.std.specs.Map.{lookup}
 use Rattle.std.specs.FinMap.{from_entries, get-from_entries, insert, IsAntisymmetric, slice_cmp-IsAntisymmetric, nat_cmp-IsAntisymmetric}
-use Rattle.std.proofs.lemmas.List.{map-id}
 use Rattle.indexmap.specs.IndexMap.{insert_entry}
 use Rattle.dt_lists.specs.Lists.{AllIn}
 use Rattle.dt_access.specs.Clash.{Bytes, same_key}
 use Rattle.dt_access.specs.Granules.{IsUnit, unit_of}
 use Rattle.dt_text.specs.Texts.{IsKey}
-use Rattle.dt_text.specs.declared.Value.{Value}
 use Rattle.dt_access.specs.declared.TxnId.{TxnId}
 use Rattle.dt_table.specs.Table.{Moved, Table, value_of, moves_of, home_of, counter_of, opening_home, home_after, next_mover, moved}
 use Rattle.dt_table.specs.StoredUnitInner.{by_bytes, fresh_unit, stored_of}
@@ -33,14 +31,6 @@ exact = slice_cmp-IsAntisymmetric nat_cmp-IsAntisymmetric
 -- the value of a key is the one that stands in the map
 pub value_of-view : (a : Inside) (key : Bytes) → value_of (table_view a).state key ≡ unwrap_or (lookup (same_key key) a.values.entries) None
 value_of-view a key = ap (λ o. unwrap_or o None) (get-from_entries nat_list_cmp_total a.values.entries key ∙ find-lookup a.values.entries key)
-
--- an entry that is put into the list is put into the map
-pub values-written : (values : List (Bytes × Option Value)) (key : Bytes) (value : Option Value)
-    → from_entries {R = slice_cmp nat_cmp} (insert_entry same_key values key value) ≡ insert (from_entries values) key value
-values-written values key value =
-    ap (from_entries {R = slice_cmp nat_cmp}) (sym (map-id (insert_entry same_key values key value)))
-    ∙ insert-from_map nat_list_cmp_total texts_ties (λ v. v) nat_list_eq_equiv exact values key value
-    ∙ ap (λ (l : List (Bytes × Option Value)). insert (from_entries {R = slice_cmp nat_cmp} l) key value) (map-id values)
 
 -- ---- units
 

@@ -1,5 +1,5 @@
 -- What the definitions of tables give at each key: after a write, a move, an effect, and before any transaction.
-use Rattle.std.proofs.Common.{◌≡◌, ℕ, ◌+◌, ◌<◌, ◌≤◌, ◌^◌, ◌%◌, Bool, true, false, cond, List, [], ◌∷◌, ◌++◌, length, slice_index}
+use Rattle.std.proofs.Common.{◌≡◌, ℕ, ◌+◌, ◌<◌, ◌≤◌, ◌%◌, Bool, true, false, cond, List, [], ◌∷◌, ◌++◌, length, slice_index}
 use Rattle.std.proofs.Common.{refl, sym, ap, ◌∙◌, arith, append-nil, length-append, Some, None, Option, unwrap_or}
 use Rattle.std.specs.Cmp.Lexicographic.{nat_list_cmp_total, texts_ties, bytes_decides}
 use Rattle.std.specs.Map.{lookup}
@@ -11,7 +11,7 @@ use Rattle.dt_access.specs.Clash.{Bytes, same_key}
 use Rattle.dt_access.specs.Granules.{unit_of}
 use Rattle.dt_access.specs.declared.TxnId.{TxnId}
 use Rattle.dt_text.specs.declared.Value.{Value}
-use Rattle.dt_table.specs.Table.{Moved, Table, value_of, moves_of, counter_of, home_of, opening_home, home_after, written, all_written, moved, maybe_moved, apply, opening, HasPlaceFor}
+use Rattle.dt_table.specs.Table.{Moved, Table, moves_of, counter_of, home_of, opening_home, home_after, written, all_written, moved, maybe_moved, apply, opening}
 use Rattle.dt_table.specs.declared.effect.Effect.{Effect}
 
 -- a map with one more entry gives it at its key, and what it gave at all others
@@ -33,9 +33,6 @@ same_table t u version regions homes at_key at_unit =
 pub all_written-keeps : (writes : List (Bytes × Option Value)) (t : Table) → all_written writes t ≡ record t { values = (all_written writes t).values }
 all_written-keeps [] t = refl
 all_written-keeps (w ∷ writes) t = all_written-keeps writes (written t w.0 w.1)
-
-pub moves_of-all_written : (writes : List (Bytes × Option Value)) (t : Table) (q : Bytes) → moves_of (all_written writes t) q ≡ moves_of t q
-moves_of-all_written writes t q = ap (λ (u : Table). moves_of u q) (all_written-keeps writes t)
 
 -- ---- a move
 
@@ -60,11 +57,6 @@ moves_of-moved t key target by q =
 pub moves_of-maybe_moved : (move : Option (Bytes × ℕ × TxnId)) (t : Table) (q : Bytes) → moves_of (maybe_moved move t) q ≡ moves_of t q ++ move_at t.version q move
 moves_of-maybe_moved None t q = sym (append-nil (moves_of t q))
 moves_of-maybe_moved (Some m) t q = moves_of-moved t m.0 m.1 m.2 q
-
--- a move writes nothing
-pub value_of-maybe_moved : (move : Option (Bytes × ℕ × TxnId)) (t : Table) (q : Bytes) → value_of (maybe_moved move t) q ≡ value_of t q
-value_of-maybe_moved None t q = refl
-value_of-maybe_moved (Some m) t q = refl
 
 -- the last move leads to its target
 pub home_after-append : (home : ℕ) (moves : List Moved) (m : Moved) → home_after home (moves ++ m ∷ []) ≡ m.target
@@ -92,11 +84,6 @@ counter_of-apply effect t q =
           | true ↦ omega arith
           | false ↦ omega arith
         ]
-
--- where the counts of all keys leave a place, one is left for every move
-pub place_for : (t : Table) (move : Option (Bytes × ℕ × TxnId)) → ((q : Bytes) → counter_of t q + 1 < 2 ^ 32) → HasPlaceFor move t
-place_for t None few = tt
-place_for t (Some m) few = few m.0
 
 -- what no transaction changes
 keeps : {A : Type 0} (f : Table → A) (effect : Effect) (t : Table) → ((u : Table) (key : Bytes) (target : ℕ) (by : TxnId) → f (moved u key target by) ≡ f u)

@@ -71,7 +71,7 @@ fn go_on<R: Threads + Wait + Sync>(
             return Ok((counts.made, quiet));
         }
     }
-    Err(Fail::from("all is done after so many phases"))
+    Err(Fail::from("all is done after at most MOST phases"))
 }
 
 /// The phases of the nodes of a cluster with a workload until all is done, and how many silent ones there are in a row.

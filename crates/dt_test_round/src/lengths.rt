@@ -30,7 +30,7 @@ impl Gate for Count {
     }
 }
 
-/// A procedure with an `if`, of so many statements in its first block and so many in its second, and then with n statements.
+/// A procedure with an `if`, whose blocks have `first` and `second` statements, followed by n statements.
 fn climb(alloc: Global, n: u32, first: u32, second: u32) -> Result<Procs, Fail> {
     let mut text = Vec::new(alloc);
     text.extend_from_slice(b"proc climb(k: text) write a = k; { if has(a) { ")?;

@@ -36,7 +36,7 @@ pub fn events_from<S: Scheduler>(
     Ok(told)
 }
 
-/// What is told of a region after a round.
+/// What is reported of a region after a round.
 #[derive(Drop)]
 pub enum Telling {
     /// Its events, in their order, and whether it is drained.
@@ -69,7 +69,7 @@ pub fn begun<S: Scheduler>(alloc: Global, number: u8, regions: u8) -> Result<Reg
     Ok(Region::new(alloc, number, regions, table)?)
 }
 
-/// What is told of a region after its round.
+/// What is reported of a region after its round.
 fn tell<S: Scheduler>(
     alloc: Global,
     region: &Region<S>,
@@ -85,7 +85,7 @@ fn tell<S: Scheduler>(
     }
 }
 
-/// All this comes to a region, which then makes a round; what is told of it.
+/// All this comes to a region, which then makes a round; what is reported of it.
 fn go_on<S: Scheduler, D: Rounds<Region<S>>>(
     alloc: Global,
     region: &mut Region<S>,

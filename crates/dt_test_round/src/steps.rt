@@ -58,7 +58,7 @@ const FIRST: TxnId = TxnId { seq: 1, region: 0 };
 
 const SECOND: TxnId = TxnId { seq: 2, region: 0 };
 
-/// Claims both transactions that there are, in some order; a third there is not. Gives the claim of the first one.
+/// Claims both transactions that there are, in some order; there is no third. Gives the claim of the first one.
 fn claim_both<S: Scheduler + Drop, N: Named>(
     alloc: Global,
     held: &mut Held<S, N>,

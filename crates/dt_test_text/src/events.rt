@@ -1,6 +1,7 @@
 //! Events: what a file of them is read as, and what is printed of it.
-use dt_events::{EventsError, put_event, read_events};
+use dt_events::{Event, EventsError, Stamped, put_event, read_events};
 use std::alloc::Global;
+use std::mem::size_of;
 use std::test::Fail;
 
 /// More bytes than a test reads.
@@ -92,5 +93,12 @@ fn there_are_as_many_events_and_ids_as_are_listed(rt: HostRuntime) -> Result<(),
         }
         assert_eq!(rt; told(rt.alloc(), file.as_slice())?, file);
     }
+    Ok(())
+}
+
+/// Each region keeps all events that it made.
+#[test]
+fn an_event_takes_two_words_and_its_stamp_one(rt: HostRuntime) -> Result<(), Fail> {
+    assert_eq!(rt; [size_of::<Event>(), size_of::<Stamped>()], [16, 24]);
     Ok(())
 }

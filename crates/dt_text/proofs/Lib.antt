@@ -1,10 +1,10 @@
-pub mod Allowed
+pub mod FirstBadByte
 pub mod Cuts
-pub mod Decided
+pub mod TextDecisions
 pub mod Numerals
 pub mod ReadingAt
 pub mod ReadingLaws
 pub mod ReadingSteps
 pub mod LineLengths
-pub mod Spaced
+pub mod JoinedWords
 pub mod Callers

@@ -104,9 +104,6 @@ pub narrower : (k : ℕ) (bs : List ℕ) (n : ℕ) (r : Option ℕ) → k ≤ 2 
 narrower k bs n None fits small spells refused = λ m below e. let same : n ≡ m = decimal_injective n m small (omega arith) (sym spells ∙ e) in refused (omega arith)
 narrower k bs n (Some m) fits small spells given = rw given.1 (given.0, spells)
 
-pub narrower_none : (k : ℕ) (bs : List ℕ) → k ≤ 2 ^ 64 → ((n : ℕ) → n < 2 ^ 64 → bs ≢ decimal n) → (n : ℕ) → n < k → bs ≢ decimal n
-narrower_none k bs fits spells n below e = spells n (omega arith) e
-
 -- the value of a result, where it comes exactly under a fact
 pub ok_where : {T E : Type 0} (r : Result T E) (P : Type 0) (v : T) → OkIff r P v → SomeIff (result_ok r) P v
 ok_where (Ok x) P v h = h

@@ -1,9 +1,10 @@
 -- What the words from a place of a line on are, by the byte at that place of the line.
 use Rattle.std.proofs.Common.{◌≡◌, ◌≢◌, ℕ, ◌+◌, ◌<◌, ◌≤◌, Bool, true, false, cond, ◌==◌, ◌||◌, ◌&&◌, nat_lt, List, []}
-use Rattle.std.proofs.Common.{◌∷◌, ◌++◌, length, get_or, drop, Option, Some, None, refl, sym, ◌∙◌, ap, arith, add-one, drop-cons, append_assoc, append-nil}
+use Rattle.std.proofs.Common.{◌∷◌, ◌++◌, length, get_or, drop, Option, Some, None, refl, sym, ◌∙◌, ap, arith, append_assoc, append-nil}
 use Rattle.std.specs.Option.{option_map}
 use Rattle.std.proofs.lemmas.Bool.Decides.{nat_tests}
 use Rattle.std.proofs.lemmas.Grind.{common_steps}
+use Rattle.std.proofs.lemmas.List.{drop_more}
 use Rattle.dt_text.specs.Texts.{is_text_byte, IsStr}
 use Rattle.dt_text.specs.Words.{is_visible}
 use Rattle.dt_text.specs.Reading.{with_word, words_from, text_from, after_text, words_of}
@@ -12,23 +13,20 @@ use Rattle.dt_text.proofs.ReadingSteps as step
 use Rattle.dt_text.specs.declared.word.Word.{Word}
 use Rattle.dt_text.specs.declared.word.Word.TheVariants.{Bare, Text}
 
-from_place : (line : List ℕ) (at : ℕ) → at < length line → drop at line ≡ get_or line at 0 ∷ drop (at + 1) line
-from_place line at inside = rw (add-one, drop-cons line at 0) refl
-
 past_end : (line : List ℕ) (at : ℕ) → length line ≤ at → drop at line ≡ []
 past_end line at past = grind (arith, common_steps)
 
 -- a space between words
 pub gap_step : (line : List ℕ) (at : ℕ) → at < length line → get_or line at 0 ≡ 32 → words_from at (drop at line) ≡ words_from (at + 1) (drop (at + 1) line)
-gap_step line at inside space = rw (from_place line at inside) (step.gap_space at _ _ space)
+gap_step line at inside space = rw (drop_more line at 0 inside) (step.gap_space at _ _ space)
 
 -- one more byte of a bare word
 pub bare_step : (line : List ℕ) (at end : ℕ) → at < length line → is_visible (get_or line at 0) ≡ true → BareEndsAt line (at + 1) end → BareEndsAt line at end
-bare_step line at end inside visible rest from = rw (from_place line at inside) (step.bare_more from at _ _ visible ∙ rest from)
+bare_step line at end inside visible rest from = rw (drop_more line at 0 inside) (step.bare_more from at _ _ visible ∙ rest from)
 
 -- the end of a bare word
 pub bare_stop : (line : List ℕ) (at : ℕ) → at < length line → is_visible (get_or line at 0) ≡ false → BareEndsAt line at at
-bare_stop line at inside over from = rw (from_place line at inside) (step.bare_over from at _ _ over)
+bare_stop line at inside over from = rw (drop_more line at 0 inside) (step.bare_over from at _ _ over)
 
 pub bare_at_end : (line : List ℕ) (at : ℕ) → length line ≤ at → BareEndsAt line at at
 bare_at_end line at past from = rw (past_end line at past) (step.bare_end from at)
@@ -37,19 +35,19 @@ bare_at_end line at past from = rw (past_end line at past) (step.bare_end from a
 pub bare_word : (line : List ℕ) (at end : ℕ) → at < length line → get_or line at 0 ≢ 34 → is_visible (get_or line at 0) ≡ true → at + 1 ≤ end
     → end ≤ length line → BareEndsAt line (at + 1) end → WordAt line at (Some (Bare at end, end))
 bare_word line at end inside plain visible after within ends =
-    (omega arith, within, (omega arith, within), rw (from_place line at inside) (step.gap_bare at _ _ plain visible ∙ ends at))
+    (omega arith, within, (omega arith, within), rw (drop_more line at 0 inside) (step.gap_bare at _ _ plain visible ∙ ends at))
 
 -- no word
 pub no_word : (line : List ℕ) (at : ℕ) → at < length line → get_or line at 0 ≢ 32 → is_visible (get_or line at 0) ≡ false → WordAt line at None
-no_word line at inside no_space bad = rw (from_place line at inside) (step.gap_bad at _ _ no_space bad)
+no_word line at inside no_space bad = rw (drop_more line at 0 inside) (step.gap_bad at _ _ no_space bad)
 
 -- a text word begins
 pub text_begins : (line : List ℕ) (at : ℕ) → at < length line → get_or line at 0 ≡ 34 → words_from at (drop at line) ≡ text_from [] (at + 1) (drop (at + 1) line)
-text_begins line at inside quote = rw (from_place line at inside) (step.gap_quote at _ _ quote)
+text_begins line at inside quote = rw (drop_more line at 0 inside) (step.gap_quote at _ _ quote)
 
 -- the last `"` of a text word
 pub text_closes : (line text : List ℕ) (at : ℕ) → at < length line → get_or line at 0 ≡ 34 → text_from text at (drop at line) ≡ after_text text (at + 1) (drop (at + 1) line)
-text_closes line text at inside quote = rw (from_place line at inside) (step.text_quote text at _ _ quote)
+text_closes line text at inside quote = rw (drop_more line at 0 inside) (step.text_quote text at _ _ quote)
 
 -- a text word without its last `"`
 pub text_open : (line text : List ℕ) (at : ℕ) → length line ≤ at → text_from text at (drop at line) ≡ None
@@ -60,30 +58,30 @@ pub text_ends : (line text : List ℕ) (end : ℕ) → end ≤ length line → (
 text_ends line text end within may = (refl, refl, by_end (nat_lt end (length line)) refl)
   where
     by_end : (inside : Bool) → nat_lt end (length line) ≡ inside → after_text text end (drop end line) ≡ with_word (Text text) (words_from end (drop end line))
-    by_end true e = let inside : end < length line = grind (arith, nat_tests) in rw (from_place line end inside) (step.after_space text end _ _ (may inside))
+    by_end true e = let inside : end < length line = grind (arith, nat_tests) in rw (drop_more line end 0 inside) (step.after_space text end _ _ (may inside))
     by_end false e = let past : length line ≤ end = grind (arith, nat_tests) in rw (past_end line end past) (step.after_end text end)
 
 pub text_goes_on : (line text : List ℕ) (end : ℕ) → end < length line → get_or line end 0 ≢ 32 → TextEndsAt line text end None
-text_goes_on line text end inside no_space = rw (from_place line end inside) (step.after_other text end _ _ no_space)
+text_goes_on line text end inside no_space = rw (drop_more line end 0 inside) (step.after_other text end _ _ no_space)
 
 -- the items of a text word
 pub plain_item : (line : List ℕ) (at : ℕ) → at < length line → get_or line at 0 ≢ 34 → get_or line at 0 ≢ 92 → is_text_byte (get_or line at 0) ≡ true → ItemAt line at (Some (get_or line at 0, at + 1))
 plain_item line at inside plain unescaped allowed =
-    (omega arith, omega arith, allowed, λ text. rw (from_place line at inside) (step.text_plain text at _ _ plain unescaped ∙ rw allowed refl))
+    (omega arith, omega arith, allowed, λ text. rw (drop_more line at 0 inside) (step.text_plain text at _ _ plain unescaped ∙ rw allowed refl))
 
 pub bad_item : (line : List ℕ) (at : ℕ) → at < length line → get_or line at 0 ≢ 34 → get_or line at 0 ≢ 92 → is_text_byte (get_or line at 0) ≡ false → ItemAt line at None
-bad_item line at inside plain unescaped bad = λ text. rw (from_place line at inside) (step.text_plain text at _ _ plain unescaped ∙ rw bad refl)
+bad_item line at inside plain unescaped bad = λ text. rw (drop_more line at 0 inside) (step.text_plain text at _ _ plain unescaped ∙ rw bad refl)
 
 pub cut_item : (line : List ℕ) (at : ℕ) → at < length line → get_or line at 0 ≡ 92 → at + 1 ≡ length line → ItemAt line at None
 cut_item line at inside escape last = λ text.
     let past : length line ≤ at + 1 = omega arith in
-    rw (from_place line at inside) (step.text_escape text at _ _ escape ∙ rw (past_end line (at + 1) past) (step.escape_end text (at + 1)))
+    rw (drop_more line at 0 inside) (step.text_escape text at _ _ escape ∙ rw (past_end line (at + 1) past) (step.escape_end text (at + 1)))
 
 escaped : (line text : List ℕ) (at : ℕ) → at + 1 < length line → get_or line at 0 ≡ 92
     → text_from text at (drop at line) ≡ cond ((get_or line (at + 1) 0 == 34 || get_or line (at + 1) 0 == 92) && nat_lt (length text) 256) (text_from (text ++ get_or line (at + 1) 0 ∷ []) (at + 1 + 1) (drop (at + 1 + 1) line)) None
 escaped line text at inside escape =
     let here : at < length line = omega arith in
-    rw (from_place line at here) (step.text_escape text at _ _ escape ∙ rw (from_place line (at + 1) inside) (step.escape_more text (at + 1) _ _))
+    rw (drop_more line at 0 here) (step.text_escape text at _ _ escape ∙ rw (drop_more line (at + 1) 0 inside) (step.escape_more text (at + 1) _ _))
 
 pub escaped_item : (line : List ℕ) (at : ℕ) → at + 1 < length line → get_or line at 0 ≡ 92 → (get_or line (at + 1) 0 == 34 || get_or line (at + 1) 0 == 92) ≡ true → ItemAt line at (Some (get_or line (at + 1) 0, at + 2))
 escaped_item line at inside escape which =

@@ -1,5 +1,5 @@
 -- The words that are found in a line byte by byte are those that it is made of.
-use Rattle.std.proofs.Common.{◌≡◌, ◌≢◌, ℕ, suc, ◌+◌, ◌≤◌, Bool, true, false, cond, ◌==◌, ◌||◌, ◌&&◌, nat_lt, List, [], ◌∷◌, ◌++◌}
+use Rattle.std.proofs.Common.{◌≡◌, ◌≢◌, ℕ, suc, ◌+◌, ◌≤◌, Bool, true, false, cond, ◌==◌, ◌||◌, ◌&&◌, nat_lt, List, [], ◌∷◌, ◌++◌, eqb-true}
 use Rattle.std.proofs.Common.{length, Option, Some, None, refl, sym, ◌∙◌, ap, subst, arith, append_assoc, append-nil, length-append}
 use Rattle.std.specs.List.{list_all}
 use Rattle.std.proofs.lemmas.List.Folds.{list_all-append}
@@ -20,16 +20,13 @@ parts p xs ys e = and_parts _ _ (sym (list_all-append p xs ys) ∙ e)
 joins : (p : ℕ → Bool) (xs ys : List ℕ) → list_all p xs ≡ true → list_all p ys ≡ true → list_all p (xs ++ ys) ≡ true
 joins p xs ys e f = list_all-append p xs ys ∙ rw (e, f) refl
 
-is_number : (a b : ℕ) → (a == b) ≡ true → a ≡ b
-is_number a b e = grind (arith, nat_tests)
-
 -- what is made of words is found: spaces
 gap_found : (gap : List ℕ) (at : ℕ) (bs : List ℕ) → AreSpaces gap → words_from at (gap ++ bs) ≡ words_from (at + length gap) bs
 gap_found [] at bs spaces = let e : at + 0 ≡ at = omega arith in rw e refl
 gap_found (b ∷ gap) at bs spaces =
     let first = and_parts (b == 32) (list_all (λ b. b == 32) gap) spaces in
     let e : at + 1 + length gap ≡ at + suc (length gap) = omega arith in
-    step.gap_space at b (gap ++ bs) (is_number b 32 first.0) ∙ (gap_found gap (at + 1) bs first.1 ∙ ap (λ n. words_from n bs) e)
+    step.gap_space at b (gap ++ bs) (eqb-true b 32 first.0) ∙ (gap_found gap (at + 1) bs first.1 ∙ ap (λ n. words_from n bs) e)
 
 -- a bare word
 bare_over : (from at : ℕ) (rest : List ℕ) → MayFollowWord rest → bare_from from at rest ≡ with_word (Bare from at) (words_from at rest)
@@ -194,10 +191,10 @@ sound_gap b bs rest at words found = by_tests (b == 32) (b == 34) (is_visible b)
   where
     by_tests : (space quote visible : Bool) → (b == 32) ≡ space → (b == 34) ≡ quote → is_visible b ≡ visible → AreWordsFrom at (b ∷ bs) words
     by_tests true quote visible e f g =
-        let is : b ≡ 32 = is_number b 32 e in
+        let is : b ≡ 32 = eqb-true b 32 e in
         gap_more at b bs words is (rest.gap (at + 1) words (sym (step.gap_space at b bs is) ∙ found))
     by_tests false true visible e f g =
-        let is : b ≡ 34 = is_number b 34 f in
+        let is : b ≡ 34 = eqb-true b 34 f in
         gap_text at b bs words is (rest.text [] (at + 1) words (omega arith, refl) (sym (step.gap_quote at b bs is) ∙ found))
     by_tests false false true e f g =
         let plain : b ≢ 34 = grind (arith, nat_tests) in
@@ -227,7 +224,7 @@ sound_bare b bs rest from at words found = by_tests (b == 32) (is_visible b) ref
   where
     by_tests : (space visible : Bool) → (b == 32) ≡ space → is_visible b ≡ visible → BareMeans from at (b ∷ bs) words
     by_tests space true e g = bare_goes_on from at b bs words g (rest.bare from (at + 1) words (sym (step.bare_more from at b bs g) ∙ found))
-    by_tests true false e g = bare_ends from at (b ∷ bs) words (is_number b 32 e) (sound_gap b bs rest at) (sym (step.bare_over from at b bs g) ∙ found)
+    by_tests true false e g = bare_ends from at (b ∷ bs) words (eqb-true b 32 e) (sound_gap b bs rest at) (sym (step.bare_over from at b bs g) ∙ found)
     by_tests false false e g =
         let no_space : b ≢ 32 = grind (arith, nat_tests) in
         let none : with_word (Bare from at) (words_from at (b ∷ bs)) ≡ None = rw (step.gap_bad at b bs no_space g) refl in
@@ -247,7 +244,7 @@ sound_after b bs rest text at words found = by_space (b == 32) refl
   where
     by_space : (space : Bool) → (b == 32) ≡ space → AfterMeans text at (b ∷ bs) words
     by_space true e =
-        let is : b ≡ 32 = is_number b 32 e in
+        let is : b ≡ 32 = eqb-true b 32 e in
         text_over text at (b ∷ bs) words is (sound_gap b bs rest at) (sym (step.after_space text at b bs is) ∙ found)
     by_space false e =
         let no_space : b ≢ 32 = grind (arith, nat_tests) in
@@ -291,10 +288,10 @@ sound_text b bs rest text at words is_text found = by_tests (b == 34) (b == 92) 
   where
     by_tests : (quote escape : Bool) → (b == 34) ≡ quote → (b == 92) ≡ escape → TextMeans text at (b ∷ bs) words
     by_tests true escape e f =
-        let is : b ≡ 34 = is_number b 34 e in
+        let is : b ≡ 34 = eqb-true b 34 e in
         text_ends text at b bs words is is_text (rest.after text (at + 1) words (sym (step.text_quote text at b bs is) ∙ found))
     by_tests false true e f =
-        let is : b ≡ 92 = is_number b 92 f in
+        let is : b ≡ 92 = eqb-true b 92 f in
         text_escapes text at b bs words is (rest.escape text (at + 1) words is_text (sym (step.text_escape text at b bs is) ∙ found))
     by_tests false false e f =
         let plain : b ≢ 34 = grind (arith, nat_tests) in

@@ -21,6 +21,11 @@ abbrev pub Spells : List ℕ → ℕ → Word → Type 0
 Spells bs at (Bare from to) = IsBareWord bs × (from ≡ at) × (to ≡ at + length bs)
 Spells bs at (Text text) = IsStr text × (bs ≡ text_word text)
 
+-- words, each with a space before it
+abbrev pub spaced : List (List ℕ) → List ℕ
+spaced [] = []
+spaced (word ∷ words) = 32 ∷ (word ++ spaced words)
+
 -- the bytes are spaces, or there are none
 abbrev pub AreSpaces : List ℕ → Type 0
 AreSpaces bs = IsTrue (list_all (λ b. b == 32) bs)

@@ -33,7 +33,7 @@ impl Key {
 
     /// Reads a key, which has exactly these bytes. The causes of a refusal are tried in the
     /// order of `KeyError`.
-    #[tactic(auto, using(crate::proofs::Allowed::none_outside))]
+    #[tactic(auto, using(crate::proofs::FirstBadByte::none_outside))]
     pub fn read(alloc: Global, bytes: &[u8]) -> Result<Self, KeyError>
         requires { length bytes.now < 2 ^ 32 }
         ensures ok { IfOk result (λ key. (key ≡ bytes.now) × IsKey key) }

@@ -5,6 +5,7 @@
 #![tactic(auto)]
 
 mod bytes;
+mod common;
 mod errors;
 mod key;
 mod laws;
@@ -20,6 +21,7 @@ mod value;
 mod word;
 
 pub use bytes::{is_key_byte, is_name_byte, is_text_byte};
+pub use common::Common;
 pub use errors::{KeyError, StrError};
 pub use key::Key;
 pub use laws::{numbers_have_one_spelling, printed_texts_read_back, words_are_exact};

@@ -3,6 +3,7 @@ ghost use Rattle.std.specs.List.{list_all};
 ghost use Rattle.dt_text.specs.Texts.{IsName, is_name_byte, first_outside};
 
 use crate::bytes::is_name_byte;
+use crate::common::Common;
 use crate::errors::KeyError;
 use crate::no_memory::NoMemory;
 use crate::spelling::Spelling;
@@ -11,10 +12,11 @@ use std::marker::Model;
 
 /// A name, as sessions and procedures have: 1 to 32 bytes out of `a-z`, `0-9` and `_`.
 ///
-/// Contracts see its bytes. Names are ordered by their bytes, a proper prefix being less.
+/// Contracts see its bytes. Names are ordered by their bytes, a proper prefix being less. A name takes the room of an address,
+/// and a copy of it no memory.
 #[derive(Debug, PartialEq, Eq, PartialOrd, Ord, Hash, Drop)]
 pub struct Name {
-    spelling: Spelling,
+    spelling: Common<Spelling>,
 }
 
 impl Model for Name {
@@ -33,7 +35,7 @@ impl Name {
 
     /// Reads a name, which has exactly these bytes. The causes of a refusal are tried in the
     /// order of `KeyError`.
-    #[tactic(auto, using(crate::proofs::Allowed::none_outside))]
+    #[tactic(auto, using(crate::proofs::FirstBadByte::none_outside))]
     pub fn read(alloc: Global, bytes: &[u8]) -> Result<Self, KeyError>
         requires { length bytes.now < 2 ^ 32 }
         ensures ok { IfOk result (λ name. (name ≡ bytes.now) × IsName name) }
@@ -53,9 +55,7 @@ impl Name {
         }
         match first_bad(bytes) {
             Some(place) => Err(KeyError::BadByte(place as u32)),
-            None => Ok(Name {
-                spelling: Spelling::of(alloc, bytes)?,
-            }),
+            None => Ok(Name::new(alloc, bytes)?),
         }
     }
 
@@ -72,7 +72,7 @@ impl Name {
         ensures { IfOk result (λ name. name ≡ bytes.now) }
     {
         Ok(Name {
-            spelling: Spelling::of(alloc, bytes)?,
+            spelling: Common::new(alloc, Spelling::of(alloc, bytes)?)?,
         })
     }
 
@@ -81,16 +81,16 @@ impl Name {
         ensures same { result.now ≡ self.now }
         ensures name { IsName self.now }
     {
-        self.spelling.bytes()
+        self.spelling.get().bytes()
     }
 
-    /// A name with the same bytes.
-    pub fn copy(&self, alloc: Global) -> Result<Self, NoMemory>
+    /// A name with the same bytes. Takes no memory.
+    pub fn copy(&self, _alloc: Global) -> Result<Self, NoMemory>
         ensures same { IfOk result (λ name. name ≡ self.now) }
         ensures name { IsName self.now }
     {
         Ok(Name {
-            spelling: self.spelling.copy(alloc)?,
+            spelling: self.spelling.copy()?,
         })
     }
 }

@@ -32,7 +32,7 @@ impl Str {
 
     /// Reads a text, which has exactly these bytes. The causes of a refusal are tried in the
     /// order of `StrError`.
-    #[tactic(auto, using(crate::proofs::Allowed::none_outside))]
+    #[tactic(auto, using(crate::proofs::FirstBadByte::none_outside))]
     pub fn read(alloc: Global, bytes: &[u8]) -> Result<Self, StrError>
         requires { length bytes.now < 2 ^ 32 }
         ensures ok { IfOk result (λ text. (text ≡ bytes.now) × IsStr text) }

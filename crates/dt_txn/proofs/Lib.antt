@@ -1,7 +1,7 @@
 pub mod Callers
-pub mod Asking
+pub mod RequestLists
 pub mod FewPlaces
-pub mod Formed
+pub mod ValidBodies
 pub mod Fronts
 pub mod HomeSets
 pub mod PartKeys

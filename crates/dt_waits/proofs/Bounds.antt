@@ -1,7 +1,8 @@
 -- How great degrees are: an entry has at most as many neighbours as there are entries, so a degree is at most the square of
 -- their number.
-use Rattle.std.proofs.Common.{◌≡◌, ◌≢◌, ◌<◌, ◌≤◌, ◌*◌, ◌^◌, ℕ, Bool, ◌&&◌, ◌==◌, not, if◌then◌else◌, cond, true, false, List, [], ◌∷◌, filter, length, slice_index_or, refl, arith}
-use Rattle.std.specs.List.{list_any, sum_by}
+use Rattle.std.proofs.Common.{◌≡◌, ◌≢◌, ◌<◌, ◌≤◌, ◌*◌, ◌^◌, ℕ, Bool, ◌&&◌, ◌==◌, not, if◌then◌else◌, true, false, List, [], ◌∷◌, filter, length}
+use Rattle.std.proofs.Common.{slice_index_or, refl, arith}
+use Rattle.std.specs.List.{list_any}
 use Rattle.std.proofs.Math.Nat.{mul-le-mul_left}
 use Rattle.std.proofs.lemmas.List.Sums.{sum_by-le}
 use Rattle.dt_lists.specs.Lists.{AllIn}

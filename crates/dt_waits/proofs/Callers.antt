@@ -5,12 +5,11 @@ pub use Rattle.dt_waits.proofs.Nearest.{nearest_clash, neighbours_split, slot_ot
 pub use Rattle.dt_waits.proofs.Degrees.{degree_pushed}
 pub use Rattle.dt_waits.proofs.Bounds.{degree_fits, degree_of_new}
 pub use Rattle.dt_waits.proofs.Sums.{filter_both, filter_same, sum_first}
-pub use Rattle.dt_waits.proofs.Complete.{filter_whole}
-pub use Rattle.dt_waits.proofs.Free.{id_has, one_place, place_has, same_place}
+pub use Rattle.dt_waits.proofs.Free.{id_has, place_has, same_place}
 pub use Rattle.dt_waits.proofs.Classes.{each_leads, member_stuck, none_blocked, not_all_blocked, place_leads, source_resolvable}
 pub use Rattle.dt_waits.proofs.Rows.{pairwise_get}
 pub use Rattle.dt_waits.proofs.Inserted.{counted_before, missing_before}
-pub use Rattle.dt_waits.proofs.Resolved.{last_place}
 pub use Rattle.dt_waits.proofs.Finished.{distinct_members, member_of, next_is, take_all}
 pub use Rattle.dt_waits.proofs.MayLeave.{may_leave}
 pub use Rattle.dt_waits.proofs.Keeping.{at_named, keeping_back, keeping_finish, keeping_first, keeping_pushed, keeping_resolve, next_ready_told, ready_executable}
+pub use Rattle.dt_lists.proofs.Callers.{filter_whole, last_place, one_place}

@@ -3,7 +3,7 @@
 use Rattle.std.proofs.Common.{◌≡◌, ◌≢◌, ◌<◌, ◌≤◌, ◌↔◌, ◌∙◌, ℕ, List, [], ◌∷◌, length, map, slice_get, Some, refl, sym, ap, subst, inl, inr, arith}
 use Rattle.dt_lists.specs.Lists.{AnyIn, AllIn, Has, Distinct, Either}
 use Rattle.dt_lists.specs.Chain.{here, onward}
-use Rattle.dt_lists.proofs.Callers.{all_get, all_put, any_get, any_put, any_map, any_of_image, at_place, chain_before, chain_join, chain_step, chain_takes_back, either_and, either_any}
+use Rattle.dt_lists.proofs.Callers.{all_get, all_put, any_get, any_put, any_map, any_of_image, at_place, chain_before, chain_join, chain_step, chain_takes_back, either_and, either_any, one_place}
 use Rattle.dt_lists.proofs.Callers.{either_has, either_nat, either_not, has_map, has_place, place_of, place_within, two_of_different}
 use Rattle.dt_access.specs.Ids.{AreAscending}
 use Rattle.dt_access.specs.declared.TxnId.{TxnId}
@@ -19,7 +19,7 @@ use Rattle.dt_waits.specs.Graph.{GraphView, KeepsGraph, IsStuck}
 use Rattle.dt_waits.specs.Among.{HasNeighbour, IsAmong, WaitsOutside}
 use Rattle.dt_waits.proofs.Left.{done_left, left_after, left_decided, out_of_not_left, resolvable_apart, resolvable_left, undone_before}
 use Rattle.dt_waits.proofs.Waiting.{edge_of_waits, free_by_queues, reach_by_queues}
-use Rattle.dt_waits.proofs.Free.{one_place, place_has, same_place}
+use Rattle.dt_waits.proofs.Free.{place_has, same_place}
 use Rattle.dt_waits.proofs.Nearest.{neighbour_waits}
 
 module _ (view : View) (resolved : List (List TxnId)) (done : List TxnId) (k : IsOrderly view resolved done) (g : GraphView) (is : KeepsGraph view resolved done g) where

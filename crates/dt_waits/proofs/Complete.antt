@@ -3,7 +3,7 @@ use Rattle.std.proofs.Common.{◌≡◌, ◌≢◌, ◌⊎◌, ◌↔◌, ◌∙
 use Rattle.std.proofs.Common.{filter, refl, sym, ap, subst, inl, inr, arith}
 use Rattle.std.proofs.lemmas.Bool.{cases_Bool, false_from_ne_true}
 use Rattle.dt_lists.specs.Lists.{AnyIn, AllIn, Has, Distinct}
-use Rattle.dt_lists.proofs.Callers.{all_get, all_put, any_append, any_append_left, any_from_at, any_map, any_of_test, any_put, has_last, test_of_any}
+use Rattle.dt_lists.proofs.Callers.{all_get, all_put, any_append, any_append_left, any_from_at, any_map, any_of_test, any_put, has_last, test_of_any, true_of_not, filter_whole}
 use Rattle.dt_access.specs.Ids.{same_id}
 use Rattle.dt_access.specs.declared.TxnId.{TxnId}
 use Rattle.dt_access.specs.declared.Part.{Part}
@@ -25,10 +25,6 @@ test_of_none log t n = false_from_ne_true (has_part log t) (λ e. n (part_of_tes
 
 -- where a list is kept whole or not at all
 
-pub filter_whole : {A : Type 0} (p : A → Bool) (xs : List A) → AllIn (λ x. p x ≡ true) xs → filter p xs ≡ xs
-filter_whole p [] all = refl
-filter_whole p (x ∷ xs) all = rw all.0 (ap (λ l. x ∷ l) (filter_whole p xs all.1))
-
 none_kept : {A : Type 0} (p : A → Bool) (xs : List A) → length (filter p xs) ≡ 0 → AllIn (λ x. p x ≡ false) xs
 none_kept p [] e = tt
 none_kept p (x ∷ xs) e = by (cases_Bool (p x)) (λ k. none_kept p xs k)
@@ -43,13 +39,9 @@ kept_none p (x ∷ xs) all = rw all.0 (kept_none p xs all.1)
 
 -- none is lacking where each home has a part, and only there
 
-not_false : (b : Bool) → not b ≡ false → b ≡ true
-not_false true e = refl
-not_false false e = cc
-
 pub none_lacking : (view : View) (t : TxnId) (homes : List ℕ) → (lacking view t homes ≡ 0) ↔ HasParts view homes t
 none_lacking view t homes = (
-  λ e. all_put _ homes (λ home h. part_of_test (log_at view home) t (not_false _ (all_get _ homes (none_kept (λ home. not (has_part (log_at view home) t)) homes e) home h))),
+  λ e. all_put _ homes (λ home h. part_of_test (log_at view home) t (true_of_not _ (all_get _ homes (none_kept (λ home. not (has_part (log_at view home) t)) homes e) home h))),
   λ a. kept_none _ homes (all_put _ homes (λ home h. ap not (test_of_part (log_at view home) t (all_get (λ home. HasPart (log_at view home) t) homes a home h)))),
 )
 

@@ -6,6 +6,10 @@ use Rattle.std.proofs.lemmas.Bool.{false_from_ne_true}
 use Rattle.std.proofs.lemmas.List.{length-map}
 use Rattle.dt_lists.specs.Lists.{AllIn, Has, Distinct, Either, Pairwise}
 use Rattle.dt_lists.proofs.Callers.{all_get, all_map, all_put, any_get, any_put, either_has, either_nat, has_longer, has_last, has_more, has_map, has_place, each_map, each_of_image, place_within}
+use Rattle.dt_lists.proofs.Callers.{filter_whole}
+use Rattle.dt_lists.proofs.Callers.{has_dropped}
+use Rattle.dt_lists.proofs.Callers.{one_place}
+use Rattle.dt_lists.proofs.Callers.{some_same}
 use Rattle.dt_access.specs.declared.TxnId.{TxnId}
 use Rattle.dt_sched.specs.Views.{View, IsComplete, IsSooner}
 use Rattle.dt_sched.specs.Decide.{IsExecutable}
@@ -20,21 +24,9 @@ use Rattle.dt_waits.proofs.Leaving.{leaves_alone, leaves_with_class, nothing_lea
 use Rattle.dt_waits.proofs.Orderly.{orderly_finish}
 use Rattle.dt_waits.proofs.Test.{executable_in_resolved, executable_of_free, free_of_executable}
 use Rattle.dt_waits.proofs.Free.{free_by_degree, same_place}
-use Rattle.dt_waits.proofs.Complete.{filter_whole}
 use Rattle.dt_waits.proofs.Inserted.{in_resolved_decided, pairwise_map}
 use Rattle.dt_waits.proofs.Together.{degrees_together, followed_of_lowered, free_together, leaving_has, left_vertex, slots_together, uses_together}
 use Rattle.dt_waits.proofs.Rows.{front_longer, next_of_soonest, pairwise_get, pairwise_set, rest_shorter, sooner_of_next, waits_of_next}
-
--- in a list in which nothing stands twice an item has one place
-place_once : {A : Type 0} (xs : List A) (i j : ℕ) (x : A) → Distinct xs → slice_get xs i ≡ Some x → slice_get xs j ≡ Some x → i ≡ j
-place_once [] i j x d e f = cc
-place_once (y ∷ ys) zero zero x d e f = refl
-place_once (y ∷ ys) zero (suc j) x d e f = let s : y ≡ x = cc in absurd (all_get _ ys d.0 x (has_place ys j x f) s)
-place_once (y ∷ ys) (suc i) zero x d e f = let s : y ≡ x = cc in absurd (all_get _ ys d.0 x (has_place ys i x e) s)
-place_once (y ∷ ys) (suc i) (suc j) x d e f = ap suc (place_once ys i j x d.1 e f)
-
-some_same : {A : Type 0} {x y : A} → Some x ≡ Some y → x ≡ y
-some_same e = cc
 
 -- a front as long as the list is the list
 pub take_all : {A : Type 0} (n : ℕ) (xs : List A) → length xs ≤ n → take n xs ≡ xs
@@ -43,20 +35,10 @@ take_all zero (x ∷ xs) le = absurd (omega (arith, le))
 take_all (suc n) [] le = refl
 take_all (suc n) (x ∷ xs) le = ap (λ l. x ∷ l) (take_all n xs (omega (arith, le)))
 
-dropped_has : {A : Type 0} (n : ℕ) (xs : List A) (x : A) → Has (drop n xs) x → Has xs x
-dropped_has zero xs x h = h
-dropped_has (suc n) [] x h = absurd h
-dropped_has (suc n) (y ∷ ys) x h = inr (dropped_has n ys x h)
-
 mapped_get : {A B : Type 0} (f : A → B) (xs : List A) (i : ℕ) (x : A) → slice_get xs i ≡ Some x → slice_get (map f xs) i ≡ Some (f x)
 mapped_get f [] i x e = cc
 mapped_get f (y ∷ ys) zero x e = let s : y ≡ x = cc in ap (λ z. Some (f z)) s
 mapped_get f (y ∷ ys) (suc i) x e = mapped_get f ys i x e
-
-get_mapped : {A B : Type 0} (f : A → B) (xs : List A) (i : ℕ) (b : B) → slice_get (map f xs) i ≡ Some b → (x : A) × (slice_get xs i ≡ Some x) × (f x ≡ b)
-get_mapped f [] i b e = cc
-get_mapped f (y ∷ ys) zero b e = (y, refl, some_same e)
-get_mapped f (y ∷ ys) (suc i) b e = get_mapped f ys i b e
 
 -- nothing leaves
 leaves_none : (g : GraphView) → Leaves [] g g
@@ -109,7 +91,7 @@ module _ (view : View) (resolved : List (List TxnId)) (done : List TxnId) (t : T
     front_done = all_map _ _ (take o.next (map (id_at ids) o.members)) (λ u h. has_longer done (t ∷ []) u h) p.front_done;
     rest_waits = all_put _ (drop o.next (map (id_at ids) o.members)) (λ u h d. elim (has_more done t u d) [
       | inl old ↦ all_get _ (drop o.next (map (id_at ids) o.members)) p.rest_waits u h old
-      | inr e ↦ n (subst (Has class) (sym e) ((p.members u).0 (dropped_has o.next (map (id_at ids) o.members) u h)))
+      | inr e ↦ n (subst (Has class) (sym e) ((p.members u).0 (has_dropped o.next (map (id_at ids) o.members) u h)))
     ]);
   }
 
@@ -329,7 +311,7 @@ module _ (view : View) (resolved : List (List TxnId)) (done : List TxnId) (t : T
 
       classes_more : suc kept.next ≤ length kept.members → Pairwise (IsOpened view Later old.ids) resolved (with_one_done old.classes place kept)
       classes_more le = pairwise_set (IsOpened view done old.ids) (IsOpened view Later old.ids) resolved old.classes place (one_done kept)
-          (λ j a b ne ha hb p. opened_beside old.ids a b (λ m. ne (place_once resolved j place ids k.sound.resolved_once (ha ∙ ap Some (only_class a (has_place resolved j a ha) m)) class_at)) p)
+          (λ j a b ne ha hb p. opened_beside old.ids a b (λ m. ne (one_place resolved j place ids k.sound.resolved_once (ha ∙ ap Some (only_class a (has_place resolved j a ha) m)) class_at)) p)
           (λ a ha. subst (λ c. IsOpened view Later old.ids c (one_done kept)) (some_same (sym class_at ∙ ha)) (opened_more le))
           g.classes
 

@@ -1,13 +1,13 @@
 -- The degree of a vertex is zero just where its transaction is free.
 use Rattle.std.proofs.Common.{◌≡◌, ◌≢◌, ◌+◌, ◌<◌, ◌⊎◌, ◌↔◌, ◌∙◌, ℕ, zero, suc, true, false, ◌==◌, not, if◌then◌else◌, List, [], ◌∷◌}
-use Rattle.std.proofs.Common.{length, slice_get, Some, refl, sym, ap, subst, inl, inr, eqb-true, arith}
+use Rattle.std.proofs.Common.{length, refl, sym, ap, subst, inl, inr, eqb-true, arith}
 use Rattle.std.specs.List.{sum_by}
 use Rattle.std.proofs.lemmas.Bool.{cases_Bool}
 use Rattle.dt_lists.specs.Lists.{AnyIn, AllIn, Has, Distinct}
-use Rattle.dt_lists.proofs.Callers.{all_get, all_put, any_get, any_put, has_filter, has_of_filtered, has_place}
+use Rattle.dt_lists.proofs.Callers.{all_get, all_put, any_get, any_put, has_filter, has_of_filtered, none_in_empty}
 use Rattle.dt_access.specs.declared.TxnId.{TxnId}
 use Rattle.dt_sched.specs.Views.{View, IsWellFormed}
-use Rattle.dt_queue.specs.Queues.{Waiting, HasDistinctSlots, neighbours}
+use Rattle.dt_queue.specs.Queues.{Waiting, neighbours}
 use Rattle.dt_waits.specs.Left.{IsFree}
 use Rattle.dt_waits.specs.Waits.{id_at, AreUses, HoldsUp, others, degree}
 use Rattle.dt_waits.proofs.Nearest.{neighbour_waits, slot_other, slot_same}
@@ -60,22 +60,10 @@ zero_sum f (x ∷ xs) a = sum_first f x xs ∙ both (f x) (sum_by f xs) a.0 (zer
     both : (a b : ℕ) → a ≡ 0 → b ≡ 0 → a + b ≡ 0
     both a b e f = omega (arith, e, f)
 
-has_length : {A : Type 0} (xs : List A) (x : A) → Has xs x → length xs ≡ 0 → ⊥
-has_length [] x h e = h
-has_length (y ∷ ys) x h e = omega (arith, e)
-
 -- a list of no length, or its first item
 pub either_first : {A : Type 0} (xs : List A) → (length xs ≡ 0) ⊎ ((x : A) × Has xs x)
 either_first [] = inl refl
 either_first (x ∷ xs) = inr (x, inl refl)
-
--- an item of a list in which none stands twice has one place
-pub one_place : {A : Type 0} (xs : List A) (i j : ℕ) (v : A) → Distinct xs → slice_get xs i ≡ Some v → slice_get xs j ≡ Some v → i ≡ j
-one_place [] i j v d e f = cc
-one_place (x ∷ xs) zero zero v d e f = refl
-one_place (x ∷ xs) zero (suc j) v d e f = let s : x ≡ v = cc in absurd (all_get _ xs d.0 v (has_place xs j v f) s)
-one_place (x ∷ xs) (suc i) zero v d e f = let s : x ≡ v = cc in absurd (all_get _ xs d.0 v (has_place xs i v e) s)
-one_place (x ∷ xs) (suc i) (suc j) v d e f = ap suc (one_place xs i j v d.1 e f)
 
 module _ (view : View) (done ids : List TxnId) (waiting : List Waiting) (well : IsWellFormed view) (uses : AreUses view done ids waiting) (once : Distinct ids) (v : ℕ) (within : v < length ids) where
   vertex_in : (w : Waiting) → Has waiting w → w.vertex < length ids
@@ -88,7 +76,7 @@ module _ (view : View) (done ids : List TxnId) (waiting : List Waiting) (well : 
       counted w.0 n.0 w.1 (same_place ids w.0.vertex v once (vertex_in w.0 w.1) within w.2.0) n.1 (λ s. f.0 (sym n.2 ∙ ap (id_at ids) s))
     where
       counted : (w n : Waiting) → Has waiting w → w.vertex ≡ v → Has (neighbours waiting w.slot) n → n.vertex ≢ v → ⊥
-      counted w n h is k ne = has_length (others v (neighbours waiting w.slot)) n (has_filter (λ x. not (x.vertex == v)) (neighbours waiting w.slot) n k (ap not (slot_other n.vertex v ne))) none
+      counted w n h is k ne = none_in_empty (others v (neighbours waiting w.slot)) n (has_filter (λ x. not (x.vertex == v)) (neighbours waiting w.slot) n k (ap not (slot_other n.vertex v ne))) none
         where
           none : length (others v (neighbours waiting w.slot)) ≡ 0
           none = let z : (if w.vertex == v then length (others v (neighbours waiting w.slot)) else 0) ≡ 0 = all_get _ waiting (sum_zero _ waiting e) w h in

@@ -5,7 +5,7 @@ use Rattle.std.proofs.lemmas.List.{append-nil, append_assoc, map-append}
 use Rattle.std.proofs.lemmas.List.Elements.{filter-append}
 use Rattle.dt_lists.specs.Lists.{AllIn, Has, EachThen, Distinct, Either, Pairwise}
 use Rattle.dt_lists.specs.Chain.{here}
-use Rattle.dt_lists.proofs.Callers.{all_at, all_get, all_map, all_put, any_at, any_from_at, any_get, any_put, each_append_left, either_any, filter_none, has_last}
+use Rattle.dt_lists.proofs.Callers.{all_at, all_get, all_map, all_put, any_at, any_from_at, any_get, any_put, each_append_left, either_any, filter_none, has_last, filter_whole}
 use Rattle.dt_access.specs.Orders.{AreAscendingHomes}
 use Rattle.dt_access.specs.declared.TxnId.{TxnId}
 use Rattle.dt_access.specs.declared.Part.{Part}
@@ -25,8 +25,8 @@ use Rattle.dt_waits.proofs.Test.{executable_in_resolved, executable_of_free, fre
 use Rattle.dt_waits.proofs.Uses.{part_there, uses_inserted}
 use Rattle.dt_waits.proofs.Nearest.{slot_other}
 use Rattle.dt_waits.proofs.Degrees.{degree_pushed}
-use Rattle.dt_waits.proofs.Free.{free_by_degree, id_has, same_place, zero_sum}
-use Rattle.dt_waits.proofs.Complete.{all_lacking, complete_of_none, filter_whole, lacking_beside, lacking_less, none_lacking}
+use Rattle.dt_waits.proofs.Free.{free_by_degree, id_has, same_place}
+use Rattle.dt_waits.proofs.Complete.{all_lacking, complete_of_none, lacking_beside, lacking_less, none_lacking}
 
 -- whether t is in a resolved class
 pub in_resolved_decided : (resolved : List (List TxnId)) (t : TxnId) → Either (IsInResolved resolved t)

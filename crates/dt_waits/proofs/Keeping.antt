@@ -1,31 +1,25 @@
 -- What the scheduler with queues keeps is the graph of what was inserted, resolved and done, at first and after each call; and
 -- what its calls read off it is what may be executed.
-use Rattle.std.proofs.Common.{◌≡◌, ◌<◌, ◌+◌, ◌⊎◌, ◌↔◌, ◌∙◌, ℕ, zero, suc, List, [], ◌∷◌, ◌++◌, length, map, replicate, set, slice_get, Option, None, Some, MatchOption, IsSome}
-use Rattle.std.proofs.Common.{option_to_list, Result, Ok, Err, OnOk, OnErr, is_err, true, false, ◌-◌, ap₂, refl, sym, ap, subst, inl, inr, arith}
+use Rattle.std.proofs.Common.{◌≡◌, ◌<◌, ◌+◌, ◌↔◌, ◌∙◌, ℕ, List, [], ◌∷◌, ◌++◌, length, map, replicate, set, slice_get, Option, None, Some, MatchOption}
+use Rattle.std.proofs.Common.{◌-◌, refl, sym, ap, subst, inl, inr, arith}
 use Rattle.std.proofs.lemmas.List.{length-append, set-get_or}
 use Rattle.std.proofs.lemmas.Option.{get_or_from_slice_get, slice_get-get_or}
 use Rattle.dt_lists.specs.Lists.{AllIn, Has, EachThen}
-use Rattle.dt_lists.proofs.Callers.{any_at, any_from_at, any_get, pairwise_length, place_within, same_head, same_tail}
+use Rattle.dt_lists.proofs.Callers.{any_at, any_from_at, any_get, pairwise_length, place_within, last_place}
 use Rattle.dt_access.specs.Orders.{AreAscendingHomes}
 use Rattle.dt_access.specs.declared.TxnId.{TxnId}
 use Rattle.dt_access.specs.declared.Part.{Part}
 use Rattle.dt_sched.specs.Views.{log_at, HasPart, IsPresent, IsSooner, rank_of}
 use Rattle.dt_sched.specs.Sched.{CanExecute, CanInsert, CanResolve, IsNextReady, Sched, after_finish, after_insert, after_resolve, nothing_yet}
-use Rattle.dt_sched.proofs.Callers.{complete_of_closed, present_of_complete, rank_of_part}
+use Rattle.dt_sched.proofs.Callers.{complete_of_closed, present_of_complete, rank_of_part, empty_log}
 use Rattle.dt_waits.specs.Waits.{id_at}
 use Rattle.dt_waits.specs.Graph.{GraphView, IsKeeping, IsPlaceOfClass, KeepsGraph, nothing_kept, vertex_at}
 use Rattle.dt_waits.specs.Steps.{FinishesId, InsertsPart, Resolves, ResolvesClass, RunsBefore, alone, before, last}
 use Rattle.dt_waits.proofs.Orderly.{orderly_at_first, orderly_finish, orderly_insert, orderly_resolve}
 use Rattle.dt_waits.proofs.Free.{id_has, place_has}
 use Rattle.dt_waits.proofs.Inserted.{inserted}
-use Rattle.dt_waits.proofs.Resolved.{last_place, resolved_more}
+use Rattle.dt_waits.proofs.Resolved.{resolved_more}
 use Rattle.dt_waits.proofs.Finished.{finished_alone, finished_before, finished_last}
-
--- a log of a view of empty logs is empty
-no_log : (regions home : ℕ) → log_at (replicate regions []) home ≡ []
-no_log zero home = refl
-no_log (suc regions) zero = refl
-no_log (suc regions) (suc home) = no_log regions home
 
 pub keeping_first : (regions : ℕ) → IsKeeping (nothing_yet regions) nothing_kept
 keeping_first regions = record {
@@ -41,7 +35,7 @@ keeping_first regions = record {
       vertices = tt;
       of_parts = tt;
       of_left = tt;
-      all_wait = λ home p way h l k. absurd (subst (λ log. Has log p) (no_log regions home) h);
+      all_wait = λ home p way h l k. absurd (subst (λ log. Has log p) (empty_log regions home) h);
       in_order = tt;
     };
     slots = λ v lt l. absurd (none v lt);
@@ -58,7 +52,7 @@ keeping_first regions = record {
     nobody : (t : TxnId) → IsPresent (replicate regions []) t → ⊥
     nobody t p =
         let r : (home : ℕ) × (home < length (replicate regions [])) × HasPart (log_at (replicate regions []) home) t = any_at (λ log. HasPart log t) [] (replicate regions []) p in
-        subst (λ log. HasPart log t) (no_log regions r.0) r.2
+        subst (λ log. HasPart log t) (empty_log regions r.0) r.2
 
 -- what was pushed is the last item
 pub last_pushed : {A : Type 0} (xs : List A) (x y : A) → Some y ≡ slice_get (xs ++ x ∷ []) (length (xs ++ x ∷ []) - 1) → y ≡ x

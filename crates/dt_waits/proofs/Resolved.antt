@@ -1,8 +1,9 @@
 -- A class that is resolved leaves what is kept the graph: its members are stuck no more, and the soonest of them is ready.
 use Rattle.std.proofs.Common.{◌≡◌, ◌<◌, ◌≤◌, ◌⊎◌, ◌↔◌, ◌∙◌, ℕ, List, [], ◌∷◌, ◌++◌, length, map, slice_get, Option, None}
 use Rattle.std.proofs.Common.{Some, refl, sym, ap, subst, inl, inr, arith}
-use Rattle.dt_lists.specs.Lists.{AllIn, Has, EachThen, Either, Pairwise}
-use Rattle.dt_lists.proofs.Callers.{all_get, all_put, any_get, any_of_image, any_put, either_has, either_nat, has_last, has_longer, has_map, has_more, has_place, place_in_longer}
+use Rattle.dt_lists.specs.Lists.{AllIn, Has, EachThen, Either}
+use Rattle.dt_lists.proofs.Callers.{all_get, all_put, any_get, any_of_image, any_put, either_has, either_nat, has_last, has_longer, has_map, has_more, has_place, place_in_longer, last_place}
+use Rattle.dt_lists.proofs.Callers.{pairwise_more}
 use Rattle.dt_lists.specs.Chain.{here}
 use Rattle.dt_access.specs.declared.TxnId.{TxnId}
 use Rattle.dt_sched.specs.Views.{View, IsSooner}
@@ -18,17 +19,6 @@ use Rattle.dt_waits.proofs.Test.{executable_in_resolved}
 use Rattle.dt_waits.proofs.Free.{same_place}
 use Rattle.dt_waits.proofs.Inserted.{in_resolved_decided}
 use Rattle.dt_waits.proofs.Rows.{next_of_soonest, sooner_of_next}
-
--- pairs with one more at their ends
-pairwise_more : {A B : Type 0} (R : A → B → Type 0) (xs : List A) (ys : List B) (x : A) (y : B) → Pairwise R xs ys → R x y → Pairwise R (xs ++ x ∷ []) (ys ++ y ∷ [])
-pairwise_more R [] [] x y p r = (r, tt)
-pairwise_more R [] (b ∷ ys) x y p r = absurd p
-pairwise_more R (a ∷ xs) [] x y p r = absurd p
-pairwise_more R (a ∷ xs) (b ∷ ys) x y p r = (p.0, pairwise_more R xs ys x y p.1 r)
-
-pub last_place : {A : Type 0} (xs : List A) (x : A) → slice_get (xs ++ x ∷ []) (length xs) ≡ Some x
-last_place [] x = refl
-last_place (y ∷ ys) x = last_place ys x
 
 module _ (view : View) (resolved : List (List TxnId)) (done ids : List TxnId) (k : IsOrderly view resolved done) (x : IsResolvable view resolved done ids) where
   abbrev More : List (List TxnId)

@@ -2,7 +2,7 @@
 -- sooner ones are.
 use Rattle.std.proofs.Common.{◌≡◌, ◌≢◌, ◌⊎◌, ◌∙◌, ℕ, zero, suc, List, [], ◌∷◌, ◌++◌, take, drop, set, slice_get, Some, refl, sym, ap, subst, inl, inr, arith}
 use Rattle.dt_lists.specs.Lists.{AllIn, Has, EachThen, Pairwise}
-use Rattle.dt_lists.proofs.Callers.{all_get, all_map, all_put, has_longer, has_more}
+use Rattle.dt_lists.proofs.Callers.{all_get, all_map, all_put, has_longer, has_more, has_dropped}
 use Rattle.dt_access.specs.declared.TxnId.{TxnId}
 
 -- an item is in a front of a list, or in the rest
@@ -11,11 +11,6 @@ split_has zero xs x h = inr h
 split_has (suc n) [] x h = absurd h
 split_has (suc n) (y ∷ ys) x (inl e) = inl (inl e)
 split_has (suc n) (y ∷ ys) x (inr h) = elim (split_has n ys x h) [ inl a ↦ inl (inr a) | inr b ↦ inr b ]
-
-drop_has : {A : Type 0} (n : ℕ) (xs : List A) (x : A) → Has (drop n xs) x → Has xs x
-drop_has zero xs x h = h
-drop_has (suc n) [] x h = absurd h
-drop_has (suc n) (y ∷ ys) x h = inr (drop_has n ys x h)
 
 -- the item at a place begins the rest
 drop_at : {A : Type 0} (n : ℕ) (xs : List A) (x : A) → slice_get xs n ≡ Some x → drop n xs ≡ x ∷ drop (suc n) xs
@@ -47,7 +42,7 @@ module _ (S : TxnId → TxnId → Type 0) (irreflexive : (x : TxnId) → ¬ (S x
       by : (rest : List TxnId) → drop n ts ≡ rest → Has rest t → slice_get ts n ≡ Some t
       by [] e m = absurd m
       by (z ∷ zs) e (inl s) = at_drop n ts z zs e ∙ ap Some s
-      by (z ∷ zs) e (inr m) = absurd (waits (sooner z (drop_has n ts z (subst (λ l. Has l z) (sym e) (inl refl))) (all_get (S z) zs first t m)))
+      by (z ∷ zs) e (inr m) = absurd (waits (sooner z (has_dropped n ts z (subst (λ l. Has l z) (sym e) (inl refl))) (all_get (S z) zs first t m)))
         where
           first : AllIn (S z) zs
           first = (subst (EachThen S) e (each_drop S n ts ordered)).0

@@ -1,6 +1,6 @@
 -- Sums over lists of entries: of equal terms, of a part of the list, and of terms that count.
 use Rattle.std.proofs.Common.{◌≡◌, ◌+◌, ◌⊎◌, ◌∙◌, ℕ, suc, Bool, true, false, ◌&&◌, ◌||◌, ◌==◌, not, if◌then◌else◌, List, [], ◌∷◌}
-use Rattle.std.proofs.Common.{length, map, filter, refl, sym, ap, ap₂, inl, inr, eqb-true, eq-eqb, arith}
+use Rattle.std.proofs.Common.{length, filter, refl, sym, ap, ap₂, inl, inr, eqb-true, eq-eqb, arith}
 use Rattle.std.specs.List.{list_any, sum_by}
 use Rattle.std.proofs.lemmas.Bool.{cases_Bool, false_from_ne_true}
 use Rattle.std.proofs.lemmas.List.Sums.{sum_by-append}
@@ -78,7 +78,7 @@ filter_same p q (x ∷ xs) e = by (filter_same p q xs (λ y h. e y (inr h))) (ca
     by rest (inl a) = rw (e x (inl refl), a) (ap (λ l. x ∷ l) rest)
     by rest (inr a) = rw (e x (inl refl), a) rest
 
--- a choice that does not hang on the item
+-- a choice that does not depend on the item
 pub sum_chosen : {A : Type 0} (b : Bool) (f : A → ℕ) (xs : List A) → sum_by (λ x. if b then f x else 0) xs ≡ (if b then sum_by f xs else 0)
 sum_chosen true f xs = refl
 sum_chosen false f xs = sum_of_zeros xs
@@ -92,11 +92,6 @@ chosen_turned true true n = refl
 chosen_turned true false n = refl
 chosen_turned false true n = refl
 chosen_turned false false n = refl
-
--- a sum over an image
-pub sum_mapped : {A B : Type 0} (f : B → ℕ) (h : A → B) (xs : List A) → sum_by f (map h xs) ≡ sum_by (λ x. f (h x)) xs
-sum_mapped f h [] = refl
-sum_mapped f h (x ∷ xs) = sum_first f (h x) (map h xs) ∙ ap (λ n. f (h x) + n) (sum_mapped f h xs) ∙ sym (sum_first (λ x. f (h x)) x xs)
 
 -- a sum over two lists, in either order
 pub sum_swapped : {A B : Type 0} (f : A → B → ℕ) (xs : List A) (ys : List B) → sum_by (λ x. sum_by (f x) ys) xs ≡ sum_by (λ y. sum_by (λ x. f x y) xs) ys

@@ -5,7 +5,7 @@ use Rattle.std.proofs.lemmas.Bool.{and_parts, and_from}
 use Rattle.std.proofs.lemmas.List.{append_assoc}
 use Rattle.dt_lists.specs.Lists.{AnyIn, Has, EachThen, SomeThen}
 use Rattle.dt_lists.specs.Chain.{Chain, here, onward}
-use Rattle.dt_lists.proofs.Callers.{all_get, any_get, any_put, some_get, some_map, some_of_two, each_across, has_middle, has_longer, chain_join, chain_step, Spot, spot}
+use Rattle.dt_lists.proofs.Callers.{all_get, any_get, any_put, some_get, some_map, some_of_two, each_across, has_middle, chain_join, chain_step, Spot, spot}
 use Rattle.dt_access.specs.Ids.{StandsBefore}
 use Rattle.dt_access.specs.Clash.{Bytes, uses_clash, clash}
 use Rattle.dt_access.specs.declared.access.Mode.{Mode}

@@ -41,7 +41,7 @@ has_part log t = list_any (λ p. same_id p.id t) log
 abbrev pub lacking : View → TxnId → List ℕ → ℕ
 lacking view t homes = length (filter (λ home. not (has_part (log_at view home) t)) homes)
 
--- the place of the resolved class that t is in, or none where it is in none
+-- the place of the resolved class that t is in, if it is in one
 abbrev pub IsPlaceOfClass : List (List TxnId) → TxnId → Option ℕ → Type 0
 IsPlaceOfClass resolved t None = ¬ (IsInResolved resolved t)
 IsPlaceOfClass resolved t (Some place) = (ids : List TxnId) × (slice_get resolved place ≡ Some ids) × Has ids t

@@ -4,14 +4,14 @@ use Rattle.std.proofs.Common.{codes, Option, Some, None, refl, sym, ap, ap₂, �
 use Rattle.std.specs.Option.{SomeIff}
 use Rattle.std.specs.Fmt.{decimal, signed_decimal}
 use Rattle.dt_lists.specs.Lists.{AllIn, Either}
-use Rattle.dt_lists.proofs.Callers.{either_and, either_or, either_same, either_all, either_nat, either_le, same_head, same_tail}
+use Rattle.dt_lists.proofs.Callers.{either_and, either_or, either_same, either_all, either_nat, either_le, same_head, same_tail, same_rest}
 use Rattle.dt_text.specs.Texts.{IsStr}
 use Rattle.dt_text.specs.Numbers.{ReadsSignedNumber}
 use Rattle.dt_text.proofs.Callers.{SpellsBelow, either_bytes, either_lt, either_spelled, either_str, minus_none, minus_some, plain_none, plain_some}
 use Rattle.dt_text.specs.declared.Value.{Value}
 use Rattle.dt_text.specs.declared.Value.TheVariants.{Int, Text}
 use Rattle.dt_text.specs.Texts.{Bytes}
-use Rattle.dt_workload.proofs.OneForm.{after_front, same_bare, same_quoted}
+use Rattle.dt_workload.proofs.OneForm.{same_bare, same_quoted}
 use Rattle.dt_workload.specs.Lines.{Said, bare, quoted, Form, session_line, call_line, move_line, argument_word, IsRanked, other_words, SpellForm, IsArgument, IsForm}
 
 -- ---- numbers
@@ -149,7 +149,7 @@ either_says_rank kind (bare bs) = alone (either_bytes bs kind)
       where
         refute : SaysRank kind (bare bs) → ⊥
         refute (rank, low, inl h) = other (same_bare h.1)
-        refute (rank, low, inr h) = none (rank, low, same_tail (after_front kind (47 ∷ rest) (47 ∷ decimal rank) (sym cut ∙ same_bare h)))
+        refute (rank, low, inr h) = none (rank, low, same_tail (same_rest kind (47 ∷ rest) (47 ∷ decimal rank) (sym cut ∙ same_bare h)))
 
     with_rank : ¬ (bs ≡ kind) → Either ((rest : Bytes) × (bs ≡ kind ++ 47 ∷ rest)) → Either (SaysRank kind (bare bs))
     with_rank other (inl (rest, cut)) = ranked other rest cut (either_spelled 10 (omega arith) rest)

@@ -5,7 +5,7 @@ use Rattle.std.proofs.lemmas.Bool.{false≢true}
 use Rattle.std.specs.Cmp.Lexicographic.{pointwise, bytes_decides}
 use Rattle.std.specs.Fmt.{decimal}
 use Rattle.std.proofs.lemmas.Fmt.{decimal_injective}
-use Rattle.dt_lists.proofs.Callers.{same_head, same_tail}
+use Rattle.dt_lists.proofs.Callers.{same_head, same_tail, same_rest}
 use Rattle.std.proofs.lemmas.Option.{same_Some}
 use Rattle.dt_lists.specs.Lists.{AllIn}
 use Rattle.dt_text.specs.Texts.{IsName, is_name_byte, first_outside}
@@ -16,7 +16,7 @@ use Rattle.dt_text.specs.declared.Value.{Value}
 use Rattle.dt_text.proofs.Callers.{exact}
 use Rattle.dt_text.specs.Texts.{Bytes}
 use Rattle.dt_workload.specs.Lines.{Said, bare, said, Form, session_line, call_line, move_line, IsForm, IsRanked, IsFirstWord, SpellForm, HasForm, IsArgument, argument_word}
-use Rattle.dt_workload.proofs.OneForm.{after_front, session_or_call, session_or_move, call_or_move, same_bare}
+use Rattle.dt_workload.proofs.OneForm.{session_or_call, session_or_move, call_or_move, same_bare}
 use Rattle.std.specs.Prelude.{codes}
 use Rattle.dt_workload.specs.ReaderParts.{IsNoBeginning, ReadsForm, ReadsRank, ReadsRegion, Refuses, form_of}
 use Rattle.dt_workload.specs.File.{IsSessionFault}
@@ -91,11 +91,11 @@ pub no_name_outside : (word : Bytes) (place : ℕ) → first_outside is_name_byt
 no_name_outside word place found name = byte_outside is_name_byte word place found name.2
 
 -- where no session of a name can begin, its line is at fault for that
-pub no_session : (cluster : Cluster) (before : List Session) (name word : Bytes) (region : ℕ) (why : Refusal) → name ≡ word → IsName name
+pub no_beginning : (cluster : Cluster) (before : List Session) (name word : Bytes) (region : ℕ) (why : Refusal) → name ≡ word → IsName name
     → Refuses (IsNoBeginning cluster before name region) why → Refuses (IsSessionFault cluster before word region) why
-no_session cluster before name word region (Cause told) same is fault =
+no_beginning cluster before name word region (Cause told) same is fault =
     subst (λ w. IsSessionFault cluster before w region told) same (inr (is, fault))
-no_session cluster before name word region NoMemory same is fault = tt
+no_beginning cluster before name word region NoMemory same is fault = tt
 
 -- ---- forms by the word that begins a line
 
@@ -168,7 +168,7 @@ no_rank kind word other none rank low (inr h) = none (decimal rank) (same_bare h
 pub no_digit : (kind word digits : Bytes) → ¬ (word ≡ kind) → word ≡ kind ++ 47 ∷ digits → ((n : ℕ) → n < 10 → digits ≢ decimal n)
     → (rank : ℕ) → rank < 10 → ¬ IsRanked kind rank (bare word)
 no_digit kind word digits other cut none rank low (inl h) = other (same_bare h.1)
-no_digit kind word digits other cut none rank low (inr h) = none rank low (same_tail (after_front kind (47 ∷ digits) (47 ∷ decimal rank) (sym cut ∙ same_bare h)))
+no_digit kind word digits other cut none rank low (inr h) = none rank low (same_tail (same_rest kind (47 ∷ digits) (47 ∷ decimal rank) (sym cut ∙ same_bare h)))
 
 -- ---- the front of a word
 

@@ -1,12 +1,13 @@
 -- Bytes are one workload of a cluster or have one fault, and never both.
 use Rattle.dt_access.specs.Granules.{IsUnitKey}
-use Rattle.std.proofs.Common.{◌≡◌, ◌≢◌, ◌⊎◌, inl, inr, ℕ, zero, suc, ◌+◌, ◌<◌, ◌≤◌, ◌==◌, Bool, true, false, cond, not, nat_lt, List, [], ◌∷◌, ◌++◌, length}
+use Rattle.std.proofs.Common.{◌≡◌, ◌≢◌, ◌⊎◌, inl, inr, ℕ, zero, suc, ◌+◌, ◌<◌, ◌≤◌, ◌==◌, Bool, true, false, cond, not, nat_lt, List, [], ◌∷◌, ◌++◌}
+use Rattle.std.proofs.Common.{eq-eqb}
+use Rattle.std.proofs.Common.{length, lt-ltb}
 use Rattle.std.proofs.Common.{map, slice_get, Option, Some, None, refl, sym, ap, ◌∙◌, subst, arith, append_assoc, append-nil, length-append}
 use Rattle.std.specs.Prelude.{nat_eq, IsSome}
 use Rattle.std.specs.Option.{is_some, option_and_then}
 use Rattle.std.specs.List.{position_or_len, sum_by}
 use Rattle.std.specs.Cmp.Lexicographic.{pointwise, bytes_decides}
-use Rattle.std.proofs.lemmas.Bool.Decides.{nat_tests}
 use Rattle.std.proofs.lemmas.List.{map-append}
 use Rattle.std.proofs.lemmas.List.Sums.{sum_by-append}
 use Rattle.dt_lists.proofs.Callers.{same_head, same_tail}
@@ -61,13 +62,10 @@ named_at (p ∷ ps) (suc number) body name once e is =
     ∙ ap (λ n. 1 + n) (named_at ps number body name once.1 e is)
     ∙ next
 
-is_below : (n limit : ℕ) → n < limit → nat_lt n limit ≡ true
-is_below n limit h = grind (arith, nat_tests)
-
 found : (cluster : Cluster) (number : ℕ) (body : ProcTree) → HaveNames cluster.procs → slice_get cluster.procs number ≡ Some body → proc_named cluster body.name ≡ Some body
 found cluster number body once e =
     let at = named_at cluster.procs number body body.name once e refl in
-    let below = is_below number (length cluster.procs) (place_within cluster.procs number body e) in
+    let below = lt-ltb number (length cluster.procs) (place_within cluster.procs number body e) in
     let place : place_of_name body.name cluster.procs ≡ Some number =
     ap (λ n. cond (nat_lt n (length cluster.procs)) (Some n) None) at ∙ ap (λ b. cond b (Some number) None) below in
     ap (option_and_then (slice_get cluster.procs)) place ∙ e
@@ -304,9 +302,6 @@ one_line_fault cluster before line a b (inr h) (inr k) =
 abbrev Fit : Cluster → List Session → Type 0
 Fit cluster sessions = IsValidWorkload cluster (record { sessions = sessions })
 
-equal_itself : (n : ℕ) → (n == n) ≡ true
-equal_itself n = grind (arith, nat_tests)
-
 sum_parts : {A : Type 0} (f : A → ℕ) (xs : List A) (y : A) (ys : List A) → sum_by f (xs ++ y ∷ ys) ≡ sum_by f xs + (f y + sum_by f ys)
 sum_parts f xs y ys =
     let all : sum_by f (xs ++ y ∷ ys) ≡ sum_by f xs + sum_by f (y ∷ ys) = sum_by-append f xs (y ∷ ys) in
@@ -321,7 +316,7 @@ room_there : (before : List Session) (x : Session) (xs : List Session) → sessi
 room_there before x xs few =
     let at : ℕ → List Session → ℕ = session_count_at in
     let sum : at x.region (before ++ x ∷ xs) ≡ at x.region before + (cond (x.region == x.region) 1 0 + at x.region xs) = sum_parts (λ s. cond (s.region == x.region) 1 0) before x xs in
-    let one : ◌≡◌ {A = ℕ} (cond (x.region == x.region) 1 0) 1 = ap (λ b. cond b 1 0) (equal_itself x.region) in
+    let one : ◌≡◌ {A = ℕ} (cond (x.region == x.region) 1 0) 1 = ap (λ b. cond b 1 0) (eq-eqb x.region x.region refl) in
     omega (arith, few, sum, one)
 
 no_session_fault : (cluster : Cluster) (before : List Session) (x : Session) (xs : List Session) → Fit cluster (before ++ x ∷ xs)

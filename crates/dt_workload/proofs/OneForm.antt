@@ -5,7 +5,7 @@ use Rattle.std.specs.Prelude.{codes}
 use Rattle.std.specs.Int.{w64}
 use Rattle.std.specs.Fmt.{decimal, signed_decimal}
 use Rattle.std.proofs.lemmas.Fmt.{decimal_injective}
-use Rattle.dt_lists.proofs.Callers.{same_head, same_tail}
+use Rattle.dt_lists.proofs.Callers.{same_head, same_tail, same_rest}
 use Rattle.std.proofs.lemmas.Option.{same_Some}
 use Rattle.dt_lists.specs.Lists.{AllIn}
 use Rattle.dt_text.specs.declared.Value.{Value}
@@ -46,10 +46,6 @@ same_arguments (v ∷ vs) (w ∷ ws) fit_vs fit_ws e =
 
 -- ---- the word that begins a line
 
-pub after_front : (front xs ys : Bytes) → front ++ xs ≡ front ++ ys → xs ≡ ys
-after_front [] xs ys e = e
-after_front (b ∷ front) xs ys e = after_front front xs ys (same_tail e)
-
 -- the kind alone is no kind with a rank
 not_alone : (kind : Bytes) (rank : ℕ) → kind ≡ kind ++ 47 ∷ decimal rank → ⊥
 not_alone kind rank e = omega (arith, ap length e, length-append kind (47 ∷ decimal rank))
@@ -60,7 +56,7 @@ one_rank kind r q head low_r low_q (inl h) (inl k) = h.0 ∙ sym k.0
 one_rank kind r q head low_r low_q (inl h) (inr k) = absurd (not_alone kind q (same_bare (sym h.1 ∙ k)))
 one_rank kind r q head low_r low_q (inr h) (inl k) = absurd (not_alone kind r (same_bare (sym k.1 ∙ h)))
 one_rank kind r q head low_r low_q (inr h) (inr k) =
-    same_number r q (omega (arith, low_r)) (omega (arith, low_q)) (same_tail (after_front kind (47 ∷ decimal r) (47 ∷ decimal q) (same_bare (sym h ∙ k))))
+    same_number r q (omega (arith, low_r)) (omega (arith, low_q)) (same_tail (same_rest kind (47 ∷ decimal r) (47 ∷ decimal q) (same_bare (sym h ∙ k))))
 
 -- the first byte of a word that begins a line of a kind is the kind's
 begins : (b : ℕ) (kind : Bytes) (rank : ℕ) (head : Said) → IsRanked (b ∷ kind) rank head → (rest : Bytes) × (head ≡ bare (b ∷ rest))

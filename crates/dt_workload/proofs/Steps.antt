@@ -1,14 +1,14 @@
 -- What one line more makes of sessions.
 use Rattle.std.proofs.Common.{◌≡◌, ℕ, zero, suc, ◌+◌, ◌<◌, ◌≤◌, ◌==◌, Bool, true, false, cond, nat_eq, List, [], ◌∷◌, ◌++◌, map, length, slice_get, Some, refl}
+use Rattle.std.proofs.Common.{eqb-true}
 use Rattle.std.proofs.Common.{ap, sym, ◌∙◌, subst, arith, append_assoc, append-nil}
 use Rattle.std.specs.Option.{option_and_then}
 use Rattle.std.specs.Cmp.Lexicographic.{pointwise, bytes_decides}
 use Rattle.std.proofs.lemmas.List.Sums.{sum_by-append}
 use Rattle.std.proofs.lemmas.List.Quantifiers.{position-Some}
 use Rattle.std.proofs.lemmas.Option.{get_or_from_slice_get}
-use Rattle.std.proofs.lemmas.Bool.Decides.{nat_tests}
 use Rattle.dt_lists.specs.Lists.{AllIn, Has, Pairwise}
-use Rattle.dt_lists.proofs.Callers.{all_append, all_append_left, all_append_right, all_get}
+use Rattle.dt_lists.proofs.Callers.{all_append, all_append_left, all_append_right, all_get, pairwise_more}
 use Rattle.dt_lists.proofs.Callers.{distinct_push}
 use Rattle.dt_lists.proofs.Callers.{has_place}
 use Rattle.dt_text.specs.Texts.{IsKey}
@@ -44,12 +44,6 @@ named_word procs word number p place is =
 
 pub found_proc : (cluster : Cluster) (word : Bytes) (number : ℕ) → place_of_name word cluster.procs ≡ Some number → proc_named cluster word ≡ slice_get cluster.procs number
 found_proc cluster word number place = ap (λ o. option_and_then (slice_get cluster.procs) o) place
-
-pairwise_more : {A B : Type 0} (R : A → B → Type 0) (xs : List A) (ys : List B) (x : A) (y : B) → Pairwise R xs ys → R x y → Pairwise R (xs ++ x ∷ []) (ys ++ y ∷ [])
-pairwise_more R [] [] x y h r = (r, tt)
-pairwise_more R [] (b ∷ ys) x y h r = absurd h
-pairwise_more R (a ∷ xs) [] x y h r = absurd h
-pairwise_more R (a ∷ xs) (b ∷ ys) x y h r = (h.0, pairwise_more R xs ys x y h.1 r)
 
 map_more : {A B : Type 0} (f : A → B) (xs ys : List A) → map f (xs ++ ys) ≡ map f xs ++ map f ys
 map_more f [] ys = refl
@@ -98,13 +92,10 @@ one_more_at : (b : Bool) (n : ℕ) → (b ≡ true → n < 64) → n ≤ 64 → 
 one_more_at true n room few = let r = room refl in omega arith
 one_more_at false n room few = omega arith
 
-same_number : (a b : ℕ) → (a == b) ≡ true → a ≡ b
-same_number a b h = grind (arith, nat_tests)
-
 room_at : (region : ℕ) (before : List Session) (x : Session) → session_count_at x.region before < 64 → session_count_at region before ≤ 64
     → session_count_at region (before ++ x ∷ []) ≤ 64
 room_at region before x room few =
-    let room_if : (x.region == region) ≡ true → session_count_at region before < 64 = λ e. subst (λ r. session_count_at r before < 64) (same_number x.region region e) room in
+    let room_if : (x.region == region) ≡ true → session_count_at region before < 64 = λ e. subst (λ r. session_count_at r before < 64) (eqb-true x.region region e) room in
     rw (sum_by-append (λ (s : Session). cond (s.region == region) 1 0) before (x ∷ []))
     (one_more_at (x.region == region) (session_count_at region before) room_if few)
 

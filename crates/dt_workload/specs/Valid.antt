@@ -1,10 +1,10 @@
 -- Which workloads a cluster can be given: what each call and each move needs, what a session needs, and the limits on
 -- their number. A workload file is one exactly where its lines say such a workload (`File`); whoever takes a workload may
 -- rely on all of this. Read next: `File`.
-use Rattle.std.specs.Prelude.{◌≡◌, ◌<◌, ◌≤◌, ◌==◌, ℕ, List, map, length, count_by}
+use Rattle.std.specs.Prelude.{◌<◌, ◌≤◌, ◌==◌, ℕ, List, map, length, count_by}
 use Rattle.std.specs.List.{sum_by}
 use Rattle.dt_lists.specs.Lists.{AllIn, Distinct}
-use Rattle.dt_text.specs.Texts.{IsKey, IsName}
+use Rattle.dt_text.specs.Texts.{IsName}
 use Rattle.dt_eval.specs.Calls.{CallFits}
 use Rattle.dt_cluster.specs.declared.Cluster.{Cluster}
 use Rattle.dt_text.specs.Texts.{Bytes}

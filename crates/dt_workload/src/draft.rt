@@ -71,7 +71,7 @@ impl Draft {
     }
 
     /// Begins a session.
-    #[tactic(auto, using(crate::proofs::Forms::no_session))]
+    #[tactic(auto, using(crate::proofs::Forms::no_beginning))]
     fn begin(
         &mut self,
         alloc: Global,

@@ -3,11 +3,11 @@ use Rattle.std.proofs.Common.{◌≡◌, ◌<◌, ◌≤◌, ◌+◌, ℕ, Bool,
 use Rattle.std.proofs.Common.{Some, None, refl, sym, ap, ap₂, subst, ◌∙◌, append_assoc, append-nil, arith}
 use Rattle.std.specs.Prelude.{Option, option_map, option_and_then, option_to_list}
 use Rattle.std.specs.List.{position}
-use Rattle.std.proofs.lemmas.List.{length-append, length_push, length-map, map-set, get_or-set_same}
+use Rattle.std.proofs.lemmas.List.{length_push, length-map, map-set, get_or-set_same}
 use Rattle.std.proofs.lemmas.List.Quantifiers.{position-Some}
 use Rattle.std.proofs.lemmas.Option.{some_pair_parts}
 use Rattle.dt_lists.specs.Lists.{Has, IsFront}
-use Rattle.dt_lists.proofs.Callers.{any_of_image, any_image, any_front, get_of_map, map_of_set}
+use Rattle.dt_lists.proofs.Callers.{any_of_image, any_image, any_front, get_of_map, map_of_set, front_length}
 use Rattle.dt_access.specs.Clash.{Bytes}
 use Rattle.dt_access.specs.declared.TxnId.{TxnId}
 use Rattle.dt_events.specs.declared.Event.{Event}
@@ -32,10 +32,6 @@ use Rattle.dt_world.specs.WorldReport.{IsReplyOf, answered_session, replies_from
 use Rattle.dt_world.proofs.Executions.{serial_is}
 use Rattle.dt_world.proofs.Growth.{NodeGrows, grows_past}
 use Rattle.dt_world.proofs.PlacesOfNames.{no_session_of_none, place_set, session_of_place}
-
--- a front is no longer than the whole
-pub front_length : {A : Type 0} (xs ys : List A) → IsFront xs ys → length xs ≤ length ys
-front_length xs ys f = subst (λ l. length xs ≤ length l) f.1 (omega (arith, length-append xs f.0))
 
 -- replies, with one more event
 

@@ -19,7 +19,7 @@ use Rattle.dt_session.specs.declared.sessions.Seat.{Seat}
 use Rattle.dt_session.specs.Sessions.{IsNext, MayBeAnswered, MayGo, SessionsView, numbers_next, seat_of, waits_of, wanted_of}
 use Rattle.dt_session.specs.World.{World, Place, session_at}
 use Rattle.dt_session.specs.Step.{MaySubmit, MayTry, awaited_at, next_attempt, ranked_body}
-use Rattle.dt_agreement.proofs.Callers.{body_fits, session_found, submits}
+use Rattle.dt_agreement.proofs.Callers.{body_fits, session_found}
 use Rattle.dt_agreement.proofs.Callers as agreed
 use Rattle.dt_agreement.specs.Invariant.{IsPlaceOf}
 use Rattle.dt_site.specs.declared.Origin.{Origin}

@@ -24,6 +24,6 @@ places_in s = places_of s.workload s.by_region
 abbrev pub opening_sessions : Cluster → Workload → List SessionsView
 opening_sessions cluster workload = map (λ region. all_idle cluster.tries region workload) (range_with_len 0 cluster.regions)
 
--- stands for a session that there is not
+-- stands in where there is no such thing: a session
 abbrev pub no_session : Session
 no_session = record { name = []; region = 0; calls = [] }

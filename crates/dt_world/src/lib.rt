@@ -12,8 +12,8 @@
 #![tactic(auto)]
 
 mod session_replay;
-mod telling;
+mod site_reports;
 mod world;
 
-pub use telling::{report_of_sites, text_of_sites};
+pub use site_reports::{report_of_sites, text_of_sites};
 pub use world::{StepError, World, kept_are_own};

@@ -20,7 +20,7 @@ ghost use Rattle.dt_world.specs.WorldReport.{IsOutcomeOf, IsReplyOf, answered_na
 ghost use Rattle.dt_world.specs.WorldSessions.{opening_sessions};
 ghost use Rattle.dt_world.specs.WorldView.{Makes, kept_next, kept_after, opening_view, own_events};
 
-use crate::telling::{report_of_sites, text_of_sites};
+use crate::site_reports::{report_of_sites, text_of_sites};
 use dt_access::TxnId;
 use dt_cluster::Cluster;
 use dt_events::{Event, Stamped};
@@ -138,7 +138,7 @@ impl<S: Scheduler + Drop> World<S> {
                 last,
             } => self.deliver(alloc, *region, *home, *first, *last),
             Event::Insert { region, home } => self.insert(alloc, *region, *home),
-            Event::Resolve { region, ids } => self.resolve(alloc, *region, ids.as_slice()),
+            Event::Resolve { region, ids } => self.resolve(alloc, *region, ids.get().as_slice()),
             Event::Execute { region, id } => self.execute(alloc, *region, *id),
             Event::Answer { region, session } => self.answer(alloc, *region, session),
         }

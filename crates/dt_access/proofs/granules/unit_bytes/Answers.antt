@@ -1,6 +1,5 @@
-use Rattle.std.proofs.Common.{subst, sym, ◌∙◌, ap}
+use Rattle.std.proofs.Common.{subst, sym}
 use Rattle.dt_text.specs.Texts.{IsKey}
-use Rattle.dt_access.specs.Granules.{granule_of}
 use Rattle.dt_access.proofs.GranuleLaws.{granule_is_key}
 use Rattle.dt_access.proofs.granules.unit_bytes.Goals as goal
 

@@ -1,6 +1,6 @@
 use Rattle.std.proofs.Common.{◌∙◌, sym, arith}
 use Rattle.std.proofs.lemmas.Option.{slice_get_within}
-use Rattle.dt_class.proofs.Walk.{found_within, past_end, walk_begins, walk_goes_on, walk_ends}
+use Rattle.dt_class.proofs.Walk.{found_within, ended_where_none, walk_begins, walk_goes_on, walk_ends}
 use Rattle.dt_class.proofs.Marks.{found_bounded}
 use Rattle.dt_class.proofs.search.spread.Goals as goal
 
@@ -27,4 +27,4 @@ loop-vertex-preserved c =
 
 pub returns : goal.returns
 returns c =
-    walk_ends _ _ _ _ _ c.loop-vertex.invariant c.in_default.ensures.once (past_end _ _ (sym c.in_default.ensures.read))
+    walk_ends _ _ _ _ _ c.loop-vertex.invariant c.in_default.ensures.once (ended_where_none _ _ (sym c.in_default.ensures.read))

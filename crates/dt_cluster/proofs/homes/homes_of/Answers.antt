@@ -3,7 +3,7 @@ use Rattle.toml.specs.View.{view}
 use Rattle.dt_lists.specs.Lists.{Pairwise}
 use Rattle.dt_cluster.specs.Rows.{IsHome}
 use Rattle.dt_cluster.specs.ReaderParts.{IsBadHomeOf}
-use Rattle.dt_cluster.proofs.Listing.{listed, listed_are, tells_more, err_passed}
+use Rattle.dt_cluster.proofs.MapEntries.{listed, listed_are, tells_more, err_passed}
 use Rattle.dt_cluster.proofs.homes.homes_of.Goals as goal
 
 pub returns-in_err-home-clause-fault : goal.returns-in_err-home-clause-fault

@@ -5,7 +5,7 @@ use Rattle.dt_text.specs.Texts.{Bytes}
 use Rattle.dt_cluster.specs.Document.{IsFirstFaulty}
 use Rattle.dt_cluster.specs.Rows.{IsHome, IsBadHome}
 use Rattle.dt_cluster.specs.declared.error.ClusterCause.{ClusterCause}
-use Rattle.dt_cluster.proofs.Listing.{listed}
+use Rattle.dt_cluster.proofs.MapEntries.{listed}
 use Rattle.dt_cluster.proofs.homes.homes_of.Given as goal
 
 abbrev pub invariant-loop-name : goal.invariant-loop-name

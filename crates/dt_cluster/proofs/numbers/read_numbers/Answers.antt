@@ -2,7 +2,7 @@ use Rattle.std.proofs.Common.{inl, inr, refl}
 use Rattle.std.specs.Prelude.{codes}
 use Rattle.toml.specs.View.{table_view}
 use Rattle.dt_cluster.specs.File.{IsNumberFault}
-use Rattle.dt_cluster.proofs.Listing.{tells_more, err_passed}
+use Rattle.dt_cluster.proofs.MapEntries.{tells_more, err_passed}
 use Rattle.dt_cluster.proofs.numbers.read_numbers.Goals as goal
 
 pub returns-in_err-read_drop-clause-fault : goal.returns-in_err-read_drop-clause-fault

@@ -1,7 +1,7 @@
 use Rattle.std.proofs.Common.{inl, inr}
 use Rattle.toml.specs.View.{table_view}
 use Rattle.dt_cluster.specs.File.{IsFaultOf}
-use Rattle.dt_cluster.proofs.Listing.{tells_more, err_passed}
+use Rattle.dt_cluster.proofs.MapEntries.{tells_more, err_passed}
 use Rattle.dt_cluster.proofs.Valid.{given_valid}
 use Rattle.dt_cluster.proofs.reader.cluster_of.Goals as goal
 

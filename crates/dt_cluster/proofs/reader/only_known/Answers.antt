@@ -1,6 +1,6 @@
 use Rattle.std.proofs.Common.{inl, refl}
 use Rattle.dt_cluster.specs.File.{IsUnknownFault}
-use Rattle.dt_cluster.proofs.Listing.{listed, listed_are, tells_more, refused_by}
+use Rattle.dt_cluster.proofs.MapEntries.{listed, listed_are, tells_more, refused_by}
 use Rattle.dt_cluster.proofs.reader.only_known.Goals as goal
 
 pub returns-then-not-is_known-clause-fault : goal.returns-then-not-is_known-clause-fault

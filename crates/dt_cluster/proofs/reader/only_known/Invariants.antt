@@ -5,7 +5,7 @@ use Rattle.dt_text.specs.Texts.{Bytes}
 use Rattle.dt_cluster.specs.Document.{IsFirstFaulty}
 use Rattle.dt_cluster.specs.File.{IsKnown}
 use Rattle.dt_cluster.specs.declared.error.ClusterCause.TheVariants as cause
-use Rattle.dt_cluster.proofs.Listing.{listed}
+use Rattle.dt_cluster.proofs.MapEntries.{listed}
 use Rattle.dt_cluster.proofs.reader.only_known.Given as goal
 
 abbrev pub invariant-loop-name : goal.invariant-loop-name

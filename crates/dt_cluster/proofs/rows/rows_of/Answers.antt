@@ -3,7 +3,7 @@ use Rattle.toml.specs.View.{view}
 use Rattle.dt_lists.specs.Lists.{Pairwise}
 use Rattle.dt_cluster.specs.Rows.{IsRow}
 use Rattle.dt_cluster.specs.ReaderParts.{IsBadRowOf}
-use Rattle.dt_cluster.proofs.Listing.{listed, listed_are, tells_more, err_passed}
+use Rattle.dt_cluster.proofs.MapEntries.{listed, listed_are, tells_more, err_passed}
 use Rattle.dt_cluster.proofs.rows.rows_of.Goals as goal
 
 pub returns-in_err-row-clause-fault : goal.returns-in_err-row-clause-fault

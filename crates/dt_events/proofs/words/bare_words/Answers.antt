@@ -1,7 +1,7 @@
 use Rattle.std.proofs.Common.{Some, ap, sym, ◌∙◌}
 use Rattle.std.proofs.lemmas.Result.{IfOk-weaker}
 use Rattle.dt_events.specs.Reading.{spelled}
-use Rattle.dt_events.proofs.EventWords.{no_words, bare_answer}
+use Rattle.dt_events.proofs.EventWords.{not_made_of_words, bare_answer}
 use Rattle.dt_events.proofs.words.bare_words.Goals as goal
 
 pub returns-in-Some-clause-exact : goal.returns-in-Some-clause-exact
@@ -12,4 +12,4 @@ returns-in-Some-clause-exact c =
 
 pub returns-in-None-clause-exact : goal.returns-in-None-clause-exact
 returns-in-None-clause-exact c =
-    no_words c.args.line.now (sym c.in_ok-words.ensures.exact ∙ c.in-None.is)
+    not_made_of_words c.args.line.now (sym c.in_ok-words.ensures.exact ∙ c.in-None.is)

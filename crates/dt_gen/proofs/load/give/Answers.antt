@@ -2,7 +2,7 @@ use Rattle.std.proofs.Common.{◌≡◌, ◌%◌, ◌++◌, ◌∷◌, [], List,
 use Rattle.dt_workload.specs.declared.Ranked.{Ranked}
 use Rattle.dt_workload.specs.declared.Session.{Session}
 use Rattle.dt_gen.specs.Load.{load_call, load_session}
-use Rattle.dt_gen.proofs.Dealing.{dealt, session_there, sessions_length, with_call}
+use Rattle.dt_gen.proofs.OneCallMore.{dealt, session_there, sessions_length, with_call}
 use Rattle.dt_gen.proofs.load.give.Goals as goal
 
 pub bounds-sessions-number : goal.bounds-sessions-number

@@ -1,5 +1,5 @@
 use Rattle.dt_merge.specs.WorldRegions.{world_regions}
-use Rattle.dt_merge.proofs.Reordering.{rescheduled}
+use Rattle.dt_merge.proofs.EventOrders.{rescheduled}
 use Rattle.dt_merge.proofs.Worlds.{after_is, legal_in, legal_out, world_local}
 use Rattle.dt_merge.proofs.laws.rescheduling.Goals as goal
 

@@ -1,5 +1,5 @@
 use Rattle.std.proofs.Common.{◌≡◌, ◌<◌, IfSome, length, arith, subst}
-use Rattle.dt_outside.proofs.Reading.{all_within}
+use Rattle.dt_outside.proofs.Retries.{all_within}
 use Rattle.dt_outside.proofs.disk_folder.read_within.Goals as goal
 
 -- no more than the limit was given, where one byte more was asked for

@@ -1,6 +1,6 @@
 use Rattle.std.proofs.Common.{arith}
 use Rattle.std.proofs.lemmas.List.{take_rest}
-use Rattle.dt_outside.proofs.Writing.{Adds-further}
+use Rattle.dt_outside.proofs.TextPieces.{Adds-further}
 use Rattle.dt_outside.proofs.sinks.write_all.Goals as goal
 
 pub loop-written-preserved : goal.loop-written-preserved

@@ -1,4 +1,4 @@
-use Rattle.dt_outside.proofs.Reading.{keeps_on}
+use Rattle.dt_outside.proofs.Retries.{keeps_on}
 use Rattle.dt_outside.proofs.std_sink.write_retrying.Goals as goal
 
 pub returns-in_default-clause-taken : goal.returns-in_default-clause-taken

@@ -1,4 +1,4 @@
-use Rattle.dt_plain.proofs.Shared.{common_of_order}
+use Rattle.dt_plain.proofs.Intersections.{common_of_order}
 use Rattle.dt_plain.proofs.class.common.Goals as goal
 
 pub returns : goal.returns

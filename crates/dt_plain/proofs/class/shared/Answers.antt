@@ -1,5 +1,5 @@
 use Rattle.dt_plain.proofs.Scan.{tested, refuted}
-use Rattle.dt_plain.proofs.Shared.{shared_more, shared_past}
+use Rattle.dt_plain.proofs.Intersections.{shared_more, shared_past}
 use Rattle.dt_plain.proofs.class.shared.Goals as goal
 use Rattle.dt_plain.proofs.class.shared.Goals.{then-has+in_ok-push, else-has}
 

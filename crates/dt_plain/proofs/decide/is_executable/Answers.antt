@@ -1,5 +1,5 @@
 use Rattle.dt_plain.proofs.Scan.{tested, refuted}
-use Rattle.dt_plain.proofs.Decided.{not_clear, settled_tells}
+use Rattle.dt_plain.proofs.TestsOfScheduler.{not_clear, settled_tells}
 use Rattle.dt_plain.proofs.decide.is_executable.Goals as goal
 
 pub returns-then-not-are_clear : goal.returns-then-not-are_clear

@@ -1,5 +1,5 @@
 use Rattle.dt_plain.proofs.Scan.{tested}
-use Rattle.dt_plain.proofs.Decided.{unhindered_tells}
+use Rattle.dt_plain.proofs.TestsOfScheduler.{unhindered_tells}
 use Rattle.dt_plain.proofs.decide.is_resolvable.Goals as goal
 
 pub returns : goal.returns

@@ -1,5 +1,5 @@
 use Rattle.dt_plain.proofs.Scan.{take-at}
-use Rattle.dt_plain.proofs.Present.{gets_more}
+use Rattle.dt_plain.proofs.PresentIds.{gets_more}
 use Rattle.dt_plain.proofs.graph.add_ids.Goals as goal
 
 pub loop-part-preserved : goal.loop-part-preserved

@@ -1,5 +1,5 @@
 use Rattle.dt_plain.proofs.Scan.{take-at}
-use Rattle.dt_plain.proofs.Present.{present_more}
+use Rattle.dt_plain.proofs.PresentIds.{present_more}
 use Rattle.dt_plain.proofs.graph.present.Goals as goal
 
 pub loop-log-preserved : goal.loop-log-preserved

@@ -8,7 +8,7 @@ use Rattle.dt_proc.specs.Tree as tree
 use Rattle.dt_proc.specs.declared.tree.Sort.TheVariants as sort
 use Rattle.dt_proc.specs.TreeViews.{expr_tree}
 use Rattle.dt_proc.proofs.ExprWalk.{ok_then, err_then, operand_when, told_is, told_right, no_operand, no_links, link_misfit, link_fits}
-use Rattle.dt_syntax.proofs.Callers.{chain_shape, links_stop, chain_cut, not_empty, link_first, six_stop}
+use Rattle.dt_syntax.proofs.Callers.{chain_shape, links_stop, chain_cut, link_first, six_stop}
 use Rattle.dt_proc.proofs.expressions.+levels.Goals as goal
 
 pub expression-returns-in_err-first-clause-right : goal.expression-returns-in_err-first-clause-right

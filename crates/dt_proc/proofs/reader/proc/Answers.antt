@@ -1,4 +1,4 @@
-use Rattle.std.proofs.Common.{inr, ◌∷◌, ◌++◌, ap, sym, ◌∙◌, Ok, Err, subst, length, ◌<◌, nat_eq}
+use Rattle.std.proofs.Common.{inr, ◌∷◌, ap, sym, ◌∙◌, Ok, Err, subst, length, ◌<◌, nat_eq}
 use Rattle.std.specs.List.{list_any}
 use Rattle.std.specs.Cmp.Lexicographic.{pointwise}
 use Rattle.std.proofs.lemmas.Result.{err_from_is_err_and}

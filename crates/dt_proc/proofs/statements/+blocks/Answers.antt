@@ -1,4 +1,4 @@
-use Rattle.std.proofs.Common.{inl, inr, ◌∷◌, ◌++◌, ap, sym, subst, ◌∙◌, refl, arith, length, Ok, ⊎_elim, take}
+use Rattle.std.proofs.Common.{inl, inr, ◌∷◌, ◌++◌, ap, sym, subst, ◌∙◌, refl, arith, length, ⊎_elim, take}
 use Rattle.std.proofs.lemmas.Grind.{common_steps}
 use Rattle.std.proofs.lemmas.Result.{err_from_is_err_and}
 use Rattle.dt_syntax.specs.declared.token.Token.TheVariants as tok

@@ -1,7 +1,7 @@
 use Rattle.std.proofs.Common.{ℕ, List, [], ◌∷◌, codes}
 use Rattle.std.specs.Fmt.{decimal}
 use Rattle.dt_report.specs.Report.{outcome_words}
-use Rattle.dt_report.proofs.Appended.{words_added, line_added}
+use Rattle.dt_report.proofs.WordsAndLines.{words_added, line_added}
 use Rattle.dt_report.proofs.lines.put_reply.Goals as goal
 
 pub returns : goal.returns

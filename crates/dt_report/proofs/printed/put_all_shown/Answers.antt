@@ -2,7 +2,7 @@ use Rattle.std.proofs.Common.{◌≡◌, ◌<◌, ◌≤◌, Bor, arith, get_or,
 use Rattle.std.proofs.lemmas.List.{get_or-map, length-map}
 use Rattle.dt_table.specs.Table.{TableView, shown}
 use Rattle.dt_report.specs.ShownTables.{all_shown}
-use Rattle.dt_report.proofs.Appended.{table_put, tables_put}
+use Rattle.dt_report.proofs.WordsAndLines.{table_put, tables_put}
 use Rattle.dt_report.proofs.printed.put_all_shown.Goals as goal
 
 pub loop-region-preserved : goal.loop-region-preserved

@@ -1,5 +1,5 @@
 use Rattle.std.proofs.Common.{arith}
-use Rattle.dt_report.proofs.Appended.{table_put, tables_put}
+use Rattle.dt_report.proofs.WordsAndLines.{table_put, tables_put}
 use Rattle.dt_report.proofs.printed.put_tables.Goals as goal
 
 pub loop-region-preserved : goal.loop-region-preserved

@@ -1,5 +1,5 @@
 use Rattle.std.proofs.Common.{codes, arith}
-use Rattle.dt_report.proofs.Appended.{value_put, values_put}
+use Rattle.dt_report.proofs.WordsAndLines.{value_put, values_put}
 use Rattle.dt_report.proofs.words.put_done.Goals as goal
 
 pub loop-value-preserved : goal.loop-value-preserved

@@ -1,4 +1,4 @@
-use Rattle.std.proofs.Common.{◌≡◌, false, Ok, sym, ap, subst, ◌∙◌}
+use Rattle.std.proofs.Common.{false, Ok, sym, ap, subst, ◌∙◌}
 use Rattle.dt_region.specs.Region.{RegionView}
 use Rattle.dt_round.specs.Steps.{IsOwnStep, StepsOn}
 use Rattle.dt_round.specs.Underway.{IsUnderway}

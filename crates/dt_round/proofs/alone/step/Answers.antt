@@ -1,4 +1,4 @@
-use Rattle.std.proofs.Common.{◌≡◌, List, [], Bool, true, false, Some, None, Ok, Err, Result, sym, subst}
+use Rattle.std.proofs.Common.{◌≡◌, List, [], Bool, false, Some, Ok, Err, Result, sym, subst}
 use Rattle.std.specs.Result.{IsErr}
 use Rattle.std.proofs.lemmas.Bool.{false≢true}
 use Rattle.dt_text.specs.declared.NoMemory.{NoMemory}

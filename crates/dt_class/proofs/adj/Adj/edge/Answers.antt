@@ -1,6 +1,6 @@
 use Rattle.std.proofs.Common.{◌<◌, length, ap, arith}
 use Rattle.std.proofs.lemmas.List.{get_or_read}
-use Rattle.dt_class.proofs.Kept.{kept_more}
+use Rattle.dt_class.proofs.NewestLinks.{kept_more}
 use Rattle.dt_class.proofs.adj.Adj.edge.Goals as goal
 
 pub invariant_of-self-2 : goal.invariant_of-self-2

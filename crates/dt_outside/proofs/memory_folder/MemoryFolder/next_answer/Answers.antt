@@ -1,5 +1,5 @@
 use Rattle.std.proofs.Common.{rules, ◌≡◌, ◌∙◌, sym, true, false}
-use Rattle.dt_outside.proofs.Finding.{fails_next-found}
+use Rattle.dt_outside.proofs.FilesByName.{fails_next-found}
 use Rattle.dt_outside.specs.Folder.{fails_next}
 use Rattle.dt_outside.proofs.memory_folder.MemoryFolder.next_answer.Goals as goal
 

@@ -1,5 +1,5 @@
 use Rattle.std.proofs.Common.{arith}
-use Rattle.dt_queue.proofs.Renumbered.{first_found}
+use Rattle.dt_queue.proofs.NewNumbers.{first_found}
 use Rattle.dt_queue.proofs.kept.Kept.first_from.Goals as goal
 
 pub returns : goal.returns

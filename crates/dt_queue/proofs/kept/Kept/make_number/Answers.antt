@@ -2,7 +2,7 @@ use Rattle.std.proofs.Common.{◌+◌, ◌≤◌, ap, arith}
 use Rattle.slab.specs.Slab.{Slab, slab_len}
 use Rattle.dt_queue.specs.declared.cell.Cell.{Cell}
 use Rattle.dt_queue.specs.declared.kept.Kept.{Kept}
-use Rattle.dt_queue.proofs.Renumbered.{reserved, shown_length}
+use Rattle.dt_queue.proofs.NewNumbers.{reserved, shown_length}
 use Rattle.dt_queue.proofs.kept.Kept.make_number.Goals as goal
 
 pub number_anew-requires : goal.number_anew-requires

@@ -1,5 +1,5 @@
 use Rattle.std.proofs.Common.{ap, arith, length}
-use Rattle.dt_queue.proofs.Renumbered.{first_is, given_few, given_more, shows_same}
+use Rattle.dt_queue.proofs.NewNumbers.{first_is, given_few, given_more, shows_same}
 use Rattle.dt_queue.proofs.kept.Kept.number_anew.Goals as goal
 
 pub loop-slot-preserved : goal.loop-slot-preserved

@@ -4,7 +4,7 @@ use Rattle.dt_queue.specs.declared.cell.Cell.{Cell}
 use Rattle.dt_queue.specs.declared.kept.Kept.{Kept}
 use Rattle.dt_queue.specs.Kept.{place_at}
 use Rattle.dt_queue.proofs.KeptLanes.{same_lanes}
-use Rattle.dt_queue.proofs.Renumbered.{cell_set, first_is, gap_in, kept_renumbered, shown_renumbered}
+use Rattle.dt_queue.proofs.NewNumbers.{cell_set, first_is, gap_in, kept_renumbered, shown_renumbered}
 use Rattle.dt_queue.proofs.kept.Kept.renumber.Goals as goal
 
 pub renumber_mark-requires-clause-gap : goal.renumber_mark-requires-clause-gap

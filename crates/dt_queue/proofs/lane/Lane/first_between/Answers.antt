@@ -1,6 +1,6 @@
 use Rattle.std.proofs.Common.{◌≡◌, ◌+◌, ◌<◌, ◌≤◌, deque_len, length, refl, arith, subst}
 use Rattle.dt_queue.specs.Lanes.{EndsBelow}
-use Rattle.dt_queue.proofs.Marks.{first_is, first_is_none, first_is_past, past_end}
+use Rattle.dt_queue.proofs.Marks.{first_is, first_is_none, first_is_past, past_all_places}
 use Rattle.dt_queue.proofs.lane.Lane.first_between.Goals as goal
 
 pub returns-in_err-mark : goal.returns-in_err-mark
@@ -8,7 +8,7 @@ returns-in_err-mark c =
     let a = c.self.inside in
     let same : c.in_ok-checked_add.field-0 ≡ c.args.low + 1 = omega (arith, c.in_ok-checked_add.ensures) in
     let ends : EndsBelow c.in_ok-checked_add.field-0 a.marks.items c.below-place.result = rw (← c.self.view_is) at c.below-place.ensures in
-    let past = past_end c.below-place.result (deque_len a.marks) c.in_err-mark.ensures.variant.1 in
+    let past = past_all_places c.below-place.result (deque_len a.marks) c.in_err-mark.ensures.variant.1 in
     let le : length a.marks.items ≤ c.below-place.result = omega (arith, past, a.marks.ok.0) in
     rw (c.from_residual-in_err-mark.ensures, ← c.self.view_is)
     (first_is_none c.args.low c.args.high a.marks.items c.below-place.result (subst (λ n. EndsBelow n a.marks.items c.below-place.result) same ends) le)

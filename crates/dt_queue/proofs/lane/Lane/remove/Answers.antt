@@ -3,7 +3,7 @@ use Rattle.std.specs.List.{remove}
 use Rattle.dt_lists.proofs.Callers.{filter_each}
 use Rattle.dt_queue.specs.declared.mark.Mark.{Mark}
 use Rattle.dt_queue.specs.Lanes.{EndsBelow}
-use Rattle.dt_queue.proofs.Marks.{is_not, on_some, past_end, removed, untouched}
+use Rattle.dt_queue.proofs.Marks.{is_not, on_some, past_all_places, removed, untouched}
 use Rattle.dt_queue.proofs.lane.Lane.remove.Goals as goal
 
 pub invariant_of-self : goal.invariant_of-self
@@ -43,5 +43,5 @@ returns-in_default c =
     let p = c.below-place.result in
     let n = c.args.number in
     let ends : EndsBelow n a.marks.items p = rw (← c.self.view_is) at c.below-place.ensures in
-    let le : length a.marks.items ≤ p = omega (arith, past_end _ _ c.in_default.ensures.variant.1, a.marks.ok.0) in
+    let le : length a.marks.items ≤ p = omega (arith, past_all_places _ _ c.in_default.ensures.variant.1, a.marks.ok.0) in
     rw (← c.self.view_is) (untouched n a.marks.items p (record { number = 0; slot = 0; vertex = 0 }) c.self.invariant ends (λ lt. absurd (omega (arith, lt, le))))

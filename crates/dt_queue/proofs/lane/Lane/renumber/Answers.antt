@@ -3,8 +3,8 @@ use Rattle.dt_lists.specs.Lists.{AllIn}
 use Rattle.dt_queue.specs.declared.mark.Mark.{Mark}
 use Rattle.dt_queue.specs.Lanes.{EndsBelow}
 use Rattle.dt_queue.specs.Numbers.{IsGap}
-use Rattle.dt_queue.proofs.Marks.{past_end}
-use Rattle.dt_queue.proofs.Renumbered.{marks_rise, not_placed, placed_at}
+use Rattle.dt_queue.proofs.Marks.{past_all_places}
+use Rattle.dt_queue.proofs.NewNumbers.{marks_rise, not_placed, placed_at}
 use Rattle.dt_queue.proofs.lane.Lane.renumber.Goals as goal
 
 pub invariant_of-self : goal.invariant_of-self
@@ -45,5 +45,5 @@ returns-in_default c =
     let p = c.below-place.result in
     let n = c.args.number in
     let ends : EndsBelow n a.marks.items p = rw (← c.self.view_is) at c.below-place.ensures in
-    let le : length a.marks.items ≤ p = omega (arith, past_end _ _ c.in_default.ensures.variant.1, a.marks.ok.0) in
+    let le : length a.marks.items ≤ p = omega (arith, past_all_places _ _ c.in_default.ensures.variant.1, a.marks.ok.0) in
     rw (← c.self.view_is) (not_placed n c.args.new a.marks.items p (record { number = 0; slot = 0; vertex = 0 }) c.self.invariant ends (λ lt. absurd (omega (arith, lt, le))))

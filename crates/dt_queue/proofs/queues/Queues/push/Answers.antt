@@ -2,7 +2,7 @@ use Rattle.std.proofs.Common.{[], ◌∷◌, ◌++◌, ap, arith, subst, ◌∙�
 use Rattle.std.proofs.lemmas.Result.{IfOk-weaker}
 use Rattle.dt_queue.specs.Queues.{IsQueued}
 use Rattle.dt_queue.proofs.KeptLanes.{on_err}
-use Rattle.dt_queue.proofs.Renumbered.{shown_length}
+use Rattle.dt_queue.proofs.NewNumbers.{shown_length}
 use Rattle.dt_queue.proofs.ShownCells.{shown_fresh, shown_push, shown_same}
 use Rattle.dt_queue.proofs.queues.Queues.push.Goals as goal
 

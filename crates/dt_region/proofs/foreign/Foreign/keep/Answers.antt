@@ -1,5 +1,5 @@
 use Rattle.std.proofs.Common.{sym, ◌∙◌}
-use Rattle.dt_region.proofs.Held.{keep_own, keep_other}
+use Rattle.dt_region.proofs.HeldTransactions.{keep_own, keep_other}
 use Rattle.dt_region.proofs.foreign.Foreign.keep.Goals as goal
 
 pub returns-then-txn-number-clause-kept : goal.returns-then-txn-number-clause-kept

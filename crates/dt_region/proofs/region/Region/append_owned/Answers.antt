@@ -2,7 +2,7 @@ use Rattle.std.proofs.Common.{[], ◌∷◌, ◌++◌, ap, ◌∙◌, arith, rul
 use Rattle.dt_events.specs.declared.Event.TheVariants.{Append}
 use Rattle.dt_sched.specs.Sched.{with_part}
 use Rattle.dt_region.proofs.Rule2Append.{append_kept, append_keeps, append_made, append_room}
-use Rattle.dt_region.proofs.Seen.{seen_as, under}
+use Rattle.dt_region.proofs.ViewOfRegion.{seen_as, under}
 use Rattle.dt_region.proofs.Stock.{stock_kept}
 use Rattle.dt_region.proofs.region.Region.append_owned.Goals as goal
 

@@ -2,7 +2,7 @@ use Rattle.std.proofs.Common.{◌<◌, ◌+◌, ◌-◌, ◌^◌, drop, [], ◌�
 use Rattle.dt_events.specs.declared.Event.TheVariants.{Deliver}
 use Rattle.dt_region.specs.Rules.{keep_all}
 use Rattle.dt_region.proofs.Rule3Deliver.{deliver_room_of_parts, new_keeps, new_made, old_keeps, old_made}
-use Rattle.dt_region.proofs.Seen.{seen_as, under}
+use Rattle.dt_region.proofs.ViewOfRegion.{seen_as, under}
 use Rattle.dt_region.proofs.Stock.{stock_kept, stock_made}
 use Rattle.dt_region.proofs.region.Region.deliver.Goals as goal
 

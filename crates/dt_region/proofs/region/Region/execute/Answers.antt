@@ -1,8 +1,8 @@
-use Rattle.std.proofs.Common.{◌≡◌, ◌+◌, sym, ap, subst, ◌∙◌}
+use Rattle.std.proofs.Common.{◌+◌, sym, ap, subst, ◌∙◌}
 use Rattle.dt_region.specs.Region.{RegionView}
 use Rattle.dt_region.specs.Conditions.{ComesTo, HasRun}
 use Rattle.dt_region.proofs.Rule6Execute.{can_shown, execute_held, execute_made}
-use Rattle.dt_region.proofs.Seen.{seen_as}
+use Rattle.dt_region.proofs.ViewOfRegion.{seen_as}
 use Rattle.dt_region.proofs.region.Region.execute.Goals as goal
 
 pub run-requires-clause-held : goal.run-requires-clause-held

@@ -1,9 +1,8 @@
-use Rattle.std.proofs.Common.{◌≡◌, ◌≤◌, ◌+◌, ◌*◌, [], ◌∷◌, ◌++◌, ap, sym, subst, ◌∙◌, arith}
-use Rattle.dt_events.specs.declared.Event.TheVariants.{Execute}
-use Rattle.dt_table.specs.Table.{apply, places_for}
+use Rattle.std.proofs.Common.{◌≤◌, ◌*◌, ap, sym, subst, arith}
+use Rattle.dt_table.specs.Table.{places_for}
 use Rattle.dt_region.specs.Region.{RegionView}
 use Rattle.dt_region.proofs.Rule6Execute.{can_seen, execute_few, execute_keeps, execute_place, execute_unit, finish_made}
-use Rattle.dt_region.proofs.Seen.{seen_as}
+use Rattle.dt_region.proofs.ViewOfRegion.{seen_as}
 use Rattle.dt_region.proofs.Stock.{stock_spent}
 use Rattle.dt_region.proofs.region.Region.finish.Goals as goal
 

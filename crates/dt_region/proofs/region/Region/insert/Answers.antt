@@ -1,7 +1,7 @@
 use Rattle.std.proofs.Common.{[], ◌∷◌, ◌++◌, ◌<◌, ◌+◌, ◌^◌, slice_get, slice_index, sym, ap, ap₂, subst, ◌∙◌, rules}
 use Rattle.dt_events.specs.declared.Event.TheVariants.{Insert}
 use Rattle.dt_region.proofs.Rule4Insert.{insert_can, insert_room, insert_keeps, insert_made}
-use Rattle.dt_region.proofs.Seen.{seen_as, under}
+use Rattle.dt_region.proofs.ViewOfRegion.{seen_as, under}
 use Rattle.dt_region.proofs.Stock.{stock_kept}
 use Rattle.dt_region.proofs.region.Region.insert.Goals as goal
 

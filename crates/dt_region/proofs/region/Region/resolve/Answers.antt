@@ -1,7 +1,7 @@
 use Rattle.std.proofs.Common.{rules}
 use Rattle.dt_sched.specs.Sched.{CanResolve}
 use Rattle.dt_region.proofs.Rule5Resolve.{resolve_keeps}
-use Rattle.dt_region.proofs.Seen.{seen_as}
+use Rattle.dt_region.proofs.ViewOfRegion.{seen_as}
 use Rattle.dt_region.proofs.Stock.{stock_kept}
 use Rattle.dt_region.proofs.region.Region.resolve.Goals as goal
 

@@ -1,7 +1,7 @@
 use Rattle.std.proofs.Common.{◌+◌, [], ◌∷◌, ◌++◌, ap, ◌∙◌, arith}
 use Rattle.dt_txn.proofs.Callers.{can_run}
 use Rattle.dt_region.proofs.Rule1Submit.{submit_homes, submit_keeps}
-use Rattle.dt_region.proofs.Seen.{seen_as}
+use Rattle.dt_region.proofs.ViewOfRegion.{seen_as}
 use Rattle.dt_region.proofs.Stock.{stock_kept}
 use Rattle.dt_region.proofs.region.Region.submit.Goals as goal
 

@@ -4,7 +4,7 @@ use Rattle.std.proofs.lemmas.Map.Steps.{set_value_same}
 use Rattle.dt_access.specs.Clash.{same_key}
 use Rattle.dt_session.specs.declared.sessions.Seat.{Seat}
 use Rattle.dt_session.specs.Sessions.{AreSoundSeats, IsSoundSeat, MayBeAnswered, MaySeatEnd, SessionsView, after_answer, answered_seat, seat_of, with_changed}
-use Rattle.dt_session.proofs.SessionsLaws.{call_to_end, found_sound, mapped, not_here, put_sound_seat, written}
+use Rattle.dt_session.proofs.SessionsLaws.{call_to_end, found_sound, mapped, not_here, put_sound_seat, seat_written}
 use Rattle.dt_session.proofs.sessions.Sessions.answer.Goals as goal
 
 pub returns-in_default-clause-legal : goal.returns-in_default-clause-legal
@@ -55,7 +55,7 @@ invariant_of-self-2 c =
     let sound : IsSoundSeat seat = found_sound s.seats name seat c.self.invariant.each (mapped s name (Some seat) c.in-Some.ensures.value) in
     let left : seat.answered < length seat.calls = call_to_end s.tries seat (option_copied c.args.last) sound (c.is_answerable.ensures.0 c.if-not-is_answerable.false) in
     let now : IsSoundSeat (answered_seat seat) = record { few = sound.few; within = omega (arith, left) } in
-    subst AreSoundSeats (sym ((c.get_mut.follows.holds (answered_seat seat)).0 ∙ written s.seats name (answered_seat seat)))
+    subst AreSoundSeats (sym ((c.get_mut.follows.holds (answered_seat seat)).0 ∙ seat_written s.seats name (answered_seat seat)))
     (put_sound_seat s.seats name (answered_seat seat) c.self.invariant now)
 
 pub returns-clause-legal : goal.returns-clause-legal
@@ -74,5 +74,5 @@ returns-clause-answered c =
     let name = c.args.session.now in
     let seat : Seat = c.in-Some.seat.now in
     let found : seat_of s name ≡ Some seat = mapped s name (Some seat) c.in-Some.ensures.value in
-    λ t. ap (λ l. record s { seats = l }) ((c.get_mut.follows.holds (answered_seat seat)).0 ∙ written s.seats name (answered_seat seat))
+    λ t. ap (λ l. record s { seats = l }) ((c.get_mut.follows.holds (answered_seat seat)).0 ∙ seat_written s.seats name (answered_seat seat))
     ∙ ap (with_changed answered_seat s name) (sym found) ∙ ap (λ v. after_answer v name) c.self.view_is

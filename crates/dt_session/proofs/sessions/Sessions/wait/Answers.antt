@@ -2,7 +2,7 @@ use Rattle.std.proofs.Common.{◌≡◌, ◌<◌, None, Some, length, sym, ap, s
 use Rattle.std.specs.Option.{option_copied}
 use Rattle.dt_session.specs.declared.sessions.Seat.{Seat}
 use Rattle.dt_session.specs.Sessions.{AreSoundSeats, IsSoundSeat, MayGo, MaySeatTry, SessionsView, after_wait, attempt_next, seat_of, waiting, with_changed}
-use Rattle.dt_session.proofs.SessionsLaws.{call_to_try, found_sound, mapped, put_sound_seat, written}
+use Rattle.dt_session.proofs.SessionsLaws.{call_to_try, found_sound, mapped, put_sound_seat, seat_written}
 use Rattle.dt_session.proofs.sessions.Sessions.wait.Goals as goal
 
 pub unreachable-requires : goal.unreachable-requires
@@ -40,7 +40,7 @@ invariant_of-self c =
     let left : was.answered < length was.calls = call_to_try s.tries was last sound may in
     let then : Seat = record { calls = was.calls; answered = was.answered; waits = Some (record { id = c.args.id; attempt = c.in-Some-next_numbers.attempt }) } in
     let now : IsSoundSeat then = record { few = sound.few; within = left } in
-    subst AreSoundSeats (sym ((c.get_mut.follows.holds then).0 ∙ written s.seats name then)) (put_sound_seat s.seats name then c.self.invariant now)
+    subst AreSoundSeats (sym ((c.get_mut.follows.holds then).0 ∙ seat_written s.seats name then)) (put_sound_seat s.seats name then c.self.invariant now)
 
 pub returns : goal.returns
 returns c =
@@ -51,6 +51,6 @@ returns c =
     let numbered : c.in-Some-next_numbers.attempt ≡ attempt_next was = ap (λ p. p.1) c.in-Some-next_numbers.ensures.numbers in
     let then : Seat = record { calls = was.calls; answered = was.answered; waits = Some (record { id = c.args.id; attempt = c.in-Some-next_numbers.attempt }) } in
     let same : then ≡ waiting was c.args.id = ap (λ n. record { calls = was.calls; answered = was.answered; waits = Some (record { id = c.args.id; attempt = n }) }) numbered in
-    ap (λ l. record s { seats = l }) ((c.get_mut.follows.holds then).0 ∙ written s.seats name then)
+    ap (λ l. record s { seats = l }) ((c.get_mut.follows.holds then).0 ∙ seat_written s.seats name then)
     ∙ ap (λ x. with_changed (λ _. x) s name (Some was)) same
     ∙ ap (with_changed (λ x. waiting x c.args.id) s name) (sym found) ∙ ap (λ v. after_wait v name c.args.id) c.self.view_is

@@ -1,4 +1,0 @@
-use Rattle.dt_lock.proofs.threaded.round.Given as goal
-
-abbrev pub ghosts-round_named : goal.ghosts-round_named
-ghosts-round_named g a = record { before = a.region; procs = a.procs.now }

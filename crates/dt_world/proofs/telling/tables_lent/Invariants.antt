@@ -1,8 +1,0 @@
-use Rattle.std.proofs.Common.{◌≡◌, Bor, map, take}
-use Rattle.dt_report.specs.ShownTables.{all_shown}
-use Rattle.dt_table.specs.Table.{shown}
-use Rattle.dt_site.specs.Site.{SiteView}
-use Rattle.dt_world.proofs.telling.tables_lent.Given as goal
-
-abbrev pub invariant-loop-region : goal.invariant-loop-region
-invariant-loop-region g l = all_shown l.tables.items ≡ map (λ (p : Bor SiteView). shown p.now.region.state.here.table) (take l.region l.sites)
