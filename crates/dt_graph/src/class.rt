@@ -2,7 +2,7 @@ ghost use Rattle.std.specs.Prelude.{◌≡◌, ◌<◌, ◌^◌, IfOk, OnOk, len
 ghost use Rattle.dt_lists.specs.Lists.{AllIn, Distinct};
 ghost use Rattle.dt_queue.specs.Queues.{HasDistinctSlots, IsQueued};
 ghost use Rattle.dt_waits.specs.Among.{IsAmong};
-ghost use Rattle.dt_graph.specs.Links.{IsSourceAt, IsSourceOf, Links};
+ghost use Rattle.dt_graph.specs.Links.{IsSourceAt, IsSourceOf, HasLinked};
 ghost use Rattle.dt_waits.specs.Steps.{HaveSlots};
 
 use crate::group::Group;
@@ -33,7 +33,7 @@ fn link_slot(
     requires once { Distinct group.now }
     requires place { place < graph.old.vertices }
     requires size { graph.old.vertices ≡ length group.now }
-    ensures { IfOk result (Links (IsSourceOf queues.now slot) group.now place graph.old graph.new) }
+    ensures { IfOk result (HasLinked (IsSourceOf queues.now slot) group.now place graph.old graph.new) }
 {
     let neighbours = queues.neighbours(alloc, slot)?;
     let mut blocked = false;
@@ -59,7 +59,7 @@ fn link(
     requires once { Distinct group.now }
     requires place { place < graph.old.vertices }
     requires size { graph.old.vertices ≡ length group.now }
-    ensures { IfOk result (Links (IsSourceAt queues.now slots.now) group.now place graph.old graph.new) }
+    ensures { IfOk result (HasLinked (IsSourceAt queues.now slots.now) group.now place graph.old graph.new) }
 {
     let mut blocked = false;
     for slot in slots {
