@@ -6,7 +6,7 @@ use Rattle.std.proofs.lemmas.List.{get_or-set_same, get_or-set_other, length-app
 use Rattle.std.proofs.Math.ListN.{get_or-append}
 use Rattle.dt_lists.specs.Lists.{AllIn, Has, Distinct}
 use Rattle.dt_lists.proofs.Callers.{all_append, all_append_left, all_get, all_map, all_put, distinct_push, distinct_within, each_append_left, each_across, either_nat, has_last, has_longer, has_more}
-use Rattle.dt_lists.proofs.Callers.{has_place, place_in_longer, place_in_more, place_of}
+use Rattle.dt_lists.proofs.Callers.{all_set, has_place, last_place, place_in_longer, place_in_more, place_of, some_same}
 use Rattle.dt_waits.proofs.Callers.{one_place}
 use Rattle.dt_graph.specs.Subset.{PutsIn, StandsAtPlace, IsSubset, Removes}
 
@@ -38,11 +38,6 @@ fewer_below n xs v d within lt absent = more (length xs) (few_below n (v ∷ xs)
     more m le = omega (arith, le)
 
 -- lists in which one item is replaced
-
-all_set : {A : Type 0} (P : A → Type 0) (xs : List A) (i : ℕ) (y : A) → AllIn P xs → P y → AllIn P (set xs i y)
-all_set P [] i y all p = tt
-all_set P (x ∷ xs) zero y all p = (p, all.1)
-all_set P (x ∷ xs) (suc i) y all p = (all.0, all_set P xs i y all.1 p)
 
 distinct_set : (xs : List ℕ) (i y : ℕ) → Distinct xs → ¬ (Has xs y) → Distinct (set xs i y)
 distinct_set [] i y d n = tt
@@ -77,13 +72,6 @@ set_beside (z ∷ xs) zero zero y ne = absurd (ne refl)
 set_beside (z ∷ xs) zero (suc j) y ne = refl
 set_beside (z ∷ xs) (suc i) zero y ne = refl
 set_beside (z ∷ xs) (suc i) (suc j) y ne = set_beside xs i j y (λ e. ne (ap suc e))
-
-last_place : {A : Type 0} (xs : List A) (x : A) → slice_get (xs ++ x ∷ []) (length xs) ≡ Some x
-last_place [] x = refl
-last_place (y ∷ ys) x = last_place ys x
-
-same_some : {A : Type 0} {x y : A} → Some x ≡ Some y → x ≡ y
-same_some e = cc
 
 -- a test of a place
 pub none_of_test : {A : Type 0} (place : Option A) (b : Bool) → is_some place ≡ not b → b ≡ true → place ≡ None
@@ -266,7 +254,7 @@ module _ (items : List ℕ) (places : List (Option ℕ)) (room : ℕ) (s : IsSub
           | inl e ↦ nl (sym e)
           | inr r ↦ p (has_longer front (last ∷ []) n (has_place front r.0 n r.2))
         ]
-        beside n ne nl (Some q) p = set_beside front place q last (λ e. ne (same_some (sym in_front ∙ ap (slice_get front) e ∙ at_front))) ∙ in_front
+        beside n ne nl (Some q) p = set_beside front place q last (λ e. ne (some_same (sym in_front ∙ ap (slice_get front) e ∙ at_front))) ∙ in_front
           where
             in_front : slice_get front q ≡ Some n
             in_front = elim (place_in_more front last q n p) [ inl o ↦ o | inr f ↦ absurd (nl (sym f.1)) ]
@@ -294,7 +282,7 @@ module _ (items : List ℕ) (places : List (Option ℕ)) (room : ℕ) (s : IsSub
         λ o. elim (has_more front last n (subst (λ l. Has l n) is o.0)) [
           | inl h ↦
               let p : (i : ℕ) × (slice_get front i ≡ Some n) = place_of front n h in
-              has_place (set front place last) p.0 n (set_beside front place p.0 last (λ e. o.1 (same_some (sym p.1 ∙ ap (slice_get front) e ∙ at_front))) ∙ p.1)
+              has_place (set front place last) p.0 n (set_beside front place p.0 last (λ e. o.1 (some_same (sym p.1 ∙ ap (slice_get front) e ∙ at_front))) ∙ p.1)
           | inr e ↦ subst (Has (set front place last)) e (has_place (set front place last) place last (set_here front place number last at_front))
         ],
       );
@@ -302,8 +290,3 @@ module _ (items : List ℕ) (places : List (Option ℕ)) (room : ℕ) (s : IsSub
 
     pub removed_at : (bound later : ℕ) → later ≡ bound → Removes number (record { bound = bound; items = items }) (record { bound = later; items = set front place last })
     removed_at bound later e = record { bound = e; members = (removed bound).members }
-
--- where something stands the list isn't empty
-pub not_empty : {A : Type 0} (xs : List A) (x : A) → Has xs x → length xs ≡ 0 → ⊥
-not_empty [] x h e = h
-not_empty (y ∷ ys) x h e = omega (arith, e)
