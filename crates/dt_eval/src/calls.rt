@@ -1,6 +1,5 @@
 ghost use Rattle.std.specs.Prelude.{◌≡◌, ◌↔◌, IsTrue, IfOk, length, map};
-ghost use Rattle.dt_lists.specs.Lists.{AllIn, AnyIn, EachThen, Pairwise};
-ghost use Rattle.dt_proc.specs.Sound.{IsSoundProc};
+ghost use Rattle.dt_lists.specs.Lists.{AllIn, AnyIn, Pairwise};
 ghost use Rattle.dt_eval.specs.FrameInner.{ArePlaces, IsItemWithin};
 ghost use Rattle.dt_eval.specs.Keys.{HasKeys, keys_of, names_given, names_of};
 ghost use Rattle.dt_eval.specs.Meaning.{Fits, IsOfKind, meaning, unchanged};

@@ -1,4 +1,4 @@
-ghost use Rattle.std.specs.Prelude.{◌≡◌, ℕ, ◌<◌, ◌^◌, ◌∷◌, ◌≤◌, ◌≢◌, [], List, Some, length, map, codes, IfOk, MatchOption, Err};
+ghost use Rattle.std.specs.Prelude.{◌≡◌, ℕ, ◌<◌, ◌^◌, ◌∷◌, ◌≢◌, [], List, Some, length, map, codes, IfOk, MatchOption, Err};
 ghost use Rattle.std.specs.Fmt.{decimal};
 ghost use Rattle.dt_text.specs.Lines.{lines_of};
 ghost use Rattle.dt_text.specs.Numbers.{ReadsNumber};
@@ -9,7 +9,7 @@ ghost use Rattle.dt_events.specs.Reading.{AreIds, AreShort, Reads, ReadsEvent, s
 
 use crate::event::Event;
 use crate::words::bare_words;
-use dt_access::{Ids, TxnId, read_id};
+use dt_access::{Ids, read_id};
 use dt_text::{Common, Lines, Name, NoMemory, read_u32};
 use std::alloc::{AllocFailed, Global};
 use std::fmt;

@@ -1,4 +1,4 @@
-ghost use Rattle.std.specs.Prelude.{◌≡◌, ◌≤◌, ◌<◌, ◌⊎◌, ◌↔◌, ℕ, List, [], IfOk, IsTrue, MatchOption, OnErr, OnOk, Some, length, slice_get};
+ghost use Rattle.std.specs.Prelude.{◌≡◌, ◌<◌, ◌↔◌, ℕ, List, IfOk, IsTrue, MatchOption, OnErr, OnOk, Some, length, slice_get};
 ghost use Rattle.dt_lists.specs.Lists.{AllIn, Distinct, Has};
 ghost use Rattle.dt_access.specs.Ids.{AreAscending};
 ghost use Rattle.dt_access.specs.Orders.{AreAscendingHomes};
