@@ -54,7 +54,7 @@ fn ended(
     Ok(told)
 }
 
-/// How a call of the program over a folder ends, with so much room in `out` and in `err`.
+/// How a call of the program over a folder ends, with this much room in `out` and in `err`.
 fn call<R: Threads + Wait + Sync>(
     rt: &R,
     alloc: Global,

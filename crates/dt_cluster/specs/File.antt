@@ -35,7 +35,7 @@ IsKnown entry = Has known_names entry.0
 abbrev pub AreKnown : Members → Type 0
 AreKnown top = (entries : List Entry) × AreEntries top entries × AllIn IsKnown entries
 
--- the fault of a name that is unknown: the least such name is reported
+-- the fault of a name that is unknown: the first such name in byte order is reported
 abbrev pub IsUnknownFault : Members → ClusterFault → Type 0
 IsUnknownFault top fault =
     (name : Bytes) × (fault ≡ record { place = place.Entry name; cause = cause.Unknown })

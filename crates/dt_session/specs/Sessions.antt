@@ -1,7 +1,7 @@
 -- The sessions of one region, as their keeper sees them: each with its calls, how many of these are answered, and the
 -- attempt that it waits for, with the number of that attempt. One learns here which session may go on (`MayGo`,
 -- `MayBeAnswered`, in the words of `Tries`), and what submitting an attempt (`after_wait`) and being answered
--- (`after_answer`) change. No world is spoken of: the outcome of the attempt that is waited for is given by whoever asks.
+-- (`after_answer`) change. No world is mentioned: whoever asks supplies the outcome of the attempt that is waited for.
 -- Read next: src/sessions.rt, the keeper; `Step` asks the same of a whole world.
 use Rattle.std.specs.Prelude.{◌≡◌, ◌<◌, ◌≤◌, ◌+◌, ◌-◌, ◌^◌, ℕ, List, length, map, slice_get, Bool, Option, Some, None, option_map, option_and_then}
 use Rattle.std.specs.Ordering.{nat_cmp, is_eq}

@@ -1,4 +1,4 @@
-//! That a call is worked outside the lock: meanwhile another worker claims, works and commits.
+//! A call is computed outside the lock: meanwhile another worker claims, computes and commits.
 
 use crate::calls::{Call, procs_of};
 use crate::feeding::Row;
@@ -45,7 +45,7 @@ fn look(count: &AtomicU64, least: u64) {
     }
 }
 
-// So often a worker looks for the other one, and so many looks are a moment: a few of these are less time than the long call takes.
+// How often a worker looks for the other one; and how many looks make a moment, a few of which are shorter than the long call.
 const LOOKS: u64 = 100000000;
 
 const MOMENT: u64 = 100000;
