@@ -256,7 +256,7 @@ fn the_first_fault_of_the_first_file_is_told(rt: HostRuntime) -> Result<(), Fail
     Ok(())
 }
 
-/// Words that ask for nothing that there is.
+/// Words that ask for no task.
 const OTHER_WORDS: [&[&str]; 18] = [
     &[],
     &["replay"],

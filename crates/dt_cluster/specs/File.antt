@@ -1,4 +1,4 @@
--- What a cluster file is, and what fault is reported for a file that is none. The faults have an order: unknown names, the
+-- What a cluster file is, and what fault is reported for a file that is not one. The faults have an order: unknown names, the
 -- numbers, the procedures, the homes, the rows; the first fault in that order is reported, so a file has at most one
 -- (`Laws`). The entries are in `Numbers` and `Rows`. Read next: `Laws`, and `Valid` for what every cluster that is read
 -- keeps.

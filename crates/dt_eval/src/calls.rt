@@ -22,7 +22,7 @@ pub fn fits(body: &Proc, args: &[Value]) -> bool
     are_of_kinds(body.params(), args)
 }
 
-/// Whether the values have these kinds, and are as many.
+/// Whether there are as many values as kinds, and each has its kind.
 fn are_of_kinds(kinds: &[Kind], values: &[Value]) -> bool
     ensures { IsTrue result ↔ Pairwise IsOfKind kinds.now values.now }
 {

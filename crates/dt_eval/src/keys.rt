@@ -42,7 +42,7 @@ impl From<NoMemory> for KeysError {
     }
 }
 
-/// The distinct keys that a call uses, in ascending order, each with its mode: `Write` if any declaration of it is.
+/// The distinct keys that a call uses, in ascending order, each with its mode: `Write` if any declaration of it writes.
 ///
 /// The arguments fit. `BadKey` names the first declaration that gives no key.
 #[tactic(auto, using(crate::proofs::KeyLaws::keys_ascend, crate::proofs::KeyLaws::items_within))]

@@ -20,7 +20,7 @@ pub struct Among {
 }
 
 /// Puts in the edges from the neighbours of the entry at a slot to the vertex at a place, and says whether some neighbour is
-/// none of the group.
+/// not in the group.
 fn link_slot(
     alloc: Global,
     queues: &Queues,
@@ -46,7 +46,7 @@ fn link_slot(
     Ok(blocked)
 }
 
-/// Puts in the edges into the vertex at a place, and says whether it waits for some that is none of the group.
+/// Puts in the edges into the vertex at a place, and says whether it waits for some vertex that is not in the group.
 fn link(
     alloc: Global,
     queues: &Queues,

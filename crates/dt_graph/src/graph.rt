@@ -90,7 +90,7 @@ impl Graph {
         }
     }
 
-    /// Some transaction that is ready and none of the busy ones.
+    /// Some transaction that is ready and not among the busy ones.
     pub fn ready_beside(&self, busy: &[TxnId]) -> Option<TxnId>
         ensures { MatchOption result ((v : ℕ) → Has self.now.ready v → Has busy.now (id_at self.now.ids v))
             (λ id. ((v : ℕ) × Has self.now.ready v × (id_at self.now.ids v ≡ id)) × (Has busy.now id → ⊥)) }

@@ -42,7 +42,7 @@ is_named name other = is_eq (slice_cmp nat_cmp name other)
 abbrev pub seat_of : SessionsView → Bytes → Option Seat
 seat_of s name = lookup (is_named name) s.seats
 
--- the attempt that a session waits for, if it does, with the outcome that it is said to have
+-- the attempt that a session waits for, if it does, with the outcome that is supplied for it
 abbrev pub awaited_in : Seat → Option Outcome → Option Awaited
 awaited_in seat last = option_map (λ w. record { attempt = w.attempt; outcome = last }) seat.waits
 

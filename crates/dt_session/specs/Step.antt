@@ -88,7 +88,7 @@ attempt_for cluster w region session place call = record {
   attempt = next_attempt w place.waits;
 }
 
--- the region after it submitted an attempt: each home of it is asked for its part
+-- the region after it submitted an attempt: each home of the attempt is asked for its part
 abbrev pub node_submitted : Node → Submission → Node
 node_submitted node s = record node { submitted = node.submitted ++ s ∷ []; here = after_asking node.here s.txn }
 

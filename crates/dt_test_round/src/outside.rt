@@ -97,10 +97,10 @@ fn procs(alloc: Global) -> Result<Procs, Fail> {
     procs_of(alloc, text.as_slice())
 }
 
-/// How the events end where all short calls were committed while the long one was worked.
+/// How the events end where all short calls were committed while the long one was computed.
 const BEHIND: &[u8] = b"execute 3 6.0\n18 execute 3 3.0\ntrue";
 
-/// So often it is tried at most: a worker may be stopped while the other one goes on.
+/// How often it is tried at most: a worker may be stopped while the other one goes on.
 const TIMES: u32 = 200;
 
 #[test]

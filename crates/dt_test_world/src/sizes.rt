@@ -14,7 +14,7 @@ enum Size {
     Ranks,
     /// A call over n homes.
     Homes(u32),
-    /// A call that may be tried so often, and n moves of its row meanwhile.
+    /// A call that may be tried m times, and n moves of its row meanwhile.
     Tries(u32, u32),
     /// Sessions at up to five regions, and the calls of each.
     Calls(u32, u32),

@@ -3,8 +3,8 @@
 //!
 //! Once all that reaches a transaction is done, it is out: nothing waits for it, and no answer reads it (`specs/Left.antt`). Of
 //! the others, each use of a row stands in a queue (the crate dt_queue), and a transaction waits for the neighbours of its
-//! entries (`specs/Waits.antt`); its degree counts them. What is kept of them is `GraphView`, and that it is so at each moment
-//! `KeepsGraph` (`specs/Graph.antt`); what each call makes of it stands in `specs/Steps.antt`.
+//! entries (`specs/Waits.antt`); its degree counts them. What is kept of them is `GraphView`, and that it is right at each
+//! moment is `KeepsGraph` (`specs/Graph.antt`); what each call makes of it stands in `specs/Steps.antt`.
 //!
 //! Read next: `laws.rt` for why it is enough, `proofs/Keeping.antt` for how each call keeps the graph.
 #![tactic(auto)]
