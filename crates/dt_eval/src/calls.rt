@@ -7,7 +7,7 @@ ghost use Rattle.dt_eval.specs.Meaning.{Fits, IsOfKind, meaning, unchanged};
 use crate::finish::{Finish, Reads, Values};
 use crate::frame::Frame;
 use crate::places::place_of;
-use crate::rows::Rows;
+use crate::rows::{Places, Rows};
 use crate::stop::Stop;
 use crate::variables::Variables;
 use dt_access::TryCopy;
@@ -105,12 +105,12 @@ fn places(
     declarations: &[KeyDecl],
     args: &[Value],
     reads: &[(Key, Option<Value>)],
-) -> Result<Vec<usize>, NoMemory>
+) -> Result<Places, NoMemory>
     requires within { AllIn (λ d. AllIn (IsItemWithin (length args.now)) d.items) declarations.now }
     requires read { AllIn (λ name. AnyIn (λ r. r.0 ≡ name) reads.now) (names_given args.now declarations.now) }
     ensures { IfOk result (λ places. ArePlaces (names_given args.now declarations.now) (map (λ r. r.0) reads.now) places.items) }
 {
-    let mut places = Vec::with_capacity(alloc, declarations.len())?;
+    let mut places = Places::with_capacity(alloc, declarations.len())?;
     for declared in declarations {
         places.push(place_of(reads, declared.items.as_slice(), args))?;
     }
