@@ -34,13 +34,6 @@ no_ids (w ∷ ws) (suc i) d within none (id ∷ ids) counted same = no_ids ws i 
 
 -- ---- bare words
 
--- words of which one is a text word are not bare
-pub no_bares : (line : List ℕ) (words : List Word) (i : ℕ) (d : Word) → i < length words → bare_bytes line (get_or words i d) ≡ None → (bares : List (List ℕ)) → map (bare_bytes line) words ≢ map (λ w. Some w) bares
-no_bares line [] i d within none bares same = absurd (omega arith)
-no_bares line (w ∷ ws) i d within none [] same = cc
-no_bares line (w ∷ ws) zero d within none (b ∷ bares) same = let h = same_head same in cc
-no_bares line (w ∷ ws) (suc i) d within none (b ∷ bares) same = no_bares line ws i d (omega arith) none bares (same_tail same)
-
 -- a line that is not made of words is not made of bare words
 pub not_made_of_words : (line : List ℕ) → words_of line ≡ None → (bares : List (List ℕ)) → ¬ AreBareWords line bares
 not_made_of_words line none bares (words, are, same) = let h = (exact line words).1 are in cc
@@ -54,13 +47,6 @@ no_bare_words line words found none bares (others, are, same) =
 
 pub are_bare_words : (line : List ℕ) (words : List Word) (bares : List (List ℕ)) → words_of line ≡ Some words → map (bare_bytes line) words ≡ map (λ w. Some w) bares → AreBareWords line bares
 are_bare_words line words bares found same = (words, (exact line words).0 found, same)
-
--- what was found of the words of a line is found of the line
-pub bare_answer : {V : Type 0} (line : List ℕ) (words : List Word) (view : V → List (List ℕ)) (found : Option V) → words_of line ≡ Some words
-    → MatchOption found ((bares : List (List ℕ)) → map (bare_bytes line) words ≢ map (λ w. Some w) bares) (λ v. map (bare_bytes line) words ≡ map (λ w. Some w) (view v))
-    → MatchOption found ((bares : List (List ℕ)) → ¬ AreBareWords line bares) (λ v. AreBareWords line (view v))
-bare_answer line words view None is none = no_bare_words line words is none
-bare_answer line words view (Some v) is same = are_bare_words line words (view v) is same
 
 same-from-somes : (xs ys : List (List ℕ)) → map (λ w. Some w) xs ≡ map (λ w. Some w) ys → xs ≡ ys
 same-from-somes [] [] e = refl
