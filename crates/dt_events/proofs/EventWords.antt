@@ -1,8 +1,9 @@
 -- Words of lines and the events that they spell.
-use Rattle.std.proofs.Common.{◌≡◌, ◌≢◌, ℕ, zero, suc, ◌<◌, ◌≤◌, ◌^◌, List, [], ◌∷◌, ◌++◌}
+use Rattle.std.proofs.Common.{◌≡◌, ◌≢◌, ℕ, zero, suc, ◌+◌, ◌<◌, ◌≤◌, ◌^◌, List, [], ◌∷◌, ◌++◌}
 use Rattle.std.proofs.Common.{length, map, get_or, drop, Option, Some, None, MatchOption, Bor, refl, ap, sym, ◌∙◌, subst, arith, append_assoc, append-nil}
 use Rattle.std.specs.List.{join_with_byte}
 use Rattle.std.proofs.lemmas.Grind.{common_steps}
+use Rattle.std.proofs.lemmas.List.{drop_more, take-append-le}
 use Rattle.std.proofs.lemmas.Option.{same_Some}
 use Rattle.dt_lists.specs.Lists.{Pairwise}
 use Rattle.dt_lists.proofs.Callers.{same_head, same_tail}
@@ -14,7 +15,7 @@ use Rattle.dt_access.specs.declared.TxnId.{TxnId}
 use Rattle.dt_access.specs.Ids.{IsCounted, id_text}
 use Rattle.dt_events.specs.declared.event.Event.{Event}
 use Rattle.dt_events.specs.Events.{event_words, bare_bytes, AreBareWords, IsEventLine, IsNumberedEvent}
-use Rattle.dt_events.specs.Reading.{spelled, AreShort, AreIds, ReadsEvent}
+use Rattle.dt_events.specs.Reading.{Keeps, spelled, AreShort, AreIds, ReadsEvent}
 
 -- ---- words that are read where they stand
 
@@ -79,11 +80,25 @@ pub join-ids : (word : List ℕ) (ids : List TxnId) → join_with_byte 32 (word 
 join-ids word [] = sym (append-nil word)
 join-ids word (id ∷ ids) = ap (λ t. word ++ 32 ∷ t) (join-ids (id_text id) ids)
 
-pub ids_put_all : (text kind region : List ℕ) (ids : List TxnId) (k : ℕ) → length ids ≤ k → text ++ spaced_ids (drop k ids) ≡ (kind ++ 32 ∷ region) ++ spaced_ids ids
-    → text ≡ join_with_byte 32 (kind ∷ region ∷ map id_text ids)
-ids_put_all text kind region ids k past so_far =
+pub ids_put_all : (text begun before kind region : List ℕ) (ids : List TxnId) (k : ℕ) → length ids ≤ k → text ++ spaced_ids (drop k ids) ≡ begun ++ spaced_ids ids
+    → begun ≡ before ++ kind ++ 32 ∷ region → text ≡ before ++ join_with_byte 32 (kind ∷ region ∷ map id_text ids)
+ids_put_all text begun before kind region ids k past so_far is =
     let none : drop k ids ≡ [] = grind (arith, common_steps) in
-    sym (append-nil text) ∙ ap (λ t. text ++ spaced_ids t) (sym none) ∙ so_far ∙ append_assoc kind (32 ∷ region) (spaced_ids ids) ∙ ap (λ t. kind ++ 32 ∷ t) (sym (join-ids region ids))
+    sym (append-nil text) ∙ ap (λ t. text ++ spaced_ids t) (sym none) ∙ so_far ∙ ap (λ t. t ++ spaced_ids ids) is
+    ∙ append_assoc (before ++ kind) (32 ∷ region) (spaced_ids ids) ∙ append_assoc before kind (32 ∷ (region ++ spaced_ids ids)) ∙ ap (λ t. before ++ (kind ++ 32 ∷ t)) (sym (join-ids region ids))
+
+-- one more id
+pub ids_put_one : (text after all : List ℕ) (ids : List TxnId) (k : ℕ) (d : TxnId) → k < length ids → text ++ spaced_ids (drop k ids) ≡ all → after ≡ text ++ 32 ∷ id_text (get_or ids k d)
+    → after ++ spaced_ids (drop (k + 1) ids) ≡ all
+ids_put_one text after all ids k d inside so_far one =
+    ap (λ t. t ++ spaced_ids (drop (k + 1) ids)) one ∙ append_assoc text (32 ∷ id_text (get_or ids k d)) (spaced_ids (drop (k + 1) ids)) ∙ ap (λ t. text ++ spaced_ids t) (sym (drop_more ids k d inside)) ∙ so_far
+
+-- ---- bytes that are kept
+
+pub keeps_more : (xs ys more : List ℕ) → Keeps xs ys → Keeps xs (ys ++ more)
+keeps_more xs ys more kept =
+    let within : length xs ≤ length ys = let same = ap length kept in grind (arith, common_steps) in
+    take-append-le (length xs) ys more within ∙ kept
 
 -- ---- lines of a file
 
