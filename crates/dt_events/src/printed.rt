@@ -167,5 +167,10 @@ fn put_number(alloc: Global, out: &mut Vec<u8>, number: u32) -> Result<(), NoMem
     ensures kept { OnErr result (Keeps out.old.items out.new.items) }
 {
     out.push(b' ')?;
+    if number < 10 {
+        // As nearly all numbers of regions are.
+        out.push(b'0' + number as u8)?;
+        return Ok(());
+    }
     put_u64(alloc, out, u64::from(number))
 }
