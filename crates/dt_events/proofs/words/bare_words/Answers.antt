@@ -22,7 +22,8 @@ loop-at-preserved c =
     let gap = c.gap_end-at-in-loop-at.ensures in
     let ends = c.bare_end-end.ensures in
     let visible : is_visible (get_or c.args.line.now c.loop-at.at 0) ≡ true = cc in
-    let more = bares_go_on c.args.line.now (spelled c.loop-at.found.items) c.loop-at.at c.bare_end-end.result c.gap_end-at-in-loop-at.result c.loop-at.invariant.so_far c.loop-at-test.true c.if-line-at-eq34.false visible ends.ends gap.same in
+    let more = bares_go_on c.args.line.now (spelled c.loop-at.found.items) c.loop-at.at c.bare_end-end.result c.gap_end-at-in-loop-at.result c.loop-at.invariant.so_far
+    c.loop-at-test.true c.if-line-at-eq34.false visible ends.ends gap.same in
     let pushed : spelled c.push.new.self.items ≡ spelled c.loop-at.found.items ++ slice_range c.args.line.now c.loop-at.at c.bare_end-end.result ∷ [] =
     ap spelled c.in_ok-push.ensures.items ∙ spelled-push c.loop-at.found.items _ in
     let within : length (slice_range c.args.line.now c.loop-at.at c.bare_end-end.result) < 2 ^ 32 = grind (arith, common_steps) in
