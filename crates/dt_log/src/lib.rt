@@ -7,16 +7,17 @@ ghost use Rattle.std.specs.Prelude.{◌≡◌, ◌≢◌, ◌+◌, ◌<◌, ◌�
 ghost use Rattle.dt_log.specs.Logs.{AgreeOnOverlap, StandFrom, Takes};
 
 use dt_access::Part;
-use dt_text::NoMemory;
+use dt_text::{Common, NoMemory};
 use std::alloc::Global;
 use std::marker::Model;
 
-/// The parts that one home has placed in order, or as many of them as were received.
+/// The parts that one home has placed in order, or as many of them as were received. A part is in common to all logs that
+/// have it.
 ///
 /// Contracts see the list of parts, which has at most 4,294,967,295 of them.
 #[derive(Debug, Drop)]
 pub struct Log {
-    parts: Vec<Part>,
+    parts: Vec<Common<Part>>,
 }
 
 impl Model for Log {
@@ -52,7 +53,7 @@ impl Log {
     }
 
     /// Adds a part at the end; after `NoMemory` the log is as before.
-    pub fn push(&mut self, part: Part) -> Result<(), NoMemory>
+    pub fn push(&mut self, part: Common<Part>) -> Result<(), NoMemory>
         requires { length self.old + 1 < 2 ^ 32 }
         ensures added { OnOk result (self.new ≡ self.old ++ part ∷ []) }
         ensures same { OnErr result (self.new ≡ self.old) }
@@ -63,6 +64,16 @@ impl Log {
 
     /// The part at a place, from 0; `None` exactly at and past the end. Takes no memory.
     pub fn get(&self, place: u32) -> Option<&Part>
+        ensures { option_copied result ≡ slice_get self.now place }
+    {
+        match self.common(place) {
+            Some(part) => Some(part.get()),
+            None => None,
+        }
+    }
+
+    /// The same part as `get`, to be had in common with this log. Takes no memory.
+    pub fn common(&self, place: u32) -> Option<&Common<Part>>
         ensures { option_copied result ≡ slice_get self.now place }
     {
         self.parts.get(place as usize)
@@ -78,7 +89,7 @@ impl Log {
     /// Takes a delivery: entries of the true log from place `first` on, some of which may be held
     /// already. Those past the end are added. Takes memory only where it adds some, and after
     /// `NoMemory` the log is as before.
-    pub fn take(&mut self, first: u32, mut entries: Vec<Part>) -> Result<Taken, NoMemory>
+    pub fn take(&mut self, first: u32, mut entries: Vec<Common<Part>>) -> Result<Taken, NoMemory>
         requires overlap { AgreeOnOverlap self.old first entries.items }
         requires place { first ≤ length self.old → first + vec_len entries < 2 ^ 32 }
         ensures takes { Takes self.old first entries.items result self.new }

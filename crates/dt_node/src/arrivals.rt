@@ -11,7 +11,7 @@ ghost use Rattle.dt_node.specs.TurnInner.{CanTake, KnowsTheSame, MovesOn, asking
 use crate::node::Node;
 use dt_packet::{Inlet, Packet};
 use dt_sched::Scheduler;
-use dt_text::NoMemory;
+use dt_text::{Common, NoMemory};
 use dt_txn::{Entries, Txn, Txns};
 use std::alloc::Global;
 
@@ -120,7 +120,7 @@ impl<S: Scheduler + Drop> Node<S> {
         alloc: Global,
         source: u8,
         number: u32,
-        txn: Txn,
+        txn: Common<Txn>,
     ) -> Result<(), NoMemory>
         requires can { CanTake (asking_packet self.old source number (txn ∷ []) ∷ []) self.old }
         ensures moved { (procs : List ProcTree) → MovesOn procs (asking_packet self.old source number (txn ∷ []) ∷ []) self.old self.new }

@@ -106,10 +106,10 @@ fn requests<S: Scheduler>(
     let mut txns = Txns::new(alloc);
     txns.reserve(end.saturating_sub(first as usize))?;
     for place in first as usize..end {
-        let Some(txn) = region.txn(asked[place]) else {
+        let Some(txn) = region.common_txn(asked[place]) else {
             continue;
         };
-        txns.push(txn.copy(alloc)?)?;
+        txns.push(txn.copy()?)?;
     }
     Ok(txns)
 }
@@ -123,15 +123,15 @@ fn entries<S: Scheduler>(alloc: Global, region: &Region<S>, first: u32) -> Resul
     let mut entries = Entries::new(alloc);
     entries.reserve(end.saturating_sub(first as usize))?;
     for place in first as usize..end {
-        let Some(part) = log.get(place as u32) else {
+        let Some(part) = log.common(place as u32) else {
             unreachable!()
         };
-        let Some(txn) = region.txn(part.id) else {
+        let Some(txn) = region.common_txn(part.get().id) else {
             continue;
         };
         entries.push(Entry {
-            part: part.copy(alloc)?,
-            txn: txn.copy(alloc)?,
+            part: part.copy()?,
+            txn: txn.copy()?,
         })?;
     }
     Ok(entries)

@@ -195,10 +195,10 @@ impl<S: Scheduler + Drop> Node<S> {
         if number as usize >= asked.len() {
             return Ok(false);
         }
-        let Some(txn) = region.txn(asked[number as usize]) else {
+        let Some(txn) = region.common_txn(asked[number as usize]) else {
             unreachable!()
         };
-        let txn = txn.copy(alloc)?;
+        let txn = txn.copy()?;
         self.site.region.append_owned(alloc, me, number, txn)?;
         Ok(true)
     }

@@ -38,11 +38,22 @@ impl Packet {
             target: self.target,
             stamp: self.stamp,
             asked_at: self.asked_at,
-            asked: self.asked.copy(alloc)?,
+            asked: copy_requests(alloc, &self.asked)?,
             log_at: self.log_at,
             entries: self.entries.copy(alloc)?,
             took: self.took,
             received: self.received,
         })
     }
+}
+
+// Equal requests.
+fn copy_requests(alloc: Global, asked: &Txns) -> Result<Txns, NoMemory>
+    ensures { IfOk result (λ copied. copied ≡ asked.now) }
+{
+    let mut copied = Vec::with_capacity(alloc, asked.len())?;
+    for txn in asked.as_slice() {
+        copied.push(txn.copy()?)?;
+    }
+    Ok(Txns::from_vec(copied))
 }

@@ -10,12 +10,15 @@ ghost use Rattle.dt_region.specs.Sound.{AreCounted};
 use crate::foreign::Foreign;
 use dt_access::Part;
 use dt_log::{Log, Taken};
-use dt_text::NoMemory;
+use dt_text::{Common, NoMemory};
 use dt_txn::{Entry, Txn};
 use std::alloc::Global;
 
 /// The parts and the transactions of entries, each in the entries' order.
-pub fn parts_and_txns(alloc: Global, entries: Vec<Entry>) -> Result<(Vec<Part>, Vec<Txn>), NoMemory>
+pub fn parts_and_txns(
+    alloc: Global,
+    entries: Vec<Entry>,
+) -> Result<(Vec<Common<Part>>, Vec<Common<Txn>>), NoMemory>
     ensures parts { IfOk result (λ both. both.0.items ≡ map (λ e. e.part) entries.items) }
     ensures txns { IfOk result (λ both. both.1.items ≡ map (λ e. e.txn) entries.items) }
 {
@@ -30,18 +33,18 @@ pub fn parts_and_txns(alloc: Global, entries: Vec<Entry>) -> Result<(Vec<Part>, 
 }
 
 /// Places a part at the end of its home's log; after `NoMemory` the logs are as before.
-pub fn place(logs: &mut Vec<Log>, part: Part) -> Result<(), NoMemory>
+pub fn place(logs: &mut Vec<Log>, part: Common<Part>) -> Result<(), NoMemory>
     requires home { part.home < vec_len logs.old }
     requires room { length (log_at logs.old.items part.home) + 1 < 2 ^ 32 }
     ensures ok { OnOk result (logs.new.items ≡ with_part logs.old.items part) }
     ensures err { OnErr result (logs.new.items ≡ logs.old.items) }
 {
-    let log = &mut logs[part.home as usize];
+    let log = &mut logs[part.get().home as usize];
     log.push(part)
 }
 
 /// Takes a delivery into a home's log, as `Log::take`; the other logs stay.
-pub fn take(logs: &mut Vec<Log>, home: u8, first: u32, parts: Vec<Part>) -> Result<Taken, NoMemory>
+pub fn take(logs: &mut Vec<Log>, home: u8, first: u32, parts: Vec<Common<Part>>) -> Result<Taken, NoMemory>
     requires home { home < vec_len logs.old }
     requires overlap { AgreeOnOverlap (log_at logs.old.items home) first parts.items }
     requires place { first ≤ length (log_at logs.old.items home) → first + vec_len parts < 2 ^ 32 }
@@ -54,7 +57,7 @@ pub fn take(logs: &mut Vec<Log>, home: u8, first: u32, parts: Vec<Part>) -> Resu
 
 /// Keeps the last `count` of some transactions, unless there is one of their id; what is of region `number` itself, that
 /// region submitted and holds. Takes no memory where there is room.
-pub fn keep_last(number: u8, foreign: &mut Foreign, mut txns: Vec<Txn>, count: usize)
+pub fn keep_last(number: u8, foreign: &mut Foreign, mut txns: Vec<Common<Txn>>, count: usize)
     requires count { count ≤ vec_len txns }
     requires room { vec_len txns ≤ foreign.old.spare }
     ensures { (submitted : List Txn) → AreCounted number 1 submitted → AllIn (λ txn. txn.id.region ≡ number → Has submitted txn) (drop (vec_len txns - count) txns.items) →

@@ -26,7 +26,7 @@
 //! ```text
 //! let mut region: Region<S> = Region::new(alloc, 0, 1, table)?;
 //! let id = region.submit(alloc, &session, rank, body, &procs)?;
-//! let txn = region.txn(id)?.copy(alloc)?;
+//! let txn = region.common_txn(id)?.copy()?;
 //! region.append_owned(alloc, 0, 0, txn)?;   // the request of its only home, which is itself
 //! region.insert(alloc, 0)?;
 //! region.execute(alloc, id, &procs)?;       // region.outcome(id) is what the session is answered

@@ -47,7 +47,7 @@ const CHANGES: u32 = 17;
 pub struct Region<S: Scheduler> {
     number: u8,
     regions: u8,
-    submitted: Vec<Txn>,
+    submitted: Vec<Common<Txn>>,
     foreign: Foreign,
     asked: Vec<Ids>,
     taken: Vec<u32>,
@@ -165,6 +165,16 @@ impl<S: Scheduler> Region<S> {
     pub fn txn(&self, id: TxnId) -> Option<&Txn>
         ensures { option_copied result ≡ held self.now.state id }
     {
+        match self.common_txn(id) {
+            Some(txn) => Some(txn.get()),
+            None => None,
+        }
+    }
+
+    /// The same transaction as `txn`, to be had in common with the region. Takes no memory.
+    pub fn common_txn(&self, id: TxnId) -> Option<&Common<Txn>>
+        ensures { option_copied result ≡ held self.now.state id }
+    {
         if id.region != self.number {
             return self.foreign.get(id);
         }
@@ -237,8 +247,9 @@ impl<S: Scheduler> Region<S> {
             region: self.number,
             session: session.copy(alloc)?,
         };
-        let txn = annotate(alloc, id, rank, body, procs, &self.table)?;
-        let homes = homes(alloc, &txn)?;
+        let annotated = annotate(alloc, id, rank, body, procs, &self.table)?;
+        let txn = Common::new(alloc, annotated)?;
+        let homes = homes(alloc, txn.get())?;
         self.events.reserve(self.room as usize + 1)?;
         self.submitted.reserve(1)?;
         ask(alloc, &mut self.asked, homes.as_slice(), id)?;
@@ -267,7 +278,7 @@ impl<S: Scheduler> Region<S> {
         if self.taken(source) != number {
             return Ok(false);
         }
-        let txn = txn.copy(alloc)?;
+        let txn = Common::new(alloc, txn.copy(alloc)?)?;
         self.append_owned(alloc, source, number, txn)
     }
 
@@ -277,7 +288,7 @@ impl<S: Scheduler> Region<S> {
         alloc: Global,
         source: u8,
         number: u32,
-        txn: Txn,
+        txn: Common<Txn>,
     ) -> Result<bool, NoMemory>
         requires source { source < self.old.state.regions }
         requires stamp { HasStamp self.old }
@@ -290,7 +301,8 @@ impl<S: Scheduler> Region<S> {
         }
         let stamp = self.next_stamp();
         let home = self.number;
-        let part = part_at(alloc, &txn, home)?;
+        let cut = part_at(alloc, txn.get(), home)?;
+        let part = Common::new(alloc, cut)?;
         self.events.reserve(self.room as usize + 1)?;
         self.foreign.reserve(1)?;
         place(&mut self.logs, part)?;
@@ -534,7 +546,7 @@ impl<S: Scheduler> Region<S> {
 }
 
 // The transaction of this number, counted from 1, if there is one.
-fn numbered(txns: &[Txn], number: u32) -> Option<&Txn>
+fn numbered(txns: &[Common<Txn>], number: u32) -> Option<&Common<Txn>>
     ensures none { number ≡ 0 → option_copied result ≡ None }
     ensures some { (place : ℕ) → number ≡ place + 1 → option_copied result ≡ slice_get txns.now place }
 {
@@ -542,7 +554,7 @@ fn numbered(txns: &[Txn], number: u32) -> Option<&Txn>
 }
 
 // Adds a transaction at the end, which takes no memory where there is room.
-fn add_last(txns: &mut Vec<Txn>, txn: Txn)
+fn add_last(txns: &mut Vec<Common<Txn>>, txn: Common<Txn>)
     requires { vec_len txns.old < vec_capacity txns.old }
     ensures { txns.new.items ≡ txns.old.items ++ txn ∷ [] }
 {

@@ -1,5 +1,5 @@
 //! How parts come to a region, one after another: those of its own log it places itself, the others are delivered.
-ghost use Rattle.std.specs.Prelude.{◌≡◌, ◌+◌, ◌<◌, ◌≤◌, ◌↔◌, false, length, IsTrue, IfOk, OnOk};
+ghost use Rattle.std.specs.Prelude.{◌≡◌, ◌+◌, ◌<◌, ◌≤◌, ◌↔◌, [], ◌∷◌, false, length, IsTrue, IfOk, OnOk};
 ghost use Rattle.dt_lists.specs.Lists.{AllIn, Has};
 ghost use Rattle.dt_sched.specs.Views.{HasPart};
 ghost use Rattle.dt_txn.specs.Transaction.{IsValid};
@@ -13,6 +13,7 @@ use dt_log::{Log, Taken};
 use dt_proc::Procs;
 use dt_region::Region;
 use dt_sched::Scheduler;
+use dt_text::Common;
 use dt_txn::{Body, Entry, Txn, annotate, homes, part_at};
 use std::alloc::Global;
 use std::test::Fail;
@@ -110,6 +111,15 @@ pub fn held_or_new<S: Scheduler>(
     txn_of(alloc, region, procs, row)
 }
 
+/// The one entry of this part and this transaction.
+fn one_entry(alloc: Global, part: Part, txn: Txn) -> Result<Vec<Entry>, Fail>
+    ensures { IfOk result (λ entries. entries.items ≡ record { part = part; txn = txn } ∷ []) }
+{
+    let part = Common::new(alloc, part)?;
+    let txn = Common::new(alloc, txn)?;
+    Ok(vec![in alloc; Entry { part, txn }]?)
+}
+
 /// Delivers a part to a region, which has made at most n events before.
 fn feed<S: Scheduler>(
     alloc: Global,
@@ -136,7 +146,7 @@ fn feed<S: Scheduler>(
     }
     let place = log.len();
     let part = part_at(alloc, &txn, home)?;
-    let entries = vec![in alloc; Entry { part, txn }]?;
+    let entries = one_entry(alloc, part, txn)?;
     match region.deliver(alloc, home, place, place, entries)? {
         Taken::New(_) => Ok(()),
         _ => Err(Fail::from("the part is new")),

@@ -1,7 +1,7 @@
 //! Packets: their copies.
 use dt_access::{Access, Mode, TxnId, put_id};
 use dt_packet::Packet;
-use dt_text::{Key, NoMemory, put_u64};
+use dt_text::{Common, Key, NoMemory, put_u64};
 use dt_txn::{Accesses, Body, Entries, Entry, Txn, Txns, part_at};
 use std::alloc::Global;
 use std::test::Fail;
@@ -29,9 +29,9 @@ fn packet(alloc: Global, count: u32) -> Result<Packet, Fail> {
     let mut asked = Txns::new(alloc);
     let mut entries = Entries::new(alloc);
     for seq in 1..=count {
-        let txn = txn(alloc, seq)?;
-        let part = part_at(alloc, &txn, 1)?;
-        asked.push(txn.copy(alloc)?)?;
+        let txn = Common::new(alloc, txn(alloc, seq)?)?;
+        let part = Common::new(alloc, part_at(alloc, txn.get(), 1)?)?;
+        asked.push(txn.copy()?)?;
         entries.push(Entry { part, txn })?;
     }
     Ok(Packet {
@@ -86,12 +86,12 @@ fn told(alloc: Global, packet: &Packet) -> Result<Vec<u8>, Fail> {
     let mut out = Vec::new(alloc);
     put_numbers(alloc, &mut out, packet)?;
     for txn in packet.asked.as_slice() {
-        put_txn(alloc, &mut out, txn)?;
+        put_txn(alloc, &mut out, txn.get())?;
     }
     for entry in packet.entries.as_slice() {
-        put_u64(alloc, &mut out, u64::from(entry.part.home))?;
+        put_u64(alloc, &mut out, u64::from(entry.part.get().home))?;
         out.push(b':')?;
-        put_txn(alloc, &mut out, &entry.txn)?;
+        put_txn(alloc, &mut out, entry.txn.get())?;
     }
     Ok(out)
 }

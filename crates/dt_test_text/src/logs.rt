@@ -3,30 +3,32 @@ ghost use Rattle.std.specs.Prelude.{◌≡◌, IfOk, length};
 
 use dt_access::{Homes, Keys, Part, TxnId};
 use dt_log::{Log, Taken};
+use dt_text::Common;
 use std::alloc::Global;
 use std::test::Fail;
 
 /// A part of transaction number `seq`.
-fn part(alloc: Global, seq: u32) -> Result<Part, Fail> {
+fn part(alloc: Global, seq: u32) -> Result<Common<Part>, Fail> {
     let mut homes = Homes::new(alloc);
     homes.push(0)?;
-    Ok(Part {
+    let part = Part {
         id: TxnId { seq, region: 0 },
         rank: 5,
         home: 0,
         keys: Keys::new(alloc),
         homes,
-    })
+    };
+    Ok(Common::new(alloc, part)?)
 }
 
 /// A log of two parts, numbers 1 and 2, and copies of them.
-fn two_parts(alloc: Global) -> Result<(Log, Vec<Part>), Fail>
+fn two_parts(alloc: Global) -> Result<(Log, Vec<Common<Part>>), Fail>
     ensures copies { IfOk result (λ made. made.1.items ≡ made.0) }
     ensures two { IfOk result (λ made. length made.0 ≡ 2) }
 {
     let first = part(alloc, 1)?;
     let second = part(alloc, 2)?;
-    let copies = vec![in alloc; first.copy(alloc)?, second.copy(alloc)?]?;
+    let copies = vec![in alloc; first.copy()?, second.copy()?]?;
     let mut log = Log::new(alloc);
     log.push(first)?;
     log.push(second)?;

@@ -34,6 +34,16 @@ impl Accesses {
         }
     }
 
+    /// The rows of a vector, whose keys stand in order there.
+    pub fn from_vec(alloc: Global, items: Vec<Access>) -> Result<Self, NoMemory>
+        requires { AreAscendingAccesses items.items }
+        ensures { IfOk result (λ accesses. accesses ≡ items.items) }
+    {
+        Ok(Accesses {
+            items: Shared::from_vec(alloc, items)?,
+        })
+    }
+
     /// Adds a row whose key is greater than all held ones; after `NoMemory` the list is as before.
     pub fn push(&mut self, access: Access) -> Result<(), NoMemory>
         requires { AreAscendingAccesses (self.old ++ access ∷ []) }

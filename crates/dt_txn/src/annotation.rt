@@ -44,7 +44,7 @@ fn annotated(alloc: Global, body: &Body, procs: &Procs, table: &Table) -> Result
     ensures { IfOk result (λ access. access ≡ map (annotated table.now.state) (uses_of procs.now table.now.state.version body.now)) }
 {
     let uses = uses(alloc, body, procs, table.version())?;
-    let mut access = Accesses::new(alloc);
+    let mut access = Vec::with_capacity(alloc, uses.as_slice().len())?;
     for (key, mode) in uses.as_slice() {
         let mastership = table.mastership(key);
         access.push(Access {
@@ -54,7 +54,7 @@ fn annotated(alloc: Global, body: &Body, procs: &Procs, table: &Table) -> Result
             counter: mastership.counter,
         })?;
     }
-    Ok(access)
+    Accesses::from_vec(alloc, access)
 }
 
 /// The keys that a body uses in this version, in ascending order, each with its mode.

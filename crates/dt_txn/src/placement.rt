@@ -19,7 +19,8 @@ pub fn homes(alloc: Global, txn: &Txn) -> Result<Homes, NoMemory>
         place -= 1;
         add_home(&mut homes, access[place].home)?;
     }
-    Ok(Homes::from_vec(homes))
+    // The copy has them in itself, so that none of them is kept on the heap.
+    Homes::from_vec(homes).copy(alloc)
 }
 
 /// Where a move leads, if the body is one.
@@ -70,7 +71,7 @@ fn keys_at(alloc: Global, body: &Body, home: u8, access: &[Access]) -> Result<Ke
     ensures { IfOk result (λ keys. keys ≡ map used_of (entries_at body.now home access.now)) }
 {
     let is_move = matches!(body, Body::Move(_, _));
-    let mut keys = Vec::new(alloc);
+    let mut keys = Vec::with_capacity(alloc, access.len())?;
     for entry in access {
         if is_move || entry.home == home {
             keys.push((entry.key.copy(alloc)?, entry.mode))?;

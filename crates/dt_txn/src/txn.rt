@@ -3,7 +3,7 @@ ghost use Rattle.std.specs.Prelude.{◌≡◌, IfOk};
 use crate::accesses::Accesses;
 use dt_access::{Part, TryCopy, TxnId};
 use dt_eval::Args;
-use dt_text::{Key, Listed, NoMemory};
+use dt_text::{Common, Key, Listed, NoMemory};
 use std::alloc::Global;
 
 /// What a transaction is to do.
@@ -58,31 +58,32 @@ impl TryCopy for Txn {
     }
 }
 
-/// Transactions.
-pub type Txns = Listed<Txn>;
+/// Transactions, which whoever holds them has in common.
+pub type Txns = Listed<Common<Txn>>;
 
-/// What one region sends another of its log: a part, with the transaction that it is of.
+/// What one region sends another of its log: a part, with the transaction that it is of. Both are made once, and are in
+/// common to all logs, regions and packets that have them.
 #[derive(Drop)]
 pub struct Entry {
-    pub part: Part,
-    pub txn: Txn,
+    pub part: Common<Part>,
+    pub txn: Common<Txn>,
 }
 
 impl Entry {
-    /// An equal entry.
-    pub fn copy(&self, alloc: Global) -> Result<Self, NoMemory>
+    /// An equal entry. Takes no memory.
+    pub fn copy(&self) -> Result<Self, NoMemory>
         ensures { IfOk result (λ copied. copied ≡ self.now) }
     {
         Ok(Entry {
-            part: self.part.copy(alloc)?,
-            txn: self.txn.copy(alloc)?,
+            part: self.part.copy()?,
+            txn: self.txn.copy()?,
         })
     }
 }
 
 impl TryCopy for Entry {
-    fn copy(&self, alloc: Global) -> Result<Self, NoMemory> {
-        Entry::copy(self, alloc)
+    fn copy(&self, _alloc: Global) -> Result<Self, NoMemory> {
+        Entry::copy(self)
     }
 }
 

@@ -194,10 +194,10 @@ impl<S: Scheduler + Drop> World<S> {
         if number as usize >= asked.len() {
             return Err(StepError::Illegal(2));
         }
-        let Some(txn) = asking.txn(asked[number as usize]) else {
+        let Some(txn) = asking.common_txn(asked[number as usize]) else {
             unreachable!()
         };
-        let txn = txn.copy(alloc)?;
+        let txn = txn.copy()?;
         self.sites[home as usize]
             .region
             .append_owned(alloc, source, number, txn)?;
@@ -477,15 +477,15 @@ fn entries<S: Scheduler>(
     let log = source.log(home);
     let mut entries = Vec::new(alloc);
     for place in first..last {
-        let Some(part) = log.get(place) else {
+        let Some(part) = log.common(place) else {
             unreachable!()
         };
-        let Some(txn) = source.txn(part.id) else {
+        let Some(txn) = source.common_txn(part.get().id) else {
             unreachable!()
         };
         entries.push(Entry {
-            part: part.copy(alloc)?,
-            txn: txn.copy(alloc)?,
+            part: part.copy()?,
+            txn: txn.copy()?,
         })?;
     }
     Ok(entries)

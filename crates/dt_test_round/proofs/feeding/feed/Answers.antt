@@ -21,7 +21,7 @@ deliver-requires-clause-can g c =
     let at : c.len-place.result ≡ length (log_at s.logs home) = c.len-place.ensures ∙ ap length c.log-log.ensures in
     let has : Has (homes_of txn) home = subst (λ hs. Has hs home) (c.as_slice-2.ensures.same ∙ c.in_ok-homes.ensures) (c.has_home.ensures.0 c.if-not-has_home.false) in
     let none : ¬ (HasPart (log_at s.logs home) txn.id) = subst (λ l. ¬ (HasPart l txn.id)) c.log-log.ensures (c.has_part.ensures c.if-has_part.false) in
-    subst (λ es. CanDeliver s home c.len-place.result es) (sym c.in_ok-entries.ensures.items)
+    subst (λ es. CanDeliver s home c.len-place.result es) (sym c.in_ok-entries.ensures)
     (can_take s home c.len-place.result c.in_ok-part.part txn there at (λ own. c.if-home-number.false (own ∙ sym c.number.ensures.number)) (has, c.in_ok-part.ensures) c.in_ok-txn.ensures.agrees
     (sound.once home) none (let a = c.requires.fed.parts in let b = c.requires.few in omega (arith, a, b)))
 
@@ -36,4 +36,4 @@ returns-in-New g c =
     let made : MakesDelivery r home place place c.in_ok-entries.entries.items (Ok (New c.in-New.field-0)) c.deliver.new.self =
     subst (λ (t : Taken). MakesDelivery r home place place c.in_ok-entries.entries.items (Ok t) c.deliver.new.self) c.in-New.is c.in_ok-deliver.ensures.makes in
     fed_more c.args.procs.now c.args.count r c.deliver.new.self home place c.in_ok-part.part c.in_ok-txn.txn _ c.requires.fed there at c.in_ok-txn.ensures.valid
-    (made.3 ∙ ap (λ (es : List Entry). with_event r (after_deliver r.state home place es) (Deliver r.state.number home place (place + length es))) c.in_ok-entries.ensures.items)
+    (made.3 ∙ ap (λ (es : List Entry). with_event r (after_deliver r.state home place es) (Deliver r.state.number home place (place + length es))) c.in_ok-entries.ensures)
