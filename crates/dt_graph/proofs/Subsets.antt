@@ -6,7 +6,7 @@ use Rattle.std.proofs.lemmas.List.{get_or-set_same, get_or-set_other, length-app
 use Rattle.std.proofs.Math.ListN.{get_or-append}
 use Rattle.dt_lists.specs.Lists.{AllIn, Has, Distinct}
 use Rattle.dt_lists.proofs.Callers.{all_append, all_append_left, all_get, all_map, all_put, distinct_push, distinct_within, each_append_left, each_across, either_nat, has_last, has_longer, has_more}
-use Rattle.dt_lists.proofs.Callers.{all_set, has_place, last_place, place_in_longer, place_in_more, place_of, some_same}
+use Rattle.dt_lists.proofs.Callers.{all_set, has_place, last_place, place_in_longer, place_in_more, place_of, place_within, some_same}
 use Rattle.dt_waits.proofs.Callers.{one_place}
 use Rattle.dt_graph.specs.Subset.{PutsIn, StandsAtPlace, IsSubset, Removes}
 
@@ -84,14 +84,15 @@ some_of_test (Some x) b e t = (x, refl)
 
 -- more room serves as well
 pub subset_room : (items : List ℕ) (places : List (Option ℕ)) (less more : ℕ) → less ≤ more → IsSubset items places less → IsSubset items places more
-subset_room items places less more le s = record { fits = join _ _ _ s.fits le; once = s.once; within = s.within; narrow = s.narrow; placed = s.placed }
+subset_room items places less more le s = record { few = s.few; fits = join _ _ _ s.fits le; once = s.once; within = s.within; narrow = s.narrow; placed = s.placed }
   where
     join : (a b c : ℕ) → a ≤ b → b ≤ c → a ≤ c
     join a b c e f = omega (arith, e, f)
 
 -- a higher bound by one
-pub subset_reached : (items : List ℕ) (places : List (Option ℕ)) (less more : ℕ) → IsSubset items places less → length places + 1 ≤ more → IsSubset items (places ++ None ∷ []) more
-subset_reached items places less more s le = record {
+pub subset_reached : (items : List ℕ) (places : List (Option ℕ)) (less more : ℕ) → IsSubset items places less → length places + 1 < 2 ^ 32 → length places + 1 ≤ more → IsSubset items (places ++ None ∷ []) more
+subset_reached items places less more s few le = record {
+  few = subst (λ n. n < 2 ^ 32) (sym (length-append places (None ∷ []))) few;
   fits = subst (λ n. n ≤ more) (sym (length-append places (None ∷ []))) le;
   once = s.once;
   within = all_map _ _ items (λ v lt. subst (λ n. v < n) (sym (length-append places (None ∷ []))) (grown v lt)) s.within;
@@ -138,12 +139,23 @@ module _ (items : List ℕ) (places : List (Option ℕ)) (room : ℕ) (s : IsSub
       less : (a b c : ℕ) → a < b → b ≤ c → a < c
       less a b c e f = omega (arith, e, f)
 
-  -- its place has 32 bits, as all numbers have
-  pub place_fits : number < 2 ^ 32 → get_or places number None ≡ None → length items < 2 ^ 32
-  place_fits small e = fewer_below (2 ^ 32) items number s.once s.narrow small (unplaced_absent e)
+  -- its place is below the bound, as all numbers are
+  pub place_fits : get_or places number None ≡ None → length items + 1 < 2 ^ 32
+  place_fits e = less _ _ (fewer_below (length places) items number s.once s.within lt (unplaced_absent e)) s.few
+    where
+      less : (a b : ℕ) → a < b → b < 2 ^ 32 → a + 1 < 2 ^ 32
+      less a b e f = omega (arith, e, f)
+
+  -- the place of a number that is there, too
+  pub found_fits : (place : ℕ) → get_or places number None ≡ Some place → place + 1 < 2 ^ 32
+  found_fits place e = less _ _ _ (place_within items place number (subst (StandsAtPlace items number) e (s.placed number lt))) (few_below (length places) items s.once s.within) s.few
+    where
+      less : (a b c : ℕ) → a < b → b ≤ c → c < 2 ^ 32 → a + 1 < 2 ^ 32
+      less a b c e f g = omega (arith, e, f, g)
 
   pub subset_added : number < 2 ^ 32 → get_or places number None ≡ None → IsSubset (items ++ number ∷ []) (set places number (Some (length items))) room
   subset_added small e = record {
+    few = subst (λ n. n < 2 ^ 32) (sym (length-set places number (Some (length items)))) s.few;
     fits = subst (λ n. n ≤ room) (sym (length-set places number (Some (length items)))) s.fits;
     once = distinct_push items number s.once (unplaced_absent e);
     within = subst (λ n. AllIn (λ v. v < n) (items ++ number ∷ [])) (sym (length-set places number (Some (length items)))) (all_append _ items (number ∷ []) s.within (lt, tt));
@@ -187,6 +199,7 @@ module _ (items : List ℕ) (places : List (Option ℕ)) (room : ℕ) (s : IsSub
 
     pub subset_removed_last : IsSubset front (set places number None) room
     subset_removed_last = record {
+      few = subst (λ n. n < 2 ^ 32) (sym (length-set places number None)) s.few;
       fits = subst (λ n. n ≤ room) (sym (length-set places number None)) s.fits;
       once = each_append_left _ front (number ∷ []) once_front;
       within = subst (λ n. AllIn (λ v. v < n) front) (sym (length-set places number None)) (all_append_left _ front (number ∷ []) (subst (AllIn (λ v. v < length places)) is s.within));
@@ -239,6 +252,7 @@ module _ (items : List ℕ) (places : List (Option ℕ)) (room : ℕ) (s : IsSub
 
     pub subset_removed : IsSubset (set front place last) (set (set places last (Some place)) number None) room
     subset_removed = record {
+      few = subst (λ n. n < 2 ^ 32) (sym size) s.few;
       fits = subst (λ n. n ≤ room) (sym size) s.fits;
       once = distinct_set front place last once_in_front last_absent;
       within = subst (λ n. AllIn (λ v. v < n) (set front place last)) (sym size) (all_set _ front place last (all_append_left _ front (last ∷ []) (subst (AllIn (λ v. v < length places)) is s.within)) last_within);

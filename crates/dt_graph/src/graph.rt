@@ -226,7 +226,7 @@ impl Graph {
     {
         if let Some(vertex) = self.names.number_of(id) {
             self.waits.ready.remove(vertex);
-            match self.waits.vertices[vertex as usize].class {
+            match self.waits.vertices[vertex as usize].class.get() {
                 None => self.waits.leave(&[vertex]),
                 Some(class) => self.finish_in(class),
             }
@@ -234,11 +234,11 @@ impl Graph {
     }
 
     /// Lets the next member of a resolved class be done: the one after it is ready, or the class leaves.
-    fn finish_in(&mut self, class: usize)
+    fn finish_in(&mut self, class: u32)
         requires { MayFinishIn class self.old }
         ensures { FinishesIn class self.old self.new }
     {
-        let kept = &mut self.classes[class];
+        let kept = &mut self.classes[class as usize];
         kept.next += 1;
         match kept.members.as_slice().get(kept.next) {
             Some(vertex) => self.waits.ready.add(*vertex),
