@@ -11,7 +11,7 @@ pub place-requires-clause-room : goal.place-requires-clause-room
 place-requires-clause-room g c =
     let turn = c.if-number-taken.false ∙ c.taken.ensures.taken in
     rw (c.in_ok-part.ensures ∙ c.in_ok-cut.ensures ∙ ap (λ txn. part_of txn c.self.inside.number) c.get.ensures)
-      (append_room _ _ _ _ _ _ (seen_as c.self.view_is c.self.invariant.well) c.args.source c.args.number c.args.txn c.requires.source c.requires.can turn).0
+    (append_room _ _ _ _ _ _ (seen_as c.self.view_is c.self.invariant.well) c.args.source c.args.number c.args.txn c.requires.source c.requires.can turn).0
 
 pub overflow_add-number : goal.overflow_add-number
 overflow_add-number g c =
