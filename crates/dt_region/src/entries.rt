@@ -44,7 +44,12 @@ pub fn place(logs: &mut Vec<Log>, part: Common<Part>) -> Result<(), NoMemory>
 }
 
 /// Takes a delivery into a home's log, as `Log::take`; the other logs stay.
-pub fn take(logs: &mut Vec<Log>, home: u8, first: u32, parts: Vec<Common<Part>>) -> Result<Taken, NoMemory>
+pub fn take(
+    logs: &mut Vec<Log>,
+    home: u8,
+    first: u32,
+    parts: Vec<Common<Part>>,
+) -> Result<Taken, NoMemory>
     requires home { home < vec_len logs.old }
     requires overlap { AgreeOnOverlap (log_at logs.old.items home) first parts.items }
     requires place { first ≤ length (log_at logs.old.items home) → first + vec_len parts < 2 ^ 32 }
