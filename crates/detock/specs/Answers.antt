@@ -1,6 +1,6 @@
 -- What a call of the program promises.
 --
--- `Comes` says that each status comes only by its cause, that the status which the words and the files call for comes where no
+-- `Comes` says that each status occurs only for its cause, that the status which the words and the files call for comes where no
 -- device fails, and what is touched of the files and of the output. `IsTold` says which line reports a status. The top call
 -- ensures both, whatever the task. Read next: Statuses, for the exit numbers and the lines.
 use Rattle.std.specs.Prelude.{◌≡◌, ◌≢◌, ℕ, ◌⊎◌, List, IsSome}
@@ -21,15 +21,15 @@ use Rattle.detock.specs.Statuses.{fault_line}
 module _ {F O : Type 0} (words : List Bytes) (seen : F → FolderView) (files files_after : F) (shown : O → SinkView) (out out_after : O) where
   -- how a status comes, from the words, the folder and the output before the call and after it
   pub record Comes (status : Status) : Type 0 where
-    -- The headline: the task is done, and all of its report stands behind what the output held.
+    -- The headline: the task is done, and its whole report follows what the output held.
     pub done : status ≡ Done → AskFor words (λ task. IsDone (seen files).told task (Adds (shown out).held (shown out_after).held))
-    -- Each refusal comes only by its cause, tried in this order.
+    -- Each refusal occurs only for its cause; the causes are tried in this order.
     pub bad_words : status ≡ BadWords → ¬ AreAForm words
     pub bad_cluster : (fault : ClusterFault) → status ≡ BadCluster fault → AskFor words (λ task. HasBadCluster (seen files).told task fault)
     pub bad_workload : (line : ℕ) (cause : WorkloadCause) → status ≡ BadWorkload line cause → AskFor words (λ task. HasBadWorkload (seen files).told task line cause)
     pub bad_events : (line : ℕ) (cause : EventsCause) → status ≡ BadEvents line cause → AskFor words (λ task. HasBadEvents (seen files).told task line cause)
     pub cannot_read : (word : ℕ) → status ≡ CannotRead word → AskFor words (λ task. CouldNotRead task (seen files) (seen files_after) word)
-    -- A report that could not be written was to be; some first bytes of it stand behind what the output held.
+    -- If the report could not be written, some first bytes of it follow what the output held.
     pub cannot_write : status ≡ CannotWrite → Rose (shown out).faults (shown out_after).faults
         × AskFor words (λ task. IsDone (seen files).told task (AddsPrefix (shown out).held (shown out_after).held))
     -- If the files are reported and no device failed, the status is the one that they call for, unless memory runs out.

@@ -90,13 +90,13 @@ CouldNotRead task before now word =
     ⊎ ((word ≡ 4) × (cluster : Cluster) × (workload : Workload) × Loaded before.told task cluster workload
     × IsSomeAnd (events_word task) (WasMissed before now))
 
--- a run that can be done: its cluster and its workload are what they are to be
+-- a run that can be done: its cluster and its workload are as they should be
 pub record IsRunnable (told : Option Files) (task : Task) : Type 0 where
   pub cluster : Cluster
   pub workload : Workload
   pub loaded : Loaded told task cluster workload
 
--- a replay that can be done: all its files are what they are to be, and the events are legal
+-- a replay that can be done: all its files are as they should be, and the events are legal
 pub record IsReplayable (told : Option Files) (task : Task) : Type 0 where
   pub cluster : Cluster
   pub workload : Workload

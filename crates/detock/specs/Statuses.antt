@@ -30,14 +30,14 @@ exit_number (BadWorkload line cause) = 5
 exit_number (BadEvents line cause) = 6
 exit_number CannotWrite = 7
 
--- the status if the words of the command line cannot be had: out of memory; or a word that is not text, which is a fault of the
--- caller; and none where the system does not give them at all
+-- the status if the words of the command line cannot be obtained: out of memory; or a word that is not text, which is a fault of
+-- the caller; and none where the system does not supply them at all
 abbrev pub status_without : ErrorKind → Option Status
 status_without OutOfMemory = Some NoMemory
 status_without InvalidData = Some BadWords
 status_without kind = None
 
--- the number of no status: the system does not give the words
+-- the number of no status: the system does not supply the words
 abbrev pub no_words : ℕ
 no_words = 12
 

@@ -16,11 +16,11 @@ use std::io::ErrorKind;
 use std::sync::Wait;
 use std::thread::Threads;
 
-/// The number of no status: the system does not give the words.
+/// The number of no status: the system does not supply the words.
 const NO_WORDS: u8 = 12;
 
-/// All words of the command line, the first of which is the program's name. Fails where the system does not give them, or one is
-/// no text.
+/// All words of the command line, the first of which is the program's name. Fails where the system does not supply them, or one
+/// is not text.
 pub fn command_line<R: Env + Alloc<A = Global>>(rt: &R) -> io::Result<Vec<String>> {
     Ok(args(rt)?.collect(rt.alloc())?)
 }
@@ -79,7 +79,7 @@ fn after_name(all: &[String]) -> &[String]
     }
 }
 
-/// The status where the words could not be taken for this reason. `None` where the system does not give them at all.
+/// The status where the words could not be obtained for this reason. `None` where the system does not supply them at all.
 fn status_without(kind: ErrorKind) -> Option<Status>
     ensures { result ≡ status_without kind }
 {

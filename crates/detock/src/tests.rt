@@ -54,7 +54,7 @@ fn ended(
     Ok(told)
 }
 
-/// How a call of the program over a folder ends, with so much room in `out` and in `err`.
+/// How a call of the program over a folder ends, with this much room in `out` and in `err`.
 fn call<R: Threads + Wait + Sync>(
     rt: &R,
     alloc: Global,
@@ -256,7 +256,7 @@ fn the_first_fault_of_the_first_file_is_told(rt: HostRuntime) -> Result<(), Fail
     Ok(())
 }
 
-/// Words that ask for nothing that there is.
+/// Words that ask for no task.
 const OTHER_WORDS: [&[&str]; 18] = [
     &[],
     &["replay"],

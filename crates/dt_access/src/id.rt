@@ -1,4 +1,4 @@
-ghost use Rattle.std.specs.Prelude.{◌≡◌, ◌↔◌, ◌<◌, ◌^◌, ◌∷◌, ◌++◌, IsTrue, IfOk, MatchOption, OnOk, OnErr, length, Contains};
+ghost use Rattle.std.specs.Prelude.{◌≡◌, ◌↔◌, ◌<◌, ◌^◌, ◌∷◌, ◌++◌, IsTrue, MatchOption, OnOk, OnErr, length, Contains};
 ghost use Rattle.dt_access.specs.Ids.{Before, ReadsId, id_text};
 
 use crate::copies::TryCopy;

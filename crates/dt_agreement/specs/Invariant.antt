@@ -164,7 +164,7 @@ pub record Inv (cluster : Cluster) (workload : Workload) (w : World) (order : Li
 abbrev pub history_of : Cluster → World → List TxnId → Bytes → List Moved
 history_of cluster w order key = moves_of (table_after cluster.procs (txns_of w order) (opening_table cluster)) key
 
--- what the last of the first n moves of a unit is to t, whose entry names this home: its mover is closed and is not
+-- how the last of the first n moves of a unit relates to t, whose entry names this home: its mover is closed and is not
 -- reached from t, and where t has a part in the home's log, the mover has one there before it
 abbrev pub HasRoot : View → TxnId → ℕ → List Moved → ℕ → Type 0
 HasRoot logs t home moves zero = Unit {0}

@@ -1,5 +1,5 @@
--- Nothing is left out of a report. A report looks up whose each executed attempt is and what came of it; one learns here
--- that both are always there (`IsAccounted`), also for the attempt that an answer ends (`IsAnswered`). So a report's
+-- Nothing is left out of a report. A report looks up whose attempt each executed one is, and what came of it; one learns
+-- here that both are always there (`IsAccounted`), also for the attempt that an answer ends (`IsAnswered`). So a report's
 -- order section has each executed id, and its replies have each answer: the look-ups never come back empty. Read next:
 -- the law `nothing_left_out` in src/laws.rt, and `WorldReport` of dt_world for the report.
 use Rattle.std.specs.Prelude.{◌≡◌, ◌+◌, ℕ, List, Some}

@@ -1,5 +1,5 @@
 -- A cluster file as a document of TOML, and a table of it as the list of its entries by ascending names. What a document
--- is, is the crate `toml`'s matter (`parse_document`); all that is said of cluster files stands on its table. Read next:
+-- is, is defined by the crate `toml` (`parse_document`); all that is said of cluster files rests on its table. Read next:
 -- `Numbers` and `Rows`, the entries one by one, and then `File`, the whole file.
 use Rattle.std.specs.Prelude.{◌≡◌, ◌⊎◌, List, [], ◌∷◌, map, Option, Some, None, IsUtf8}
 use Rattle.std.specs.Ordering.{nat_cmp}

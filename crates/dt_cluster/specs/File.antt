@@ -1,4 +1,4 @@
--- What a cluster file is, and what fault is reported for a file that is none. The faults have an order: unknown names, the
+-- What a cluster file is, and what fault is reported for a file that is not one. The faults have an order: unknown names, the
 -- numbers, the procedures, the homes, the rows; the first fault in that order is reported, so a file has at most one
 -- (`Laws`). The entries are in `Numbers` and `Rows`. Read next: `Laws`, and `Valid` for what every cluster that is read
 -- keeps.
@@ -35,7 +35,7 @@ IsKnown entry = Has known_names entry.0
 abbrev pub AreKnown : Members → Type 0
 AreKnown top = (entries : List Entry) × AreEntries top entries × AllIn IsKnown entries
 
--- the fault of a name that is unknown: the least such name is reported
+-- the fault of a name that is unknown: the first such name in byte order is reported
 abbrev pub IsUnknownFault : Members → ClusterFault → Type 0
 IsUnknownFault top fault =
     (name : Bytes) × (fault ≡ record { place = place.Entry name; cause = cause.Unknown })

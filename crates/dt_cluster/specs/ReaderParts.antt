@@ -1,4 +1,4 @@
--- Inner words, for the private parts of the reader alone: what each part answers, said of the table that it looks at.
+-- Inner words, for the private parts of the reader alone: what each part answers, stated of the table that it looks at.
 -- `File` says the same of the whole document; a reader of the contracts of `dt_cluster` can skip this file. Read next:
 -- `File`.
 use Rattle.std.specs.Prelude.{◌≡◌, ◌<◌, ◌^◌, ℕ, List, Some, length, codes}
@@ -16,12 +16,12 @@ use Rattle.dt_cluster.specs.declared.error.ClusterFault.{ClusterFault}
 use Rattle.dt_cluster.specs.declared.error.ClusterError.{ClusterError}
 use Rattle.dt_cluster.specs.declared.error.ClusterError.TheVariants.{Fault, NoMemory}
 
--- an error reports a fault that is one, or that memory ran out
+-- an error reports a true fault, or that memory ran out
 abbrev pub TellsFault : (ClusterFault → Type 0) → ClusterError → Type 0
 TellsFault IsFault (Fault fault) = IsFault fault
 TellsFault IsFault NoMemory = Unit {0}
 
--- the fault stands at this place, and its cause is one that is there
+-- the fault stands at this place, and its cause is one that holds there
 abbrev pub IsFaultAt : ClusterPlace → (ClusterCause → Type 0) → ClusterFault → Type 0
 IsFaultAt place IsCause fault = (why : ClusterCause) × (fault ≡ record { place = place; cause = why }) × IsCause why
 

@@ -1,4 +1,4 @@
-ghost use Rattle.std.specs.Prelude.{◌≡◌, ◌↔◌, IsTrue, IfOk, IfErr};
+ghost use Rattle.std.specs.Prelude.{IfOk, IfErr};
 ghost use Rattle.toml.specs.View.{view, table_view};
 ghost use Rattle.dt_cluster.specs.Rows.{IsHome, IsBadHome};
 ghost use Rattle.dt_cluster.specs.File.{HasHomes, IsHomesFault};

@@ -21,9 +21,8 @@ use toml::Table;
 /// Reads a cluster file.
 ///
 /// The answer is the cluster that the file is, or its first fault. The faults are tried in this order: the bytes are no
-/// document of TOML; the least unknown name at the top; `regions`, `version`, `workers`, `tries`, `drop` and `repeat`;
-/// `procs`; `homes`, and then each of its names in ascending byte order; and `rows` in the same way. Names are compared by
-/// their bytes.
+/// document of TOML; the first unknown name at the top; `regions`, `version`, `workers`, `tries`, `drop` and `repeat`;
+/// `procs`; `homes`, and then each of its names; and `rows` in the same way. Names are taken in ascending byte order.
 /// That a file is too long is reported by whoever loads it.
 pub fn read_cluster(alloc: Global, bytes: &[u8]) -> Result<Cluster, ClusterError>
     requires short { length bytes.now < 2 ^ 32 }
@@ -63,7 +62,7 @@ fn cluster_of(alloc: Global, top: &Table) -> Result<Cluster, ClusterError>
     })
 }
 
-/// Refuses the least name at the top that is unknown.
+/// Refuses the first unknown name at the top, in byte order.
 fn only_known(alloc: Global, top: &Table) -> Result<(), ClusterError>
     ensures ok { IfOk result (λ _. AreKnown (table_view top.now)) }
     ensures fault { IfErr result (TellsFault (IsUnknownFault (table_view top.now))) }

@@ -77,7 +77,7 @@ fn text_value(alloc: Global, name: &str, text: &str) -> Result<Value, ClusterErr
     }
 }
 
-/// The text of these bytes; `None` exactly where they are none.
+/// The text of these bytes; `None` exactly where they are not a text.
 fn read_text(alloc: Global, bytes: &[u8]) -> Result<Option<Str>, NoMemory>
     ensures { IfOk result (λ text. MatchOption text (¬ IsStr bytes.now) (λ t. IsStr t × (t ≡ bytes.now))) }
 {

@@ -79,17 +79,24 @@ module _ (items : List (Bytes × Option Value)) (marks : List Bool) (places : Li
     unfolding here
     after = rows_set items marks p item some_row v long place_in_items at
 
-    -- what holds of the rows and places holds after the row of a key was changed
-    pub items_sound : (length (set marks p true) ≡ length (set items p (item.0, v))) × AllIn (λ q. q < length (rows_in (set items p (item.0, v)) (set marks p true))) places
+    sound_set : (length (set marks p true) ≡ length (set items p (item.0, v))) × AllIn (λ q. q < length (rows_in (set items p (item.0, v)) (set marks p true))) places
         × EachThen KeyBefore (keys_in (rows_in (set items p (item.0, v)) (set marks p true)))
-    items_sound =
+    sound_set =
         let kept = row_invariant (rows_in items marks) places k p here v all each below is is_here in
         (length-set marks p true ∙ long ∙ sym (length-set items p (item.0, v)), subst (λ rs. AllIn (λ q. q < length rs) places) (sym after) kept.0, subst (λ rs. EachThen KeyBefore (keys_in rs)) (sym after) kept.1)
 
+    -- what holds of the rows and places holds after the row of a key was changed
+    pub items_sound : (ms : List Bool) → ms ≡ set marks p true → (length ms ≡ length (set items p (item.0, v))) × AllIn (λ q. q < length (rows_in (set items p (item.0, v)) ms)) places
+        × EachThen KeyBefore (keys_in (rows_in (set items p (item.0, v)) ms))
+    items_sound ms e = subst (λ (ms : List Bool). (length ms ≡ length (set items p (item.0, v))) × AllIn (λ q. q < length (rows_in (set items p (item.0, v)) ms)) places
+        × EachThen KeyBefore (keys_in (rows_in (set items p (item.0, v)) ms))) (sym e) sound_set
+
     -- the names stay, and the row of the named key is changed
-    pub items_changed : ◌≡◌ {A = List Bytes × List Row} (names_at places (rows_in (set items p (item.0, v)) (set marks p true)), rows_in (set items p (item.0, v)) (set marks p true))
+    pub items_changed : (ms : List Bool) → ms ≡ set marks p true → ◌≡◌ {A = List Bytes × List Row} (names_at places (rows_in (set items p (item.0, v)) ms), rows_in (set items p (item.0, v)) ms)
         (names_at places (rows_in items marks), with_value (declared_key (names_at places (rows_in items marks)) k) v (rows_in items marks))
-    items_changed = (λ i. (names_at places (after i), after i)) ∙ row_changed (rows_in items marks) places k p here v all each below is is_here
+    items_changed ms e =
+        (λ i. (names_at places (rows_in (set items p (item.0, v)) (e i)), rows_in (set items p (item.0, v)) (e i)))
+        ∙ (λ i. (names_at places (after i), after i)) ∙ row_changed (rows_in items marks) places k p here v all each below is is_here
 
 -- where all were changed, all are written
 pub written_where_changed : (items : List (Bytes × Option Value)) (marks : List Bool) → length marks ≡ length items → true ≡ list_all (λ c. c) marks → items ≡ writes_of (rows_in items marks)

@@ -14,7 +14,7 @@ use Rattle.dt_eval.specs.Statements.{value_now}
 use Rattle.dt_eval.specs.declared.frame.Frame.{Frame}
 use Rattle.dt_eval.specs.declared.finish.Cause.TheVariants as cause
 use Rattle.dt_eval.specs.declared.state.Datum.{Datum}
-use Rattle.dt_eval.specs.declared.state.Datum.TheVariants.{Int}
+use Rattle.dt_eval.specs.declared.state.Datum.TheVariants.{Int, Bool as Truth}
 use Rattle.dt_eval.specs.declared.finish.Cause.{Cause}
 use Rattle.dt_eval.specs.declared.stop.Stop.{Stop}
 use Rattle.dt_eval.specs.declared.stop.Stop.TheVariants.{Aborted, NoMemory}
@@ -33,6 +33,12 @@ abbrev pub EvalAnswers : {A : Type 0} → Result A Cause → Result A Stop → T
 EvalAnswers told_in (Ok a) = told_in ≡ Ok a
 EvalAnswers told_in (Err (Aborted c)) = told_in ≡ Err c
 EvalAnswers told_in (Err NoMemory) = Unit {0}
+
+-- the answer is the truth that was given, or memory ran out
+abbrev pub TestAnswers : Result Datum Cause → Result Bool Stop → Type 0
+TestAnswers told_in (Ok b) = told_in ≡ Ok (Truth b)
+TestAnswers told_in (Err (Aborted c)) = told_in ≡ Err c
+TestAnswers told_in (Err NoMemory) = Unit {0}
 
 -- the state that a frame stands for
 abbrev pub seen : Frame → RunState

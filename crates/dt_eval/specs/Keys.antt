@@ -58,7 +58,7 @@ IsFirstBadKey (name ∷ names) (suc i) = IsKey name × IsFirstBadKey names i
 abbrev pub use_of : List Value → KeyDecl → Bytes × Bool
 use_of args d = (key_text args d.items, d.write)
 
--- a use that stands so to the first of a list of uses is put before it, is merged with it, or is put further on
+-- a use, by how it compares to the first of a list of uses, is put before it, is merged with it, or is put further on
 abbrev pub placed_use : Ordering → Bytes × Bool → Bytes × Bool → List (Bytes × Bool) → List (Bytes × Bool) → List (Bytes × Bool)
 placed_use Less u v vs further = u ∷ v ∷ vs
 placed_use Equal u v vs further = (v.0, v.1 || u.1) ∷ vs
@@ -83,6 +83,6 @@ with_modes uses = map (λ (u : Bytes × Bool). (u.0, mode_of u.1)) uses
 abbrev pub distinct_uses : ProcTree → List Value → List (Bytes × Bool)
 distinct_uses proc args = fold with_use [] (map (use_of args) proc.keys)
 
--- the distinct keys of the declarations in ascending order, each with its mode: Write if any declaration of it is
+-- the distinct keys of the declarations in ascending order, each with its mode: Write if any declaration of it writes
 abbrev pub keys_of : ProcTree → List Value → List (Bytes × Mode)
 keys_of proc args = with_modes (distinct_uses proc args)

@@ -1,6 +1,5 @@
 ghost use Rattle.std.specs.Prelude.{◌≡◌, ◌↔◌, IsTrue, IfOk, length, map};
-ghost use Rattle.dt_lists.specs.Lists.{AllIn, AnyIn, EachThen, Pairwise};
-ghost use Rattle.dt_proc.specs.Sound.{IsSoundProc};
+ghost use Rattle.dt_lists.specs.Lists.{AllIn, AnyIn, Pairwise};
 ghost use Rattle.dt_eval.specs.FrameInner.{ArePlaces, IsItemWithin};
 ghost use Rattle.dt_eval.specs.Keys.{HasKeys, keys_of, names_given, names_of};
 ghost use Rattle.dt_eval.specs.Meaning.{Fits, IsOfKind, meaning, unchanged};
@@ -8,7 +7,7 @@ ghost use Rattle.dt_eval.specs.Meaning.{Fits, IsOfKind, meaning, unchanged};
 use crate::finish::{Finish, Reads, Values};
 use crate::frame::Frame;
 use crate::places::place_of;
-use crate::rows::Rows;
+use crate::rows::{Places, Rows};
 use crate::stop::Stop;
 use crate::variables::Variables;
 use dt_access::TryCopy;
@@ -23,7 +22,7 @@ pub fn fits(body: &Proc, args: &[Value]) -> bool
     are_of_kinds(body.params(), args)
 }
 
-/// Whether the values have these kinds, and are as many.
+/// Whether there are as many values as kinds, and each has its kind.
 fn are_of_kinds(kinds: &[Kind], values: &[Value]) -> bool
     ensures { IsTrue result ↔ Pairwise IsOfKind kinds.now values.now }
 {
@@ -106,12 +105,12 @@ fn places(
     declarations: &[KeyDecl],
     args: &[Value],
     reads: &[(Key, Option<Value>)],
-) -> Result<Vec<usize>, NoMemory>
+) -> Result<Places, NoMemory>
     requires within { AllIn (λ d. AllIn (IsItemWithin (length args.now)) d.items) declarations.now }
     requires read { AllIn (λ name. AnyIn (λ r. r.0 ≡ name) reads.now) (names_given args.now declarations.now) }
     ensures { IfOk result (λ places. ArePlaces (names_given args.now declarations.now) (map (λ r. r.0) reads.now) places.items) }
 {
-    let mut places = Vec::with_capacity(alloc, declarations.len())?;
+    let mut places = Places::with_capacity(alloc, declarations.len())?;
     for declared in declarations {
         places.push(place_of(reads, declared.items.as_slice(), args))?;
     }

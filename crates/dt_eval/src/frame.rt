@@ -1,18 +1,19 @@
 ghost use Rattle.std.specs.Prelude.{◌≡◌, ◌<◌, length, map, Ok, IfOk, OnOk, IfSome, option_copied};
 ghost use Rattle.dt_lists.specs.Lists.{AllIn};
 ghost use Rattle.dt_proc.specs.declared.tree.Sort.{Sort};
+ghost use Rattle.dt_proc.specs.declared.tree.Sort.TheVariants as sort;
 ghost use Rattle.dt_proc.specs.TreeViews.{block_tree, expr_tree, give_tree, stmt_tree};
 ghost use Rattle.dt_proc.specs.Sound.{IsSoundGift, IsStoredSort};
 ghost use Rattle.dt_proc.specs.Tree.{binary, choose, let_new, set_row};
 ghost use Rattle.dt_eval.specs.Data.{sort_of_datum};
-ghost use Rattle.dt_eval.specs.declared.state.Datum.TheVariants.{Int};
-ghost use Rattle.dt_eval.specs.FrameInner.{EvalAnswers, HasSortIn, IsSorted, IsSoundBlock, IsSoundStep, RunReaches, seen, told_in};
+ghost use Rattle.dt_eval.specs.declared.state.Datum.TheVariants.{Int, Bool as Truth};
+ghost use Rattle.dt_eval.specs.FrameInner.{EvalAnswers, HasSortIn, IsSorted, IsSoundBlock, IsSoundStep, RunReaches, TestAnswers, seen, told_in};
 ghost use Rattle.dt_eval.specs.Statements.{after_block, after_gifts, after_step, gift_value};
 
 use crate::finish::{Cause, Values};
 use crate::operators::{
-    byte_count, decides, negated, number_at, number_in, of_numbers, operate, opposite, printed,
-    stored, text_in, truth_of,
+    byte_count, compared, computed, decides, negated, number_at, number_in, of_numbers, operate,
+    opposite, printed, stored, text_in, truth_of,
 };
 use crate::rows::Rows;
 use crate::state::Datum;
@@ -91,6 +92,61 @@ impl Frame<'_> {
         }
     }
 
+    /// What an expression gives, as `value_of` says. A number that needs no memory is not moved through several calls.
+    fn given_by(&self, alloc: Global, expr: &Expr) -> Result<Datum, Stop>
+        requires { IsSorted self.now (expr_tree expr.now) }
+        ensures answer { EvalAnswers (told_in self.now (expr_tree expr.now)) result }
+        ensures sort { (s : Sort) → HasSortIn self.now (expr_tree expr.now) s → IfOk result (λ d. sort_of_datum d ≡ s) }
+    {
+        match self.number(expr) {
+            Some(number) => Ok(Datum::Int(number)),
+            None => self.value_of(alloc, expr),
+        }
+    }
+
+    /// The number that an expression gives, if it is known, or a sum, a difference or a product of two that are.
+    #[tactic(auto, using(crate::proofs::NumberLaws::binary_numbers))]
+    fn number(&self, expr: &Expr) -> Option<i64>
+        requires { IsSorted self.now (expr_tree expr.now) }
+        ensures { IfSome result (λ number. told_in self.now (expr_tree expr.now) ≡ Ok (Int number)) }
+    {
+        match expr {
+            Expr::Binary(op, left, right) => {
+                let left = self.known(left)?;
+                let right = self.known(right)?;
+                computed(*op, left, right)
+            }
+            _ => self.known(expr),
+        }
+    }
+
+    /// Whether the test of a choice holds.
+    fn holds(&self, alloc: Global, test: &Expr) -> Result<bool, Stop>
+        requires { HasSortIn self.now (expr_tree test.now) sort.Bool }
+        ensures { TestAnswers (told_in self.now (expr_tree test.now)) result }
+    {
+        match self.comparison(test) {
+            Some(truth) => Ok(truth),
+            None => Ok(truth_of(self.value_of(alloc, test)?)),
+        }
+    }
+
+    /// The truth that an expression gives, if it compares two numbers that are known.
+    #[tactic(auto, using(crate::proofs::NumberLaws::binary_numbers))]
+    fn comparison(&self, expr: &Expr) -> Option<bool>
+        requires { IsSorted self.now (expr_tree expr.now) }
+        ensures { IfSome result (λ truth. told_in self.now (expr_tree expr.now) ≡ Ok (Truth truth)) }
+    {
+        match expr {
+            Expr::Binary(op, left, right) => {
+                let left = self.known(left)?;
+                let right = self.known(right)?;
+                compared(*op, left, right)
+            }
+            _ => None,
+        }
+    }
+
     /// Runs a statement.
     #[cycle(running)]
     #[tactic(auto, using(crate::proofs::FrameLaws::step_let, crate::proofs::FrameLaws::step_set_key, crate::proofs::FrameLaws::step_set_value, crate::proofs::FrameLaws::step_clear_key, crate::proofs::FrameLaws::step_gifts))]
@@ -139,7 +195,7 @@ impl Frame<'_> {
         ensures names { OnOk result (self.new.rows.0 ≡ self.old.rows.0) }
     {
         let visible = self.variables.len();
-        if truth_of(self.value_of(alloc, test)?) {
+        if self.holds(alloc, test)? {
             self.block(alloc, then.as_slice())?;
         } else {
             self.block(alloc, otherwise.as_slice())?;
@@ -154,7 +210,7 @@ impl Frame<'_> {
         ensures answer { RunReaches (after_step self.old.rows.0 (let_new (expr_tree value.now)) (seen self.old)) self.new result }
         ensures names { OnOk result (self.new.rows.0 ≡ self.old.rows.0) }
     {
-        let value = self.value_of(alloc, value)?;
+        let value = self.given_by(alloc, value)?;
         self.variables.push(value)?;
         Ok(())
     }
@@ -166,7 +222,7 @@ impl Frame<'_> {
         ensures answer { RunReaches (after_step self.old.rows.0 (set_row key (expr_tree value.now)) (seen self.old)) self.new result }
         ensures names { OnOk result (self.new.rows.0 ≡ self.old.rows.0) }
     {
-        let value = stored(self.value_of(alloc, value)?);
+        let value = stored(self.given_by(alloc, value)?);
         self.rows.change(key, Some(value));
         Ok(())
     }
@@ -192,7 +248,7 @@ impl Frame<'_> {
     {
         match item {
             Give::Row(key) => Ok(copied(alloc, self.rows.value(*key))?),
-            Give::Value(value) => Ok(Some(stored(self.value_of(alloc, value)?))),
+            Give::Value(value) => Ok(Some(stored(self.given_by(alloc, value)?))),
         }
     }
 }

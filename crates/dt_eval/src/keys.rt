@@ -7,7 +7,9 @@ ghost use Rattle.dt_eval.specs.FrameInner.{IsItemWithin};
 
 use dt_access::{Keys, Mode};
 use dt_proc::{KeyDecl, KeyItem, Proc};
-use dt_text::{Key, NoMemory, Value, put_i64};
+use dt_text::{Key, NoMemory, Value};
+use itoa::Buffer;
+use smallvec::SmallVec;
 use std::alloc::Global;
 use std::cmp::Ordering;
 use std::fmt;
@@ -42,7 +44,7 @@ impl From<NoMemory> for KeysError {
     }
 }
 
-/// The distinct keys that a call uses, in ascending order, each with its mode: `Write` if any declaration of it is.
+/// The distinct keys that a call uses, in ascending order, each with its mode: `Write` if any declaration of it writes.
 ///
 /// The arguments fit. `BadKey` names the first declaration that gives no key.
 #[tactic(auto, using(crate::proofs::KeyLaws::keys_ascend, crate::proofs::KeyLaws::items_within))]
@@ -80,42 +82,43 @@ fn use_of(
     Ok((Key::new(alloc, text.as_slice())?, declared.write))
 }
 
+/// The text of a key while it is joined. A short one takes no memory.
+type Joined = SmallVec<u8, 32>;
+
 /// What a key expression gives.
-fn key_text(alloc: Global, items: &[KeyItem], args: &[Value]) -> Result<Vec<u8>, NoMemory>
+fn key_text(alloc: Global, items: &[KeyItem], args: &[Value]) -> Result<Joined, NoMemory>
     requires { AllIn (IsItemWithin (length args.now)) items.now }
     ensures { IfOk result (λ text. text.items ≡ key_text args.now items.now) }
 {
-    let mut text = Vec::new(alloc);
+    let mut text = Joined::new(alloc);
     for item in items {
-        add_item(alloc, &mut text, item, args)?;
+        add_item(&mut text, item, args)?;
     }
     Ok(text)
 }
 
 /// Adds a part of a key expression to the text.
-fn add_item(
-    alloc: Global,
-    text: &mut Vec<u8>,
-    item: &KeyItem,
-    args: &[Value],
-) -> Result<(), NoMemory>
+fn add_item(text: &mut Joined, item: &KeyItem, args: &[Value]) -> Result<(), NoMemory>
     requires { IsItemWithin (length args.now) item.now }
     ensures { OnOk result (text.new.items ≡ text.old.items ++ item_text args.now item.now) }
 {
     match item {
         KeyItem::Text(part) => text.extend_from_slice(part.bytes())?,
-        KeyItem::Param(param) => add_argument(alloc, text, &args[*param as usize])?,
-        KeyItem::Show(param) => add_argument(alloc, text, &args[*param as usize])?,
+        KeyItem::Param(param) => add_argument(text, &args[*param as usize])?,
+        KeyItem::Show(param) => add_argument(text, &args[*param as usize])?,
     }
     Ok(())
 }
 
 /// Adds an argument as it stands in a key: a text as it is, a number in its printed form.
-fn add_argument(alloc: Global, text: &mut Vec<u8>, argument: &Value) -> Result<(), NoMemory>
+fn add_argument(text: &mut Joined, argument: &Value) -> Result<(), NoMemory>
     ensures { OnOk result (text.new.items ≡ text.old.items ++ plain (Some argument.now)) }
 {
     match argument {
-        Value::Int(number) => put_i64(alloc, text, *number)?,
+        Value::Int(number) => {
+            let mut buffer = Buffer::new();
+            text.extend_from_slice(buffer.format(*number).as_bytes())?;
+        }
         Value::Text(part) => text.extend_from_slice(part.bytes())?,
     }
     Ok(())

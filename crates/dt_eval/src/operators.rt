@@ -182,6 +182,33 @@ pub(crate) fn of_numbers(op: Op, left: i64, right: i64) -> Result<Datum, Cause>
     }
 }
 
+/// The number that an operator gives of two numbers, if it is a sum, a difference or a product that fits.
+pub(crate) fn computed(op: Op, left: i64, right: i64) -> Option<i64>
+    ensures { IfSome result (λ number. spec.of_numbers op left right ≡ Ok (Int number)) }
+{
+    match op {
+        Op::Add => left.checked_add(right),
+        Op::Sub => left.checked_sub(right),
+        Op::Mul => left.checked_mul(right),
+        _ => None,
+    }
+}
+
+/// The truth that an operator gives of two numbers, if it compares them.
+pub(crate) fn compared(op: Op, left: i64, right: i64) -> Option<bool>
+    ensures { IfSome result (λ truth. spec.of_numbers op left right ≡ Ok (Truth truth)) }
+{
+    match op {
+        Op::Equal => Some(left == right),
+        Op::Differ => Some(left != right),
+        Op::Less => Some(left < right),
+        Op::AtMost => Some(left <= right),
+        Op::More => Some(left > right),
+        Op::AtLeast => Some(left >= right),
+        _ => None,
+    }
+}
+
 /// What an operator gives of two texts.
 fn of_texts(alloc: Global, op: Op, left: &Str, right: &Str) -> Result<Datum, Stop>
     requires { TakesSort op sort.Text }

@@ -1,4 +1,4 @@
-ghost use Rattle.std.specs.Prelude.{◌≡◌, ◌<◌, map, length, IfOk, option_copied};
+ghost use Rattle.std.specs.Prelude.{◌≡◌, ◌<◌, true, map, length, slice_index_or, slice_set, IfOk, option_copied};
 ghost use Rattle.dt_lists.specs.Lists.{AllIn, EachThen};
 ghost use Rattle.dt_access.specs.Orders.{KeyBefore};
 ghost use Rattle.dt_eval.specs.Data.{declared_key, value_in, with_value};
@@ -9,16 +9,23 @@ ghost use Rattle.std.specs.List.{list_all};
 
 use dt_access::Writes;
 use dt_text::{Key, NoMemory, Value};
+use smallvec::SmallVec;
 use std::alloc::Global;
 use std::marker::Model;
+
+/// For each declaration the place of the row that its key has. That of a few declarations takes no memory.
+pub(crate) type Places = SmallVec<usize, 4>;
+
+/// For each row whether it was set or cleared. Those of a few rows take no memory.
+type Marks = SmallVec<bool, 8>;
 
 /// The rows of a run, and for each declaration which of them its key has. Contracts see the key of each declaration and
 /// the rows.
 #[derive(Drop)]
 pub(crate) struct Rows {
     items: Vec<(Key, Option<Value>)>,
-    changed: Vec<bool>,
-    places: Vec<usize>,
+    changed: Marks,
+    places: Places,
 }
 
 impl Model for Rows {
@@ -43,13 +50,13 @@ impl Rows {
     pub(crate) fn new(
         alloc: Global,
         items: Vec<(Key, Option<Value>)>,
-        places: Vec<usize>,
+        places: Places,
     ) -> Result<Self, NoMemory>
         requires places { AllIn (λ p. p < length (map unchanged items.items)) places.items }
         requires keys { EachThen KeyBefore (keys_in (map unchanged items.items)) }
         ensures { IfOk result (λ rows. rows ≡ (names_at places.items (map unchanged items.items), map unchanged items.items)) }
     {
-        let changed = vec![in alloc; false; items.len()]?;
+        let changed = Marks::from_elem(alloc, false, items.len())?;
         Ok(Rows {
             items,
             changed,
@@ -62,7 +69,7 @@ impl Rows {
         requires { key < length self.now.0 }
         ensures { option_copied result ≡ value_in self.now.1 (declared_key self.now.0 key) }
     {
-        self.items[self.places[key as usize]].1.as_ref()
+        self.items[place_at(&self.places, key)].1.as_ref()
     }
 
     /// Gives the row of the key that the declaration of this number gives a value, or none. Takes no memory.
@@ -70,9 +77,9 @@ impl Rows {
         requires { key < length self.old.0 }
         ensures { self.new ≡ (self.old.0, with_value (declared_key self.old.0 key) value self.old.1) }
     {
-        let place = self.places[key as usize];
+        let place = place_at(&self.places, key);
         self.items[place].1 = value;
-        self.changed[place] = true;
+        mark(&mut self.changed, place);
     }
 
     /// The rows that were set or cleared, each with its last value or none, in order of keys.
@@ -82,6 +89,22 @@ impl Rows {
         let Rows { items, changed, .. } = self;
         Ok(Writes::from_vec(changed_rows(alloc, items, changed.as_slice())?))
     }
+}
+
+/// The place of the row of the key that the declaration of this number gives.
+fn place_at(places: &Places, key: u32) -> usize
+    requires { key < length places.now.items }
+    ensures { result ≡ slice_index_or places.now.items key result }
+{
+    places.as_slice()[key as usize]
+}
+
+/// Marks the row at this place.
+fn mark(marks: &mut Marks, place: usize)
+    requires { place < length marks.old.items }
+    ensures { marks.new.items ≡ slice_set marks.old.items place true }
+{
+    marks.as_mut_slice()[place] = true;
 }
 
 /// The keys and values of the rows that were set or cleared, in order. Takes no memory where all were.

@@ -1,8 +1,9 @@
 -- Words of lines and the events that they spell.
-use Rattle.std.proofs.Common.{◌≡◌, ◌≢◌, ℕ, zero, suc, ◌<◌, ◌≤◌, ◌^◌, List, [], ◌∷◌, ◌++◌}
+use Rattle.std.proofs.Common.{◌≡◌, ◌≢◌, ℕ, zero, suc, ◌+◌, ◌<◌, ◌≤◌, ◌^◌, List, [], ◌∷◌, ◌++◌}
 use Rattle.std.proofs.Common.{length, map, get_or, drop, Option, Some, None, MatchOption, Bor, refl, ap, sym, ◌∙◌, subst, arith, append_assoc, append-nil}
 use Rattle.std.specs.List.{join_with_byte}
 use Rattle.std.proofs.lemmas.Grind.{common_steps}
+use Rattle.std.proofs.lemmas.List.{drop_more, take-append-le}
 use Rattle.std.proofs.lemmas.Option.{same_Some}
 use Rattle.dt_lists.specs.Lists.{Pairwise}
 use Rattle.dt_lists.proofs.Callers.{same_head, same_tail}
@@ -14,7 +15,7 @@ use Rattle.dt_access.specs.declared.TxnId.{TxnId}
 use Rattle.dt_access.specs.Ids.{IsCounted, id_text}
 use Rattle.dt_events.specs.declared.event.Event.{Event}
 use Rattle.dt_events.specs.Events.{event_words, bare_bytes, AreBareWords, IsEventLine, IsNumberedEvent}
-use Rattle.dt_events.specs.Reading.{spelled, AreShort, AreIds, ReadsEvent}
+use Rattle.dt_events.specs.Reading.{Keeps, spelled, AreShort, AreIds, ReadsEvent}
 
 -- ---- words that are read where they stand
 
@@ -34,13 +35,6 @@ no_ids (w ∷ ws) (suc i) d within none (id ∷ ids) counted same = no_ids ws i 
 
 -- ---- bare words
 
--- words of which one is a text word are not bare
-pub no_bares : (line : List ℕ) (words : List Word) (i : ℕ) (d : Word) → i < length words → bare_bytes line (get_or words i d) ≡ None → (bares : List (List ℕ)) → map (bare_bytes line) words ≢ map (λ w. Some w) bares
-no_bares line [] i d within none bares same = absurd (omega arith)
-no_bares line (w ∷ ws) i d within none [] same = cc
-no_bares line (w ∷ ws) zero d within none (b ∷ bares) same = let h = same_head same in cc
-no_bares line (w ∷ ws) (suc i) d within none (b ∷ bares) same = no_bares line ws i d (omega arith) none bares (same_tail same)
-
 -- a line that is not made of words is not made of bare words
 pub not_made_of_words : (line : List ℕ) → words_of line ≡ None → (bares : List (List ℕ)) → ¬ AreBareWords line bares
 not_made_of_words line none bares (words, are, same) = let h = (exact line words).1 are in cc
@@ -54,13 +48,6 @@ no_bare_words line words found none bares (others, are, same) =
 
 pub are_bare_words : (line : List ℕ) (words : List Word) (bares : List (List ℕ)) → words_of line ≡ Some words → map (bare_bytes line) words ≡ map (λ w. Some w) bares → AreBareWords line bares
 are_bare_words line words bares found same = (words, (exact line words).0 found, same)
-
--- what was found of the words of a line is found of the line
-pub bare_answer : {V : Type 0} (line : List ℕ) (words : List Word) (view : V → List (List ℕ)) (found : Option V) → words_of line ≡ Some words
-    → MatchOption found ((bares : List (List ℕ)) → map (bare_bytes line) words ≢ map (λ w. Some w) bares) (λ v. map (bare_bytes line) words ≡ map (λ w. Some w) (view v))
-    → MatchOption found ((bares : List (List ℕ)) → ¬ AreBareWords line bares) (λ v. AreBareWords line (view v))
-bare_answer line words view None is none = no_bare_words line words is none
-bare_answer line words view (Some v) is same = are_bare_words line words (view v) is same
 
 same-from-somes : (xs ys : List (List ℕ)) → map (λ w. Some w) xs ≡ map (λ w. Some w) ys → xs ≡ ys
 same-from-somes [] [] e = refl
@@ -93,11 +80,25 @@ pub join-ids : (word : List ℕ) (ids : List TxnId) → join_with_byte 32 (word 
 join-ids word [] = sym (append-nil word)
 join-ids word (id ∷ ids) = ap (λ t. word ++ 32 ∷ t) (join-ids (id_text id) ids)
 
-pub ids_put_all : (text kind region : List ℕ) (ids : List TxnId) (k : ℕ) → length ids ≤ k → text ++ spaced_ids (drop k ids) ≡ (kind ++ 32 ∷ region) ++ spaced_ids ids
-    → text ≡ join_with_byte 32 (kind ∷ region ∷ map id_text ids)
-ids_put_all text kind region ids k past so_far =
+pub ids_put_all : (text begun before kind region : List ℕ) (ids : List TxnId) (k : ℕ) → length ids ≤ k → text ++ spaced_ids (drop k ids) ≡ begun ++ spaced_ids ids
+    → begun ≡ before ++ kind ++ 32 ∷ region → text ≡ before ++ join_with_byte 32 (kind ∷ region ∷ map id_text ids)
+ids_put_all text begun before kind region ids k past so_far is =
     let none : drop k ids ≡ [] = grind (arith, common_steps) in
-    sym (append-nil text) ∙ ap (λ t. text ++ spaced_ids t) (sym none) ∙ so_far ∙ append_assoc kind (32 ∷ region) (spaced_ids ids) ∙ ap (λ t. kind ++ 32 ∷ t) (sym (join-ids region ids))
+    sym (append-nil text) ∙ ap (λ t. text ++ spaced_ids t) (sym none) ∙ so_far ∙ ap (λ t. t ++ spaced_ids ids) is
+    ∙ append_assoc (before ++ kind) (32 ∷ region) (spaced_ids ids) ∙ append_assoc before kind (32 ∷ (region ++ spaced_ids ids)) ∙ ap (λ t. before ++ (kind ++ 32 ∷ t)) (sym (join-ids region ids))
+
+-- one more id
+pub ids_put_one : (text after all : List ℕ) (ids : List TxnId) (k : ℕ) (d : TxnId) → k < length ids → text ++ spaced_ids (drop k ids) ≡ all → after ≡ text ++ 32 ∷ id_text (get_or ids k d)
+    → after ++ spaced_ids (drop (k + 1) ids) ≡ all
+ids_put_one text after all ids k d inside so_far one =
+    ap (λ t. t ++ spaced_ids (drop (k + 1) ids)) one ∙ append_assoc text (32 ∷ id_text (get_or ids k d)) (spaced_ids (drop (k + 1) ids)) ∙ ap (λ t. text ++ spaced_ids t) (sym (drop_more ids k d inside)) ∙ so_far
+
+-- ---- bytes that are kept
+
+pub keeps_more : (xs ys more : List ℕ) → Keeps xs ys → Keeps xs (ys ++ more)
+keeps_more xs ys more kept =
+    let within : length xs ≤ length ys = let same = ap length kept in grind (arith, common_steps) in
+    take-append-le (length xs) ys more within ∙ kept
 
 -- ---- lines of a file
 

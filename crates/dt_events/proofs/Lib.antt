@@ -1,3 +1,4 @@
+pub mod BareWords
 pub mod EventWords
 pub mod EveryFile
 pub mod ReadBack

@@ -1,6 +1,6 @@
 -- Only for the functions that the reader of events is made of: what each of them finds in a list of words. Read
 -- Events.antt for what the public calls promise of a line and of a file.
-use Rattle.std.specs.Prelude.{◌≡◌, ◌≢◌, ℕ, ◌<◌, ◌^◌, List, length, map, Option, MatchOption}
+use Rattle.std.specs.Prelude.{◌≡◌, ◌≢◌, ℕ, ◌<◌, ◌^◌, List, length, map, take, Option, MatchOption}
 use Rattle.std.specs.Borrow.{Bor}
 use Rattle.dt_lists.specs.Lists.{AllIn}
 use Rattle.dt_access.specs.declared.TxnId.{TxnId}
@@ -27,3 +27,7 @@ AreShort words = AllIn (λ w. length w < 2 ^ 32) words
 -- ids that submissions can have
 abbrev pub AreIds : List TxnId → Type 0
 AreIds ids = AllIn IsCounted ids
+
+-- bytes that begin with those that were there before
+abbrev pub Keeps : List ℕ → List ℕ → Type 0
+Keeps before now = take (length before) now ≡ before

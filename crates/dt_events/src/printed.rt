@@ -3,6 +3,7 @@ ghost use Rattle.std.specs.Fmt.{decimal};
 ghost use Rattle.std.specs.List.{join_with_byte};
 ghost use Rattle.dt_access.specs.Ids.{id_text};
 ghost use Rattle.dt_events.specs.Events.{event_line, event_text};
+ghost use Rattle.dt_events.specs.Reading.{Keeps};
 
 use crate::event::Event;
 use dt_access::{TxnId, put_id};
@@ -14,112 +15,162 @@ pub fn put_event(alloc: Global, out: &mut Vec<u8>, event: &Event) -> Result<(), 
     ensures added { OnOk result (out.new.items ≡ out.old.items ++ event_line event.now) }
     ensures same { OnErr result (out.new.items ≡ out.old.items) }
 {
-    let mut line = text_of(alloc, event)?;
-    line.push(b'\n')?;
-    out.extend_from_slice(line.as_slice())?;
+    let before = out.len();
+    match put_line(alloc, &mut *out, event) {
+        Ok(()) => Ok(()),
+        Err(error) => {
+            out.truncate(before);
+            Err(error)
+        }
+    }
+}
+
+/// Appends the line of an event, with its end; after `NoMemory` the bytes begin as before.
+fn put_line(alloc: Global, out: &mut Vec<u8>, event: &Event) -> Result<(), NoMemory>
+    ensures added { OnOk result (out.new.items ≡ out.old.items ++ event_line event.now) }
+    ensures kept { OnErr result (Keeps out.old.items out.new.items) }
+{
+    put_text(alloc, &mut *out, event)?;
+    out.push(b'\n')?;
     Ok(())
 }
 
-/// The text of an event.
-fn text_of(alloc: Global, event: &Event) -> Result<Vec<u8>, NoMemory>
-    ensures { IfOk result (λ text. text.items ≡ event_text event.now) }
+/// Appends the text of an event.
+fn put_text(alloc: Global, out: &mut Vec<u8>, event: &Event) -> Result<(), NoMemory>
+    ensures added { OnOk result (out.new.items ≡ out.old.items ++ event_text event.now) }
+    ensures kept { OnErr result (Keeps out.old.items out.new.items) }
 {
     match event {
-        Event::Submit { region, session } => session_text(alloc, b"submit", *region, session),
+        Event::Submit { region, session } => put_session(alloc, out, b"submit", *region, session),
         Event::Append {
             home,
             source,
             number,
-        } => append_text(alloc, *home, *source, *number),
+        } => put_append(alloc, out, *home, *source, *number),
         Event::Deliver {
             region,
             home,
             first,
             last,
-        } => deliver_text(alloc, *region, *home, *first, *last),
-        Event::Insert { region, home } => insert_text(alloc, *region, *home),
-        Event::Resolve { region, ids } => ids_text(
+        } => put_deliver(alloc, out, *region, *home, *first, *last),
+        Event::Insert { region, home } => put_insert(alloc, out, *region, *home),
+        Event::Resolve { region, ids } => put_ids(
             alloc,
+            out,
             b"resolve",
             *region,
             ids.get().as_slice(),
         ),
-        Event::Execute { region, id } => ids_text(alloc, b"execute", *region, &[*id]),
-        Event::Answer { region, session } => session_text(alloc, b"answer", *region, session),
+        Event::Execute { region, id } => put_ids(alloc, out, b"execute", *region, &[*id]),
+        Event::Answer { region, session } => put_session(alloc, out, b"answer", *region, session),
     }
 }
 
-fn append_text(alloc: Global, home: u8, source: u8, number: u32) -> Result<Vec<u8>, NoMemory>
-    ensures { IfOk result (λ text. text.items ≡ event_text (Event.Append home source number)) }
+fn put_append(
+    alloc: Global,
+    out: &mut Vec<u8>,
+    home: u8,
+    source: u8,
+    number: u32,
+) -> Result<(), NoMemory>
+    ensures added { OnOk result (out.new.items ≡ out.old.items ++ event_text (Event.Append home source number)) }
+    ensures kept { OnErr result (Keeps out.old.items out.new.items) }
 {
-    let mut text = begun(alloc, b"append", home)?;
-    put_number(alloc, &mut text, u32::from(source))?;
-    put_number(alloc, &mut text, number)?;
-    Ok(text)
+    put_begin(alloc, &mut *out, b"append", home)?;
+    put_number(alloc, &mut *out, u32::from(source))?;
+    put_number(alloc, &mut *out, number)
 }
 
-fn deliver_text(
+fn put_deliver(
     alloc: Global,
+    out: &mut Vec<u8>,
     region: u8,
     home: u8,
     first: u32,
     last: u32,
-) -> Result<Vec<u8>, NoMemory>
-    ensures { IfOk result (λ text. text.items ≡ event_text (Event.Deliver region home first last)) }
+) -> Result<(), NoMemory>
+    ensures added { OnOk result (out.new.items ≡ out.old.items ++ event_text (Event.Deliver region home first last)) }
+    ensures kept { OnErr result (Keeps out.old.items out.new.items) }
 {
-    let mut text = begun(alloc, b"deliver", region)?;
-    put_number(alloc, &mut text, u32::from(home))?;
-    put_number(alloc, &mut text, first)?;
-    put_number(alloc, &mut text, last)?;
-    Ok(text)
+    put_begin(alloc, &mut *out, b"deliver", region)?;
+    put_number(alloc, &mut *out, u32::from(home))?;
+    put_number(alloc, &mut *out, first)?;
+    put_number(alloc, &mut *out, last)
 }
 
-fn insert_text(alloc: Global, region: u8, home: u8) -> Result<Vec<u8>, NoMemory>
-    ensures { IfOk result (λ text. text.items ≡ event_text (Event.Insert region home)) }
+fn put_insert(alloc: Global, out: &mut Vec<u8>, region: u8, home: u8) -> Result<(), NoMemory>
+    ensures added { OnOk result (out.new.items ≡ out.old.items ++ event_text (Event.Insert region home)) }
+    ensures kept { OnErr result (Keeps out.old.items out.new.items) }
 {
-    let mut text = begun(alloc, b"insert", region)?;
-    put_number(alloc, &mut text, u32::from(home))?;
-    Ok(text)
+    put_begin(alloc, &mut *out, b"insert", region)?;
+    put_number(alloc, &mut *out, u32::from(home))
 }
 
-/// The text of an event with a session.
-fn session_text(alloc: Global, kind: &[u8], region: u8, session: &Name) -> Result<Vec<u8>, NoMemory>
-    ensures { IfOk result (λ text. text.items
-        ≡ join_with_byte 32 (kind.now ∷ decimal region ∷ session.now ∷ [])) }
+/// Appends the text of an event with a session.
+fn put_session(
+    alloc: Global,
+    out: &mut Vec<u8>,
+    kind: &[u8],
+    region: u8,
+    session: &Name,
+) -> Result<(), NoMemory>
+    ensures added { OnOk result (out.new.items ≡ out.old.items
+        ++ join_with_byte 32 (kind.now ∷ decimal region ∷ session.now ∷ [])) }
+    ensures kept { OnErr result (Keeps out.old.items out.new.items) }
 {
-    let mut text = begun(alloc, kind, region)?;
-    text.push(b' ')?;
-    text.extend_from_slice(session.bytes())?;
-    Ok(text)
+    put_begin(alloc, &mut *out, kind, region)?;
+    out.push(b' ')?;
+    out.extend_from_slice(session.bytes())?;
+    Ok(())
 }
 
-/// The text of an event with ids.
-fn ids_text(alloc: Global, kind: &[u8], region: u8, ids: &[TxnId]) -> Result<Vec<u8>, NoMemory>
-    ensures { IfOk result (λ text. text.items
-        ≡ join_with_byte 32 (kind.now ∷ decimal region ∷ map id_text ids.now)) }
+/// Appends the text of an event with ids.
+fn put_ids(
+    alloc: Global,
+    out: &mut Vec<u8>,
+    kind: &[u8],
+    region: u8,
+    ids: &[TxnId],
+) -> Result<(), NoMemory>
+    ensures added { OnOk result (out.new.items ≡ out.old.items
+        ++ join_with_byte 32 (kind.now ∷ decimal region ∷ map id_text ids.now)) }
+    ensures kept { OnErr result (Keeps out.old.items out.new.items) }
 {
-    let mut text = begun(alloc, kind, region)?;
+    put_begin(alloc, &mut *out, kind, region)?;
     for id in ids {
-        text.push(b' ')?;
-        put_id(alloc, &mut text, *id)?;
+        put_next_id(alloc, &mut *out, *id)?;
     }
-    Ok(text)
+    Ok(())
 }
 
-/// The first two words of an event: its kind and its region. There is room for a line as most are.
-fn begun(alloc: Global, kind: &[u8], region: u8) -> Result<Vec<u8>, NoMemory>
-    ensures { IfOk result (λ text. text.items ≡ kind.now ++ 32 ∷ decimal region) }
+/// Appends a space and an id.
+fn put_next_id(alloc: Global, out: &mut Vec<u8>, id: TxnId) -> Result<(), NoMemory>
+    ensures added { OnOk result (out.new.items ≡ out.old.items ++ 32 ∷ id_text id) }
+    ensures kept { OnErr result (Keeps out.old.items out.new.items) }
 {
-    let mut text = Vec::with_capacity(alloc, 64)?;
-    text.extend_from_slice(kind)?;
-    put_number(alloc, &mut text, u32::from(region))?;
-    Ok(text)
+    out.push(b' ')?;
+    put_id(alloc, out, id)
+}
+
+/// Appends the first two words of an event: its kind and its region.
+fn put_begin(alloc: Global, out: &mut Vec<u8>, kind: &[u8], region: u8) -> Result<(), NoMemory>
+    ensures added { OnOk result (out.new.items ≡ out.old.items ++ kind.now ++ 32 ∷ decimal region) }
+    ensures kept { OnErr result (Keeps out.old.items out.new.items) }
+{
+    out.extend_from_slice(kind)?;
+    put_number(alloc, out, u32::from(region))
 }
 
 /// Appends a space and a number.
-fn put_number(alloc: Global, text: &mut Vec<u8>, number: u32) -> Result<(), NoMemory>
-    ensures { OnOk result (text.new.items ≡ text.old.items ++ 32 ∷ decimal number) }
+fn put_number(alloc: Global, out: &mut Vec<u8>, number: u32) -> Result<(), NoMemory>
+    ensures added { OnOk result (out.new.items ≡ out.old.items ++ 32 ∷ decimal number) }
+    ensures kept { OnErr result (Keeps out.old.items out.new.items) }
 {
-    text.push(b' ')?;
-    put_u64(alloc, text, u64::from(number))
+    out.push(b' ')?;
+    if number < 10 {
+        // As nearly all numbers of regions are.
+        out.push(b'0' + number as u8)?;
+        return Ok(());
+    }
+    put_u64(alloc, out, u64::from(number))
 }

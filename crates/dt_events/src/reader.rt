@@ -1,4 +1,4 @@
-ghost use Rattle.std.specs.Prelude.{◌≡◌, ℕ, ◌<◌, ◌^◌, ◌∷◌, ◌≤◌, ◌≢◌, [], List, Some, length, map, codes, IfOk, MatchOption, Err};
+ghost use Rattle.std.specs.Prelude.{◌≡◌, ℕ, ◌<◌, ◌^◌, ◌∷◌, ◌≢◌, [], List, Some, length, map, codes, IfOk, MatchOption, Err};
 ghost use Rattle.std.specs.Fmt.{decimal};
 ghost use Rattle.dt_text.specs.Lines.{lines_of};
 ghost use Rattle.dt_text.specs.Numbers.{ReadsNumber};
@@ -9,7 +9,7 @@ ghost use Rattle.dt_events.specs.Reading.{AreIds, AreShort, Reads, ReadsEvent, s
 
 use crate::event::Event;
 use crate::words::bare_words;
-use dt_access::{Ids, TxnId, read_id};
+use dt_access::{Ids, read_id};
 use dt_text::{Common, Lines, Name, NoMemory, read_u32};
 use std::alloc::{AllocFailed, Global};
 use std::fmt;
@@ -68,9 +68,10 @@ pub fn read_events(alloc: Global, bytes: &[u8]) -> Result<Vec<(u32, Event)>, Eve
     ensures form { (number : ℕ) → result ≡ Err (EventsError.Form number) → FirstWithoutForm (lines_of bytes.now) number }
 {
     let mut events = Vec::new(alloc);
+    let mut words = Vec::new(alloc);
     let mut lines = Lines::new(bytes);
     while let Some(line) = lines.next() {
-        match read_event(alloc, line.bytes)? {
+        match read_event(alloc, line.bytes, &mut words)? {
             Some(event) => events.push((line.number, event))?,
             None => return Err(EventsError::Form(line.number)),
         }
@@ -78,15 +79,21 @@ pub fn read_events(alloc: Global, bytes: &[u8]) -> Result<Vec<(u32, Event)>, Eve
     Ok(events)
 }
 
-/// Reads the event of a line. `None` exactly where the line is no event.
-fn read_event(alloc: Global, line: &[u8]) -> Result<Option<Event>, NoMemory>
+/// Reads the event of a line. `None` exactly where the line is no event. Its words are left in `words`, so that one list serves
+/// all lines.
+fn read_event<'a>(
+    alloc: Global,
+    line: &'a [u8],
+    words: &mut Vec<&'a [u8]>,
+) -> Result<Option<Event>, NoMemory>
     requires { length line.now < 2 ^ 32 }
     ensures { IfOk result (λ event. MatchOption event ((e : Event) → ¬ IsEventLine line.now e) (IsEventLine line.now)) }
 {
-    match bare_words(alloc, line)? {
-        Some(words) => event_of_words(alloc, words.as_slice()),
-        None => Ok(None),
+    let made = bare_words(line, &mut *words)?;
+    if !made {
+        return Ok(None);
     }
+    event_of_words(alloc, words.as_slice())
 }
 
 /// The event with these words.

@@ -1,47 +1,71 @@
-ghost use Rattle.std.specs.Prelude.{◌≡◌, ◌≢◌, ℕ, ◌<◌, ◌^◌, List, Some, length, map, IfOk, MatchOption, All};
-ghost use Rattle.dt_text.specs.Reading.{IsWordIn};
-ghost use Rattle.dt_events.specs.Events.{AreBareWords, bare_bytes};
+ghost use Rattle.std.specs.Prelude.{◌≡◌, ◌≢◌, ◌<◌, ◌≤◌, ◌^◌, ℕ, List, length, drop, slice_index, IfOk, MatchBool};
+ghost use Rattle.dt_text.specs.Words.{is_visible};
+ghost use Rattle.dt_text.specs.Reading.{words_from};
+ghost use Rattle.dt_text.specs.ReadingParts.{BareEndsAt};
+ghost use Rattle.dt_events.specs.Events.{AreBareWords};
 ghost use Rattle.dt_events.specs.Reading.{AreShort, spelled};
 
-use dt_text::{NoMemory, Word, words};
-use std::alloc::Global;
+use dt_text::NoMemory;
 
-/// The words of a line, which stand in it. `None` exactly where the line is not made of bare words.
-pub(crate) fn bare_words<'a>(
-    alloc: Global,
-    line: &'a [u8],
-) -> Result<Option<Vec<&'a [u8]>>, NoMemory>
+/// Finds the words of a line, which stand in it, and puts them in the place of those that were found before. `false` exactly where
+/// the line is not made of bare words.
+pub(crate) fn bare_words<'a>(line: &'a [u8], found: &mut Vec<&'a [u8]>) -> Result<bool, NoMemory>
     requires { length line.now < 2 ^ 32 }
-    ensures exact { IfOk result (λ found. MatchOption found
-        ((bares : List (List ℕ)) → ¬ AreBareWords line.now bares)
-        (λ bares. AreBareWords line.now (spelled bares.items))) }
-    ensures short { IfOk result (λ found. MatchOption found (Unit {0}) (λ bares. AreShort (spelled bares.items))) }
+    ensures exact { IfOk result (λ made. MatchBool made (AreBareWords line.now (spelled found.new.items))
+        ((bares : List (List ℕ)) → ¬ AreBareWords line.now bares)) }
+    ensures short { IfOk result (λ _. AreShort (spelled found.new.items)) }
 {
-    match words(alloc, line)? {
-        Some(words) => bytes_of_words(alloc, line, words.as_slice()),
-        None => Ok(None),
+    found.clear();
+    let mut at = gap_end(line, 0);
+    while at < line.len() {
+        if line[at] == b'"' || !is_visible(line[at]) {
+            return Ok(false);
+        }
+        let end = bare_end(line, at + 1);
+        found.push(&line[at..end])?;
+        at = gap_end(line, end);
     }
+    Ok(true)
 }
 
-/// The bytes of some words of a line, if all are bare.
-fn bytes_of_words<'a>(
-    alloc: Global,
-    line: &'a [u8],
-    words: &[Word],
-) -> Result<Option<Vec<&'a [u8]>>, NoMemory>
-    requires short { length line.now < 2 ^ 32 }
-    requires inside { All (IsWordIn line.now) words.now }
-    ensures exact { IfOk result (λ found. MatchOption found
-        ((bares : List (List ℕ)) → map (bare_bytes line.now) words.now ≢ map (λ w. Some w) bares)
-        (λ bares. map (bare_bytes line.now) words.now ≡ map (λ w. Some w) (spelled bares.items))) }
-    ensures short { IfOk result (λ found. MatchOption found (Unit {0}) (λ bares. AreShort (spelled bares.items))) }
+/// The place of the first byte from `at` on that is no space, or the line's end.
+fn gap_end(line: &[u8], at: usize) -> usize
+    requires { at ≤ length line.now }
+    ensures after { at ≤ result }
+    ensures inside { result ≤ length line.now }
+    ensures no_space { result < length line.now → slice_index line.now result ≢ 32 }
+    ensures same { words_from at (drop at line.now) ≡ words_from result (drop result line.now) }
 {
-    let mut found = Vec::new(alloc);
-    for word in words {
-        match word {
-            Word::Bare(from, to) => found.push(&line[*from as usize..*to as usize])?,
-            Word::Text(_) => return Ok(None),
+    let mut end = at;
+    while end < line.len() {
+        if line[end] != b' ' {
+            return end;
         }
+        end += 1;
     }
-    Ok(Some(found))
+    end
+}
+
+/// The place of the first byte from `at` on that is no part of a bare word, or the line's end.
+fn bare_end(line: &[u8], at: usize) -> usize
+    requires { at ≤ length line.now }
+    ensures after { at ≤ result }
+    ensures inside { result ≤ length line.now }
+    ensures ends { BareEndsAt line.now at result }
+{
+    let mut end = at;
+    while end < line.len() {
+        if !is_visible(line[end]) {
+            return end;
+        }
+        end += 1;
+    }
+    end
+}
+
+/// Whether a bare word may have the byte.
+fn is_visible(byte: u8) -> bool
+    ensures { result ≡ is_visible byte }
+{
+    matches!(byte, b'!'..=b'~')
 }

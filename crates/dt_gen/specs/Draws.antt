@@ -1,4 +1,4 @@
--- The numbers by which a generated load is chosen. They are drawn one after another from a state, each state following from
+-- The pseudo-random numbers behind a generated load. They are drawn one after another from a state, each state following from
 -- the one before, so that the same number of calls always gives the same load. Read next: Load, for what is made of them.
 use Rattle.std.specs.Prelude.{ℕ, zero, suc, ◌+◌, ◌*◌, ◌/◌, ◌%◌}
 

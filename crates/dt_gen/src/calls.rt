@@ -1,4 +1,4 @@
-ghost use Rattle.std.specs.Prelude.{◌≡◌, ◌<◌, ◌≤◌, ◌+◌, ◌*◌, IfOk, map};
+ghost use Rattle.std.specs.Prelude.{◌≡◌, ◌<◌, ◌+◌, ◌*◌, IfOk, map};
 ghost use Rattle.dt_gen.specs.Draws.{state_after};
 ghost use Rattle.dt_gen.specs.Load.{account, account_numbers, account_row, load_call, transfer_call, wanted_by};
 

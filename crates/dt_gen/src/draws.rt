@@ -1,7 +1,7 @@
-ghost use Rattle.std.specs.Prelude.{◌≡◌, ◌<◌, ◌^◌};
+ghost use Rattle.std.specs.Prelude.{◌≡◌};
 ghost use Rattle.dt_gen.specs.Draws.{next_state, number_of_state};
 
-/// Numbers of 15 bits that look drawn by chance, and are the same ones each time.
+/// Pseudo-random numbers of 15 bits, which are the same ones each time.
 #[derive(Drop)]
 pub(crate) struct Draws {
     pub(crate) state: u32,

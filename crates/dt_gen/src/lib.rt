@@ -1,6 +1,6 @@
 //! The generated load: a cluster of accounts and a workload of transfers and moves, of which the number of calls is chosen.
 //!
-//! Read next: `specs/Load.antt`, the load itself; `specs/Draws.antt`, the numbers by which it is chosen.
+//! Read next: `specs/Load.antt`, the load itself; `specs/Draws.antt`, the pseudo-random numbers behind it.
 #![tactic(auto)]
 
 mod accounts;

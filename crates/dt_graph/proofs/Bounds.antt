@@ -1,13 +1,12 @@
 -- What is ready or stuck is a vertex, and there are fewer than a 32-bit number can count.
-use Rattle.std.proofs.Common.{◌≡◌, ◌<◌, ◌≤◌, ◌+◌, ◌^◌, ◌∙◌, ℕ, List, [], ◌∷◌, length, refl, sym, ap, subst, inl, inr, arith}
-use Rattle.std.proofs.lemmas.List.{length-append, length-map}
+use Rattle.std.proofs.Common.{◌≡◌, ◌<◌, ◌≤◌, ◌^◌, ◌∙◌, ℕ, List, length, sym, ap, subst, inl, inr, arith}
 use Rattle.dt_lists.specs.Lists.{AllIn, Has}
 use Rattle.dt_lists.proofs.Callers.{all_get, all_put, distinct_within, has_place}
 use Rattle.dt_access.specs.declared.TxnId.{TxnId}
 use Rattle.dt_access.specs.declared.Part.{Part}
-use Rattle.dt_sched.specs.Views.{View, ids_of}
+use Rattle.dt_sched.specs.Views.{View}
 use Rattle.dt_sched.specs.Sched.{parts_in}
-use Rattle.dt_sched.proofs.Callers.{has_of_present, ids_in}
+use Rattle.dt_sched.proofs.Callers.{has_of_present, ids_in, ids_in_length}
 use Rattle.dt_queue.specs.Queues.{Waiting}
 use Rattle.dt_waits.specs.declared.open.Open.{Open}
 use Rattle.dt_graph.specs.declared.waits.Waits.{Waits}
@@ -15,12 +14,6 @@ use Rattle.dt_waits.specs.Graph.{GraphView, KeepsGraph}
 use Rattle.dt_graph.specs.Held.{IsFitted, kept_of}
 use Rattle.dt_waits.specs.Steps.{Inserts, Leaves, Resolves}
 use Rattle.dt_graph.specs.Subset.{SubsetView}
-use Rattle.dt_waits.proofs.Callers.{sum_first}
-
--- all ids of the parts of a view are as many as its parts
-ids_in_length : (view : View) → length (ids_in view) ≡ parts_in view
-ids_in_length [] = refl
-ids_in_length (log ∷ logs) = length-append (ids_of log) (ids_in logs) ∙ ap (λ n. n + length (ids_in logs)) (length-map log (λ p. p.id)) ∙ ap (λ n. length log + n) (ids_in_length logs) ∙ sym (sum_first length log logs)
 
 -- the ids that have a part are at most as many as the parts
 pub few_ids : (view : View) (resolved : List (List TxnId)) (done : List TxnId) (g : GraphView) → KeepsGraph view resolved done g → length g.ids ≤ parts_in view

@@ -1,6 +1,6 @@
 -- Numbers in ascending order: those from one number on, below another one, are at most as many as the two are apart; and they
 -- are that many just where each of them is there.
-use Rattle.std.proofs.Common.{◌≡◌, ◌+◌, ◌<◌, ◌≤◌, ◌⊎◌, ℕ, suc, List, [], ◌∷◌, length, inl, inr, arith}
+use Rattle.std.proofs.Common.{◌≡◌, ◌+◌, ◌<◌, ◌≤◌, ◌⊎◌, ℕ, zero, suc, List, [], ◌∷◌, length, slice_get, None, Some, inl, inr, arith}
 use Rattle.dt_lists.specs.Lists.{AllIn, Has, EachThen}
 use Rattle.dt_lists.proofs.Callers.{all_get, all_map, either_nat}
 
@@ -94,3 +94,24 @@ full_length a b (x ∷ xs) up low high le all = joined (length xs) first (full_l
 
     joined : (n : ℕ) → x ≡ a → n + suc x ≡ b → suc n + a ≡ b
     joined n e f = omega (arith, e, f)
+
+-- no number is less than its place
+pub place_below : (a : ℕ) (xs : List ℕ) → EachThen ◌<◌ xs → AllIn (λ v. a ≤ v) xs → (i v : ℕ) → slice_get xs i ≡ Some v → i + a ≤ v
+place_below a [] up low i v e = cc
+place_below a (x ∷ xs) up low zero v e = first (same e)
+  where
+    same : Some x ≡ Some v → x ≡ v
+    same e = cc
+
+    first : x ≡ v → zero + a ≤ v
+    first f = omega (arith, f, low.0)
+place_below a (x ∷ xs) up low (suc i) v e = more (place_below (suc x) xs up.1 (later_above x xs up.0) i v e)
+  where
+    more : i + suc x ≤ v → suc i + a ≤ v
+    more f = omega (arith, f, low.0)
+
+-- at each place within a list stands something
+pub place_taken : {A : Type 0} (xs : List A) (i : ℕ) → i < length xs → slice_get xs i ≡ None → ⊥
+place_taken [] i lt e = omega (arith, lt)
+place_taken (x ∷ xs) zero lt e = cc
+place_taken (x ∷ xs) (suc i) lt e = place_taken xs i (omega (arith, lt)) e

@@ -13,14 +13,14 @@ use Rattle.dt_lists.specs.Lists.{AllIn, Has, Distinct, EachThen}
 use Rattle.dt_lists.proofs.Callers.{all_append, all_get, all_put, each_map, each_of_image, place_within}
 use Rattle.dt_access.specs.Ids.{Before, same_id}
 use Rattle.dt_access.specs.declared.TxnId.{TxnId}
-use Rattle.dt_access.proofs.Callers.{id_of_test, same_by_parts, same_id_turned, test_of_id}
+use Rattle.dt_access.proofs.Callers.{by_parts, id_of_test, same_by_parts, same_id_turned, test_of_id}
 use Rattle.dt_graph.specs.declared.graph.Member.{Member}
 use Rattle.dt_waits.specs.Graph.{GraphView, vertex_at}
 use Rattle.dt_graph.specs.Names.{IsNumberOf}
 use Rattle.dt_waits.specs.Steps.{RunInOrder, RunsBefore}
 use Rattle.dt_waits.specs.Waits.{id_at}
 use Rattle.dt_waits.proofs.Callers.{at_named, take_all}
-use Rattle.dt_graph.proofs.SortResults.{by_parts, each_of_sorted, permuted_distinct, permuted_has}
+use Rattle.dt_graph.proofs.SortResults.{each_of_sorted, permuted_distinct, permuted_has}
 
 -- the member is a vertex of the graph, with its id and its rank
 abbrev pub IsMemberOf : GraphView → Member → Type 0

@@ -1,9 +1,7 @@
 -- Lists that a sort gives: they have the same items, and where none stands twice each item is before all later ones.
-use Rattle.std.proofs.Common.{◌≡◌, ◌∙◌, ℕ, suc, ◌+◌, ◌<◌, ◌⊎◌, ◌↔◌, Bool, true, false, List, [], ◌∷◌, get_or, map, refl, sym, subst, inl, inr, arith, IsPermutation, IsSorted}
-use Rattle.std.specs.Ordering.{nat_cmp, ordering_then, is_lt}
-use Rattle.std.specs.Cmp.{nat_cmp_is}
+use Rattle.std.proofs.Common.{◌≡◌, ◌∙◌, ℕ, suc, ◌+◌, ◌⊎◌, ◌↔◌, Bool, true, false, List, [], ◌∷◌, get_or, map, sym, subst, inl, inr, arith, IsPermutation, IsSorted}
+use Rattle.std.specs.Ordering.{is_lt}
 use Rattle.std.specs.declared.cmp.Ordering.{Ordering}
-use Rattle.std.specs.declared.cmp.Ordering.TheVariants.{Less, Equal}
 use Rattle.std.specs.List.{AllByRecursion, IsDistinct, list_any}
 use Rattle.std.proofs.lemmas.Map.Keys.{IsDistinct-IsPermutation}
 use Rattle.std.proofs.lemmas.List.Sorted.{list_any-IsPermutation}
@@ -12,7 +10,7 @@ use Rattle.dt_lists.specs.Lists.{AllIn, Has, Distinct, EachThen}
 use Rattle.dt_lists.proofs.Callers.{all_map, any_image, any_map, any_of_image, any_of_test, test_of_any}
 use Rattle.dt_access.specs.Ids.{Before, same_id}
 use Rattle.dt_access.specs.declared.TxnId.{TxnId}
-use Rattle.dt_access.proofs.Callers.{before_total, before_transitive, id_of_test, same_id_turned, test_of_id}
+use Rattle.dt_access.proofs.Callers.{before_less, before_total, before_transitive, by_parts, id_of_test, same_id_turned, test_of_id}
 use Rattle.dt_graph.specs.SmallSteps.{AreIdsAt}
 use Rattle.dt_waits.specs.Waits.{id_at}
 
@@ -72,24 +70,6 @@ module _ {A : Type 0} (cmp : A → A → Ordering) (R : A → A → Type 0) (one
       let rest : EachThen R (y ∷ ys) = each_of_sorted (y ∷ ys) (sorted_tail x (y ∷ ys) s) d.1 in
       let first : R x y = elim (one_way x y d.0.0) [ inl b ↦ b | inr b ↦ absurd (not_above x y ys s b) ] in
       ((first, all_map (R y) (R x) ys (λ z b. onward x y z first b) rest.0), rest)
-
--- the order in which a sort compares ids
-abbrev pub by_parts : TxnId → TxnId → Ordering
-by_parts a b = ordering_then (nat_cmp a.seq b.seq) (nat_cmp a.region b.region)
-
--- an id that is before another one is less
-pub before_less : (a b : TxnId) → Before a b → is_lt (by_parts a b) ≡ true
-before_less a b (inl h) = rw (less a.seq b.seq h) refl
-  where
-    less : (m n : ℕ) → m < n → nat_cmp m n ≡ Less
-    less m n h = sym (nat_cmp_is m n Less h)
-before_less a b (inr h) = rw (h.0, same_number b.seq, less a.region b.region h.1) refl
-  where
-    less : (m n : ℕ) → m < n → nat_cmp m n ≡ Less
-    less m n h = sym (nat_cmp_is m n Less h)
-
-    same_number : (n : ℕ) → nat_cmp n n ≡ Equal
-    same_number n = sym (nat_cmp_is n n Equal refl)
 
 -- ids of places, sorted
 pub ids_sorted : (ids : List TxnId) (list places : List ℕ) (xs ys : List TxnId) → xs ≡ map (λ p. id_at ids (get_or list p 0)) places → IsPermutation xs ys → IsSorted by_parts ys

@@ -6,7 +6,7 @@ use Rattle.std.proofs.lemmas.List.{get_or-set_same, get_or-set_other, length-app
 use Rattle.std.proofs.Math.ListN.{get_or-append}
 use Rattle.dt_lists.specs.Lists.{AllIn, Has, Distinct}
 use Rattle.dt_lists.proofs.Callers.{all_append, all_append_left, all_get, all_map, all_put, distinct_push, distinct_within, each_append_left, each_across, either_nat, has_last, has_longer, has_more}
-use Rattle.dt_lists.proofs.Callers.{has_place, place_in_longer, place_in_more, place_of}
+use Rattle.dt_lists.proofs.Callers.{all_set, has_place, last_place, place_in_longer, place_in_more, place_of, place_within, some_same}
 use Rattle.dt_waits.proofs.Callers.{one_place}
 use Rattle.dt_graph.specs.Subset.{PutsIn, StandsAtPlace, IsSubset, Removes}
 
@@ -38,11 +38,6 @@ fewer_below n xs v d within lt absent = more (length xs) (few_below n (v ∷ xs)
     more m le = omega (arith, le)
 
 -- lists in which one item is replaced
-
-all_set : {A : Type 0} (P : A → Type 0) (xs : List A) (i : ℕ) (y : A) → AllIn P xs → P y → AllIn P (set xs i y)
-all_set P [] i y all p = tt
-all_set P (x ∷ xs) zero y all p = (p, all.1)
-all_set P (x ∷ xs) (suc i) y all p = (all.0, all_set P xs i y all.1 p)
 
 distinct_set : (xs : List ℕ) (i y : ℕ) → Distinct xs → ¬ (Has xs y) → Distinct (set xs i y)
 distinct_set [] i y d n = tt
@@ -78,13 +73,6 @@ set_beside (z ∷ xs) zero (suc j) y ne = refl
 set_beside (z ∷ xs) (suc i) zero y ne = refl
 set_beside (z ∷ xs) (suc i) (suc j) y ne = set_beside xs i j y (λ e. ne (ap suc e))
 
-last_place : {A : Type 0} (xs : List A) (x : A) → slice_get (xs ++ x ∷ []) (length xs) ≡ Some x
-last_place [] x = refl
-last_place (y ∷ ys) x = last_place ys x
-
-same_some : {A : Type 0} {x y : A} → Some x ≡ Some y → x ≡ y
-same_some e = cc
-
 -- a test of a place
 pub none_of_test : {A : Type 0} (place : Option A) (b : Bool) → is_some place ≡ not b → b ≡ true → place ≡ None
 none_of_test None b e t = refl
@@ -96,14 +84,15 @@ some_of_test (Some x) b e t = (x, refl)
 
 -- more room serves as well
 pub subset_room : (items : List ℕ) (places : List (Option ℕ)) (less more : ℕ) → less ≤ more → IsSubset items places less → IsSubset items places more
-subset_room items places less more le s = record { fits = join _ _ _ s.fits le; once = s.once; within = s.within; narrow = s.narrow; placed = s.placed }
+subset_room items places less more le s = record { few = s.few; fits = join _ _ _ s.fits le; once = s.once; within = s.within; narrow = s.narrow; placed = s.placed }
   where
     join : (a b c : ℕ) → a ≤ b → b ≤ c → a ≤ c
     join a b c e f = omega (arith, e, f)
 
 -- a higher bound by one
-pub subset_reached : (items : List ℕ) (places : List (Option ℕ)) (less more : ℕ) → IsSubset items places less → length places + 1 ≤ more → IsSubset items (places ++ None ∷ []) more
-subset_reached items places less more s le = record {
+pub subset_reached : (items : List ℕ) (places : List (Option ℕ)) (less more : ℕ) → IsSubset items places less → length places + 1 < 2 ^ 32 → length places + 1 ≤ more → IsSubset items (places ++ None ∷ []) more
+subset_reached items places less more s few le = record {
+  few = subst (λ n. n < 2 ^ 32) (sym (length-append places (None ∷ []))) few;
   fits = subst (λ n. n ≤ more) (sym (length-append places (None ∷ []))) le;
   once = s.once;
   within = all_map _ _ items (λ v lt. subst (λ n. v < n) (sym (length-append places (None ∷ []))) (grown v lt)) s.within;
@@ -150,12 +139,23 @@ module _ (items : List ℕ) (places : List (Option ℕ)) (room : ℕ) (s : IsSub
       less : (a b c : ℕ) → a < b → b ≤ c → a < c
       less a b c e f = omega (arith, e, f)
 
-  -- its place has 32 bits, as all numbers have
-  pub place_fits : number < 2 ^ 32 → get_or places number None ≡ None → length items < 2 ^ 32
-  place_fits small e = fewer_below (2 ^ 32) items number s.once s.narrow small (unplaced_absent e)
+  -- its place is below the bound, as all numbers are
+  pub place_fits : get_or places number None ≡ None → length items + 1 < 2 ^ 32
+  place_fits e = less _ _ (fewer_below (length places) items number s.once s.within lt (unplaced_absent e)) s.few
+    where
+      less : (a b : ℕ) → a < b → b < 2 ^ 32 → a + 1 < 2 ^ 32
+      less a b e f = omega (arith, e, f)
+
+  -- the place of a number that is there, too
+  pub found_fits : (place : ℕ) → get_or places number None ≡ Some place → place + 1 < 2 ^ 32
+  found_fits place e = less _ _ _ (place_within items place number (subst (StandsAtPlace items number) e (s.placed number lt))) (few_below (length places) items s.once s.within) s.few
+    where
+      less : (a b c : ℕ) → a < b → b ≤ c → c < 2 ^ 32 → a + 1 < 2 ^ 32
+      less a b c e f g = omega (arith, e, f, g)
 
   pub subset_added : number < 2 ^ 32 → get_or places number None ≡ None → IsSubset (items ++ number ∷ []) (set places number (Some (length items))) room
   subset_added small e = record {
+    few = subst (λ n. n < 2 ^ 32) (sym (length-set places number (Some (length items)))) s.few;
     fits = subst (λ n. n ≤ room) (sym (length-set places number (Some (length items)))) s.fits;
     once = distinct_push items number s.once (unplaced_absent e);
     within = subst (λ n. AllIn (λ v. v < n) (items ++ number ∷ [])) (sym (length-set places number (Some (length items)))) (all_append _ items (number ∷ []) s.within (lt, tt));
@@ -199,6 +199,7 @@ module _ (items : List ℕ) (places : List (Option ℕ)) (room : ℕ) (s : IsSub
 
     pub subset_removed_last : IsSubset front (set places number None) room
     subset_removed_last = record {
+      few = subst (λ n. n < 2 ^ 32) (sym (length-set places number None)) s.few;
       fits = subst (λ n. n ≤ room) (sym (length-set places number None)) s.fits;
       once = each_append_left _ front (number ∷ []) once_front;
       within = subst (λ n. AllIn (λ v. v < n) front) (sym (length-set places number None)) (all_append_left _ front (number ∷ []) (subst (AllIn (λ v. v < length places)) is s.within));
@@ -251,6 +252,7 @@ module _ (items : List ℕ) (places : List (Option ℕ)) (room : ℕ) (s : IsSub
 
     pub subset_removed : IsSubset (set front place last) (set (set places last (Some place)) number None) room
     subset_removed = record {
+      few = subst (λ n. n < 2 ^ 32) (sym size) s.few;
       fits = subst (λ n. n ≤ room) (sym size) s.fits;
       once = distinct_set front place last once_in_front last_absent;
       within = subst (λ n. AllIn (λ v. v < n) (set front place last)) (sym size) (all_set _ front place last (all_append_left _ front (last ∷ []) (subst (AllIn (λ v. v < length places)) is s.within)) last_within);
@@ -266,7 +268,7 @@ module _ (items : List ℕ) (places : List (Option ℕ)) (room : ℕ) (s : IsSub
           | inl e ↦ nl (sym e)
           | inr r ↦ p (has_longer front (last ∷ []) n (has_place front r.0 n r.2))
         ]
-        beside n ne nl (Some q) p = set_beside front place q last (λ e. ne (same_some (sym in_front ∙ ap (slice_get front) e ∙ at_front))) ∙ in_front
+        beside n ne nl (Some q) p = set_beside front place q last (λ e. ne (some_same (sym in_front ∙ ap (slice_get front) e ∙ at_front))) ∙ in_front
           where
             in_front : slice_get front q ≡ Some n
             in_front = elim (place_in_more front last q n p) [ inl o ↦ o | inr f ↦ absurd (nl (sym f.1)) ]
@@ -294,7 +296,7 @@ module _ (items : List ℕ) (places : List (Option ℕ)) (room : ℕ) (s : IsSub
         λ o. elim (has_more front last n (subst (λ l. Has l n) is o.0)) [
           | inl h ↦
               let p : (i : ℕ) × (slice_get front i ≡ Some n) = place_of front n h in
-              has_place (set front place last) p.0 n (set_beside front place p.0 last (λ e. o.1 (same_some (sym p.1 ∙ ap (slice_get front) e ∙ at_front))) ∙ p.1)
+              has_place (set front place last) p.0 n (set_beside front place p.0 last (λ e. o.1 (some_same (sym p.1 ∙ ap (slice_get front) e ∙ at_front))) ∙ p.1)
           | inr e ↦ subst (Has (set front place last)) e (has_place (set front place last) place last (set_here front place number last at_front))
         ],
       );
@@ -302,8 +304,3 @@ module _ (items : List ℕ) (places : List (Option ℕ)) (room : ℕ) (s : IsSub
 
     pub removed_at : (bound later : ℕ) → later ≡ bound → Removes number (record { bound = bound; items = items }) (record { bound = later; items = set front place last })
     removed_at bound later e = record { bound = e; members = (removed bound).members }
-
--- where something stands the list isn't empty
-pub not_empty : {A : Type 0} (xs : List A) (x : A) → Has xs x → length xs ≡ 0 → ⊥
-not_empty [] x h e = h
-not_empty (y ∷ ys) x h e = omega (arith, e)

@@ -9,12 +9,12 @@ use Rattle.dt_class.specs.Graphs.{AdjView}
 use Rattle.dt_queue.specs.Queues.{IsQueued, Waiting, neighbours}
 use Rattle.dt_waits.specs.Waits.{is_of, slots_of}
 use Rattle.dt_waits.specs.Among.{HasNeighbour}
-use Rattle.dt_graph.specs.Links.{IsSourceAt, IsSourceOf, Links}
+use Rattle.dt_graph.specs.Links.{IsSourceAt, IsSourceOf, HasLinked}
 use Rattle.dt_waits.proofs.Callers.{one_place}
 
 -- one source that is in the list
 pub links_in : (list : List ℕ) (place : ℕ) (graph : AdjView) (n source : ℕ) → Distinct list → slice_get list source ≡ Some n
-    → Links (λ u. n ≡ u) list place graph (record graph { edges = graph.edges ++ record { source = source; target = place } ∷ [] }) false
+    → HasLinked (λ u. n ≡ u) list place graph (record graph { edges = graph.edges ++ record { source = source; target = place } ∷ [] }) false
 links_in list place graph n source once at = record {
   vertices = refl;
   edges = λ p q. (
@@ -32,7 +32,7 @@ links_in list place graph n source once at = record {
 }
 
 -- one source that is none of the list
-pub links_out : (list : List ℕ) (place : ℕ) (graph : AdjView) (n : ℕ) → ¬ (Has list n) → Links (λ u. n ≡ u) list place graph graph true
+pub links_out : (list : List ℕ) (place : ℕ) (graph : AdjView) (n : ℕ) → ¬ (Has list n) → HasLinked (λ u. n ≡ u) list place graph graph true
 links_out list place graph n out = record {
   vertices = refl;
   edges = λ p q. (λ e. inl e, λ s. elim s [ inl e ↦ e | inr r ↦ absurd (out (subst (Has list) (sym r.1.2) (has_place list p r.1.0 r.1.1))) ]);
@@ -40,7 +40,7 @@ links_out list place graph n out = record {
 }
 
 -- more sources
-pub links_more : (S T : ℕ → Type 0) (list : List ℕ) (place : ℕ) (a b c : AdjView) (x y : Bool) → Links S list place a b x → Links T list place b c y → Links (λ u. S u ⊎ T u) list place a c (x || y)
+pub links_more : (S T : ℕ → Type 0) (list : List ℕ) (place : ℕ) (a b c : AdjView) (x y : Bool) → HasLinked S list place a b x → HasLinked T list place b c y → HasLinked (λ u. S u ⊎ T u) list place a c (x || y)
 links_more S T list place a b c x y l m = record {
   vertices = m.vertices ∙ l.vertices;
   edges = λ p q. (
@@ -68,7 +68,7 @@ links_more S T list place a b c x y l m = record {
     back false y i j r = elim r.1 [ inl s ↦ absurd (true≢false (sym (i.1 (r.0, s, r.2)))) | inr t ↦ j.1 (r.0, t, r.2) ]
 
 -- the same sources, put otherwise
-pub links_same : (S T : ℕ → Type 0) (list : List ℕ) (place : ℕ) (a b : AdjView) (x : Bool) → ((u : ℕ) → S u ↔ T u) → Links S list place a b x → Links T list place a b x
+pub links_same : (S T : ℕ → Type 0) (list : List ℕ) (place : ℕ) (a b : AdjView) (x : Bool) → ((u : ℕ) → S u ↔ T u) → HasLinked S list place a b x → HasLinked T list place a b x
 links_same S T list place a b x same l = record {
   vertices = l.vertices;
   edges = λ p q. (
@@ -83,7 +83,7 @@ links_same S T list place a b x same l = record {
 
 -- the sources of one item more of a list
 pub links_next : (S : ℕ → ℕ → Type 0) (xs : List ℕ) (i : ℕ) (list : List ℕ) (place : ℕ) (a b c : AdjView) (x y : Bool) → i < length xs
-    → Links (λ u. AnyIn (λ n. S n u) (take i xs)) list place a b x → Links (S (get_or xs i 0)) list place b c y → Links (λ u. AnyIn (λ n. S n u) (take (i + 1) xs)) list place a c (x || y)
+    → HasLinked (λ u. AnyIn (λ n. S n u) (take i xs)) list place a b x → HasLinked (S (get_or xs i 0)) list place b c y → HasLinked (λ u. AnyIn (λ n. S n u) (take (i + 1) xs)) list place a c (x || y)
 links_next S xs i list place a b c x y lt l m =
     links_same (λ u. AnyIn (λ n. S n u) (take i xs) ⊎ S (get_or xs i 0) u) (λ u. AnyIn (λ n. S n u) (take (i + 1) xs)) list place a c (x || y)
     (λ u. (forth u, back u)) (links_more (λ u. AnyIn (λ n. S n u) (take i xs)) (S (get_or xs i 0)) list place a b c x y l m)
@@ -101,10 +101,10 @@ links_next S xs i list place a b c x y lt l m =
     ]
 
 -- one neighbour more, which is in the list
-pub links_next_in : (xs : List ℕ) (i : ℕ) (list : List ℕ) (place : ℕ) (a b c : AdjView) (x y : Bool) (source : ℕ) → Distinct list → i < length xs → Links (Has (take i xs)) list place a b x
-    → slice_get list source ≡ Some (get_or xs i 0) → c ≡ record b { edges = b.edges ++ record { source = source; target = place } ∷ [] } → y ≡ x → Links (Has (take (i + 1) xs)) list place a c y
+pub links_next_in : (xs : List ℕ) (i : ℕ) (list : List ℕ) (place : ℕ) (a b c : AdjView) (x y : Bool) (source : ℕ) → Distinct list → i < length xs → HasLinked (Has (take i xs)) list place a b x
+    → slice_get list source ≡ Some (get_or xs i 0) → c ≡ record b { edges = b.edges ++ record { source = source; target = place } ∷ [] } → y ≡ x → HasLinked (Has (take (i + 1) xs)) list place a c y
 links_next_in xs i list place a b c x y source once lt l at e f =
-    subst (λ z. Links (Has (take (i + 1) xs)) list place a z y) (sym e) (subst (Links (Has (take (i + 1) xs)) list place a _) (or_false x ∙ sym f)
+    subst (λ z. HasLinked (Has (take (i + 1) xs)) list place a z y) (sym e) (subst (HasLinked (Has (take (i + 1) xs)) list place a _) (or_false x ∙ sym f)
     (links_next (λ n u. n ≡ u) xs i list place a b _ x false lt l (links_in list place b (get_or xs i 0) source once at)))
   where
     or_false : (x : Bool) → (x || false) ≡ x
@@ -112,10 +112,10 @@ links_next_in xs i list place a b c x y source once lt l at e f =
     or_false false = refl
 
 -- one neighbour more, which is none of the list
-pub links_next_out : (xs : List ℕ) (i : ℕ) (list : List ℕ) (place : ℕ) (a b c : AdjView) (x y : Bool) → i < length xs → Links (Has (take i xs)) list place a b x
-    → ¬ (Has list (get_or xs i 0)) → c ≡ b → y ≡ true → Links (Has (take (i + 1) xs)) list place a c y
+pub links_next_out : (xs : List ℕ) (i : ℕ) (list : List ℕ) (place : ℕ) (a b c : AdjView) (x y : Bool) → i < length xs → HasLinked (Has (take i xs)) list place a b x
+    → ¬ (Has list (get_or xs i 0)) → c ≡ b → y ≡ true → HasLinked (Has (take (i + 1) xs)) list place a c y
 links_next_out xs i list place a b c x y lt l out e f =
-    subst (λ z. Links (Has (take (i + 1) xs)) list place a z y) (sym e) (subst (Links (Has (take (i + 1) xs)) list place a _) (or_true x ∙ sym f)
+    subst (λ z. HasLinked (Has (take (i + 1) xs)) list place a z y) (sym e) (subst (HasLinked (Has (take (i + 1) xs)) list place a _) (or_true x ∙ sym f)
     (links_next (λ n u. n ≡ u) xs i list place a b b x true lt l (links_out list place b (get_or xs i 0) out)))
   where
     or_true : (x : Bool) → (x || true) ≡ true
@@ -123,7 +123,7 @@ links_next_out xs i list place a b c x y lt l out e f =
     or_true false = refl
 
 -- the sources are the vertices of entries
-pub links_of_entries : (ws : List Waiting) (list : List ℕ) (place : ℕ) (a b : AdjView) (x : Bool) → Links (Has (map (λ w. w.vertex) ws)) list place a b x → Links (λ u. AnyIn (λ w. w.vertex ≡ u) ws) list place a b x
+pub links_of_entries : (ws : List Waiting) (list : List ℕ) (place : ℕ) (a b : AdjView) (x : Bool) → HasLinked (Has (map (λ w. w.vertex) ws)) list place a b x → HasLinked (λ u. AnyIn (λ w. w.vertex ≡ u) ws) list place a b x
 links_of_entries ws list place a b x l =
     links_same (Has (map (λ w. w.vertex) ws)) (λ u. AnyIn (λ w. w.vertex ≡ u) ws) list place a b x
     (λ u. (any_of_image (λ v. v ≡ u) (λ w. w.vertex) ws, any_image (λ v. v ≡ u) (λ w. w.vertex) ws)) l

@@ -8,7 +8,7 @@ use Rattle.dt_class.specs.Graphs.{AdjView, IsEdge}
 use Rattle.dt_queue.specs.Queues.{Waiting}
 use Rattle.dt_waits.specs.Waits.{slots_of}
 use Rattle.dt_waits.specs.Among.{HasNeighbour, IsAmong, WaitsOutside}
-use Rattle.dt_graph.specs.Links.{IsSourceAt, Links}
+use Rattle.dt_graph.specs.Links.{IsSourceAt, HasLinked}
 use Rattle.dt_waits.specs.declared.vertex.Vertex.{Vertex}
 use Rattle.dt_waits.specs.Graph.{vertex_at}
 use Rattle.dt_waits.specs.Steps.{HaveSlots}
@@ -55,7 +55,7 @@ gathered waiting list place graph blocked past g = record {
 
 -- one place more
 module _ (waiting : List Waiting) (list : List ℕ) (place v : ℕ) (graph new : AdjView) (blocked : List ℕ) (b : Bool) (at : slice_get list place ≡ Some v)
-    (l : Links (IsSourceAt waiting (slots_of waiting v)) list place graph new b) (g : IsGathering waiting list place graph blocked) where
+    (l : HasLinked (IsSourceAt waiting (slots_of waiting v)) list place graph new b) (g : IsGathering waiting list place graph blocked) where
   some_same : {x y : ℕ} → Some x ≡ Some y → x ≡ y
   some_same s = cc
 

@@ -5,9 +5,9 @@ use Rattle.dt_lists.specs.Lists.{AnyIn, Has}
 use Rattle.dt_class.specs.Graphs.{AdjView, IsEdge}
 use Rattle.dt_queue.specs.Queues.{Waiting, neighbours}
 
--- to the graph the edges were added into the vertex at a place of the list, from the sources; and it is reported whether some
--- source is none of the list
-pub record Links (sources : ℕ → Type 0) (list : List ℕ) (place : ℕ) (old new : AdjView) (blocked : Bool) : Type 0 where
+-- the edges from the sources into the vertex at a place of the list were added to the graph; and it is reported whether some
+-- source is not in the list
+pub record HasLinked (sources : ℕ → Type 0) (list : List ℕ) (place : ℕ) (old new : AdjView) (blocked : Bool) : Type 0 where
   pub vertices : new.vertices ≡ old.vertices
   pub edges : (p q : ℕ) → IsEdge new p q ↔ IsEdge old p q ⊎ (q ≡ place) × ((u : ℕ) × (slice_get list p ≡ Some u) × sources u)
   pub is_blocked : IsTrue blocked ↔ (u : ℕ) × sources u × ¬ (Has list u)

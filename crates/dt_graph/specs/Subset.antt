@@ -14,8 +14,9 @@ abbrev pub StandsAtPlace : List ℕ → ℕ → Option ℕ → Type 0
 StandsAtPlace items number None = ¬ (Has items number)
 StandsAtPlace items number (Some place) = slice_get items place ≡ Some number
 
--- the list and the places of its items are kept right, with so much room for the list; both have 32 bits
+-- the list and the places of its items are kept right, with this much room for the list; the bound, and so the places, have 32 bits
 pub record IsSubset (items : List ℕ) (places : List (Option ℕ)) (room : ℕ) : Type 0 where
+  pub few : length places < 2 ^ 32
   pub fits : length places ≤ room
   pub once : Distinct items
   pub within : AllIn (λ number. number < length places) items

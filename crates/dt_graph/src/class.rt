@@ -1,8 +1,8 @@
-ghost use Rattle.std.specs.Prelude.{◌≡◌, ◌<◌, ◌^◌, IfOk, OnOk, length};
+ghost use Rattle.std.specs.Prelude.{◌≡◌, ◌<◌, ◌^◌, IfOk, length};
 ghost use Rattle.dt_lists.specs.Lists.{AllIn, Distinct};
 ghost use Rattle.dt_queue.specs.Queues.{HasDistinctSlots, IsQueued};
 ghost use Rattle.dt_waits.specs.Among.{IsAmong};
-ghost use Rattle.dt_graph.specs.Links.{IsSourceAt, IsSourceOf, Links};
+ghost use Rattle.dt_graph.specs.Links.{IsSourceAt, IsSourceOf, HasLinked};
 ghost use Rattle.dt_waits.specs.Steps.{HaveSlots};
 
 use crate::group::Group;
@@ -20,7 +20,7 @@ pub struct Among {
 }
 
 /// Puts in the edges from the neighbours of the entry at a slot to the vertex at a place, and says whether some neighbour is
-/// none of the group.
+/// not in the group.
 fn link_slot(
     alloc: Global,
     queues: &Queues,
@@ -33,7 +33,7 @@ fn link_slot(
     requires once { Distinct group.now }
     requires place { place < graph.old.vertices }
     requires size { graph.old.vertices ≡ length group.now }
-    ensures { IfOk result (Links (IsSourceOf queues.now slot) group.now place graph.old graph.new) }
+    ensures { IfOk result (HasLinked (IsSourceOf queues.now slot) group.now place graph.old graph.new) }
 {
     let neighbours = queues.neighbours(alloc, slot)?;
     let mut blocked = false;
@@ -46,7 +46,7 @@ fn link_slot(
     Ok(blocked)
 }
 
-/// Puts in the edges into the vertex at a place, and says whether it waits for some that is none of the group.
+/// Puts in the edges into the vertex at a place, and says whether it waits for some vertex that is not in the group.
 fn link(
     alloc: Global,
     queues: &Queues,
@@ -59,7 +59,7 @@ fn link(
     requires once { Distinct group.now }
     requires place { place < graph.old.vertices }
     requires size { graph.old.vertices ≡ length group.now }
-    ensures { IfOk result (Links (IsSourceAt queues.now slots.now) group.now place graph.old graph.new) }
+    ensures { IfOk result (HasLinked (IsSourceAt queues.now slots.now) group.now place graph.old graph.new) }
 {
     let mut blocked = false;
     for slot in slots {

@@ -1,4 +1,4 @@
-ghost use Rattle.std.specs.Prelude.{◌≡◌, ◌≤◌, ◌<◌, ◌⊎◌, ◌↔◌, ℕ, List, [], IfOk, IsTrue, MatchOption, OnErr, OnOk, Some, length, slice_get};
+ghost use Rattle.std.specs.Prelude.{◌≡◌, ◌<◌, ◌↔◌, ℕ, List, IfOk, IsTrue, MatchOption, OnErr, OnOk, Some, length, slice_get};
 ghost use Rattle.dt_lists.specs.Lists.{AllIn, Distinct, Has};
 ghost use Rattle.dt_access.specs.Ids.{AreAscending};
 ghost use Rattle.dt_access.specs.Orders.{AreAscendingHomes};
@@ -90,7 +90,7 @@ impl Graph {
         }
     }
 
-    /// Some transaction that is ready and none of the busy ones.
+    /// Some transaction that is ready and not among the busy ones.
     pub fn ready_beside(&self, busy: &[TxnId]) -> Option<TxnId>
         ensures { MatchOption result ((v : ℕ) → Has self.now.ready v → Has busy.now (id_at self.now.ids v))
             (λ id. ((v : ℕ) × Has self.now.ready v × (id_at self.now.ids v ≡ id)) × (Has busy.now id → ⊥)) }
@@ -226,7 +226,7 @@ impl Graph {
     {
         if let Some(vertex) = self.names.number_of(id) {
             self.waits.ready.remove(vertex);
-            match self.waits.vertices[vertex as usize].class {
+            match self.waits.vertices[vertex as usize].class.get() {
                 None => self.waits.leave(&[vertex]),
                 Some(class) => self.finish_in(class),
             }
@@ -234,11 +234,11 @@ impl Graph {
     }
 
     /// Lets the next member of a resolved class be done: the one after it is ready, or the class leaves.
-    fn finish_in(&mut self, class: usize)
+    fn finish_in(&mut self, class: u32)
         requires { MayFinishIn class self.old }
         ensures { FinishesIn class self.old self.new }
     {
-        let kept = &mut self.classes[class];
+        let kept = &mut self.classes[class as usize];
         kept.next += 1;
         match kept.members.as_slice().get(kept.next) {
             Some(vertex) => self.waits.ready.add(*vertex),

@@ -1,7 +1,7 @@
 //! The scheduler with queues: it decides from what is left in the graph, and from nothing else, what may be executed and
 //! resolved.
 //!
-//! Once all that reaches a transaction is done, it is out: nothing waits for it, and no answer reads it any more. Of the
+//! Once all that reaches a transaction is done, it is out: nothing waits for it, and no answer reads it. Of the
 //! others, each use of a row stands in a queue (the crate dt_queue), and a transaction waits for the neighbours of its entries;
 //! its degree counts them. Why that is enough is shown in the crate dt_waits, whose words the contracts here use. So
 //!

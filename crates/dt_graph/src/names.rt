@@ -1,4 +1,4 @@
-ghost use Rattle.std.specs.Prelude.{◌≡◌, ◌+◌, ◌≤◌, ◌<◌, ◌^◌, [], ◌∷◌, ◌++◌, OnOk, length};
+ghost use Rattle.std.specs.Prelude.{◌≡◌, ◌+◌, ◌<◌, ◌^◌, [], ◌∷◌, ◌++◌, OnOk, length};
 ghost use Rattle.dt_lists.specs.Lists.{Has, Distinct};
 ghost use Rattle.dt_graph.specs.Names.{IsNumberOf};
 ghost use Rattle.dt_waits.specs.Waits.{id_at};

@@ -1,9 +1,10 @@
-ghost use Rattle.std.specs.Prelude.{◌≡◌, ◌≤◌, ◌<◌, ◌↔◌, [], IsTrue, OnOk};
+ghost use Rattle.std.specs.Prelude.{◌≡◌, ◌≤◌, ◌<◌, ◌^◌, ◌↔◌, [], IsTrue, OnOk};
 ghost use Rattle.dt_lists.specs.Lists.{AllIn, Has, Distinct};
 ghost use Rattle.dt_graph.specs.Subset.{PutsIn, Removes};
 
 use crate::room::push_reserved;
 use dt_text::NoMemory;
+use dt_waits::Place;
 use std::alloc::Global;
 use std::marker::Model;
 
@@ -12,7 +13,7 @@ use std::marker::Model;
 #[derive(Drop)]
 pub struct Subset {
     items: Vec<u32>,
-    places: Vec<Option<u32>>,
+    places: Vec<Place>,
 }
 
 impl Model for Subset {
@@ -39,6 +40,7 @@ impl Subset {
 
     /// Raises the bound, if it is not as high. There are the same numbers.
     pub fn reach(&mut self, bound: usize) -> Result<(), NoMemory>
+        requires { bound < 2 ^ 32 }
         ensures bound { OnOk result (bound ≤ self.new.bound) }
         ensures grown { self.old.bound ≤ self.new.bound }
         ensures same { self.new.items ≡ self.old.items }
@@ -46,7 +48,7 @@ impl Subset {
         while self.places.len() < bound {
             self.items
                 .reserve(self.places.len() + 1 - self.items.len())?;
-            self.places.push(None)?;
+            self.places.push(Place::none())?;
         }
         Ok(())
     }
@@ -56,7 +58,7 @@ impl Subset {
         requires { number < self.now.bound }
         ensures { IsTrue result ↔ Has self.now.items number }
     {
-        self.places[number as usize].is_some()
+        self.places[number as usize].get().is_some()
     }
 
     /// Puts in a number, if it is not one of them. Takes no memory.
@@ -64,8 +66,8 @@ impl Subset {
         requires { number < self.old.bound }
         ensures { PutsIn number self.old self.new }
     {
-        if self.places[number as usize].is_none() {
-            self.places[number as usize] = Some(self.items.len() as u32);
+        if self.places[number as usize].get().is_none() {
+            self.places[number as usize] = Place::at(self.items.len() as u32);
             push_reserved(&mut self.items, number);
         }
     }
@@ -75,14 +77,14 @@ impl Subset {
         requires { number < self.old.bound }
         ensures { Removes number self.old self.new }
     {
-        if let Some(place) = self.places[number as usize] {
+        if let Some(place) = self.places[number as usize].get() {
             if let Some(last) = self.items.pop() {
                 if last != number {
                     self.items[place as usize] = last;
-                    self.places[last as usize] = Some(place);
+                    self.places[last as usize] = Place::at(place);
                 }
             }
-            self.places[number as usize] = None;
+            self.places[number as usize] = Place::none();
         }
     }
 

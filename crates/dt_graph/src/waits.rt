@@ -1,5 +1,6 @@
-ghost use Rattle.std.specs.Prelude.{◌≡◌, ◌≤◌, ◌<◌, ◌+◌, ◌-◌, ◌^◌, ℕ, List, [], ◌∷◌, ◌++◌, IfOk, OnOk, OnErr, get_or, length, set};
+ghost use Rattle.std.specs.Prelude.{◌≡◌, ◌≤◌, ◌<◌, ◌+◌, ◌-◌, ◌^◌, ℕ, List, [], ◌∷◌, ◌++◌, IfOk, OnOk, OnErr, Some, get_or, length, set, slice_get};
 ghost use Rattle.dt_lists.specs.Lists.{AllIn, Distinct, Has};
+ghost use Rattle.dt_access.specs.Orders.{AreAscendingHomes};
 ghost use Rattle.dt_access.specs.declared.TxnId.{TxnId};
 ghost use Rattle.dt_queue.specs.Queues.{HasDistinctSlots, Waiting};
 ghost use Rattle.dt_waits.specs.declared.open.Open.{Open};
@@ -13,10 +14,10 @@ use crate::enter::enter;
 use crate::leave::leave;
 use crate::room::push_reserved;
 use crate::subset::Subset;
-use dt_access::Part;
+use dt_access::{Homes, Part};
 use dt_queue::Queues;
 use dt_text::NoMemory;
-use dt_waits::{Slots, Vertex};
+use dt_waits::{Place, Slots, Vertex};
 use std::alloc::Global;
 
 /// The vertices by their numbers, what each waits for, and which of them are ready or stuck.
@@ -49,7 +50,7 @@ impl Waits {
 
     /// Makes room for one more vertex. Nothing else changes.
     pub fn reserve(&mut self) -> Result<(), NoMemory>
-        requires { length self.old.vertices.items < 2 ^ 32 }
+        requires { length self.old.vertices.items + 1 < 2 ^ 32 }
         ensures room { OnOk result (FitsOneMore self.new) }
         ensures same { (ids : List TxnId) (classes : List Open) → kept_of ids self.new classes ≡ kept_of ids self.old classes }
         ensures ready { self.old.ready.bound ≤ self.new.ready.bound }
@@ -80,14 +81,14 @@ impl Waits {
         let mut slots = Slots::new(alloc);
         slots.reserve(part.keys.as_slice().len())?;
         let degree = enter(alloc, &mut self.queues, part, vertex, 0, &mut slots)?;
-        let missing = part.homes.as_slice().len() - 1;
+        let missing = other_homes(&part.homes);
         push_reserved(
             &mut self.vertices,
             Vertex {
-                rank: part.rank,
-                missing,
-                class: None,
                 slots,
+                class: Place::none(),
+                missing,
+                rank: part.rank,
             },
         );
         push_reserved(&mut self.degrees, degree);
@@ -170,6 +171,7 @@ impl Waits {
     /// Puts the stuck vertices into the resolved class at a place; the first one is ready now.
     pub fn resolve(&mut self, members: &[u32], class: usize)
         requires within { AllIn (λ v. v < length self.old.vertices.items) members.now }
+        requires few { class + 1 < 2 ^ 32 }
         requires ready_bound { length self.old.vertices.items ≤ self.old.ready.bound }
         requires stuck_bound { length self.old.vertices.items ≤ self.old.stuck.bound }
         ensures resolved { (ids : List TxnId) (classes : List Open) →
@@ -178,7 +180,7 @@ impl Waits {
         ensures stuck { self.new.stuck.bound ≡ self.old.stuck.bound }
     {
         for vertex in members {
-            self.vertices[*vertex as usize].class = Some(class);
+            self.vertices[*vertex as usize].class = Place::at(class as u32);
             self.stuck.remove(*vertex);
         }
         if let Some(first) = members.first() {
@@ -209,4 +211,27 @@ impl Waits {
             &mut self.ready,
         );
     }
+}
+
+/// How many homes there are beside one of them.
+fn other_homes(homes: &Homes) -> u8
+    requires { 1 ≤ length homes.now }
+    ensures { result ≡ length homes.now - 1 }
+{
+    let homes = homes.as_slice();
+    match homes.last() {
+        Some(last) => before_last(homes, *last),
+        None => 0,
+    }
+}
+
+/// How many homes there are before the last one. They ascend from 0 on, so the last one is not less than this count, which has
+/// 8 bits as that home has.
+fn before_last(homes: &[u8], last: u8) -> u8
+    requires some { 1 ≤ length homes.now }
+    requires ascending { AreAscendingHomes homes.now }
+    requires last { slice_get homes.now (length homes.now - 1) ≡ Some last }
+    ensures { result ≡ length homes.now - 1 }
+{
+    (homes.len() - 1) as u8
 }

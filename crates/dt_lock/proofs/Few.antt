@@ -1,15 +1,13 @@
 -- Few claims run at once: each is of an id that may be executed, which has a part in the region's logs, and the parts of all logs
 -- are counted by 32 bits.
-use Rattle.std.proofs.Common.{◌≡◌, ◌<◌, ◌≤◌, ◌+◌, ◌^◌, List, [], ◌∷◌, ◌++◌, length, map, Some, refl, sym, ap₂, ◌∙◌, arith}
+use Rattle.std.proofs.Common.{◌≡◌, ◌<◌, ◌≤◌, ◌+◌, ◌^◌, List, [], ◌∷◌, ◌++◌, length, map, Some, arith}
 use Rattle.std.proofs.lemmas.List.{length-append, length-map}
-use Rattle.std.proofs.lemmas.List.Sums.{sum_by-cons}
 use Rattle.dt_lists.specs.Lists.{AllIn, Distinct, Has}
 use Rattle.dt_lists.proofs.Callers.{all_image, all_map, distinct_within, each_image, each_map}
-use Rattle.dt_access.specs.declared.Part.{Part}
 use Rattle.dt_access.specs.declared.TxnId.{TxnId}
 use Rattle.dt_sched.specs.Sched.{CanExecute, parts_in}
-use Rattle.dt_sched.specs.Views.{View, ids_of}
-use Rattle.dt_sched.proofs.Callers.{complete_of_closed, has_of_present, ids_in, present_of_complete}
+use Rattle.dt_sched.specs.Views.{View}
+use Rattle.dt_sched.proofs.Callers.{complete_of_closed, has_of_present, ids_in, ids_in_length, present_of_complete}
 use Rattle.dt_proc.specs.Tree.{ProcTree}
 use Rattle.dt_txn.specs.declared.txn.Txn.{Txn}
 use Rattle.dt_txn.specs.declared.outcome.Seen.{Seen}
@@ -20,11 +18,6 @@ use Rattle.dt_region.proofs.Callers.{fronts_few}
 use Rattle.dt_lock.specs.declared.running.Running.{Running}
 use Rattle.dt_lock.specs.Held.{AreDisjoint, HeldView, IsBusy, IsHeld}
 use Rattle.dt_lock.proofs.HeldSteps.{one_running}
-
--- as many ids as parts
-ids_count : (view : View) → length (ids_in view) ≡ parts_in view
-ids_count [] = refl
-ids_count (log ∷ view) = length-append (ids_of log) (ids_in view) ∙ ap₂ (λ a b. a + b) (length-map log (λ (p : Part). p.id)) (ids_count view) ∙ sym (sum_by-cons length log view)
 
 module _ (procs : List ProcTree) (before : RegionView) (h : HeldView) (is : IsHeld procs before h) where
   abbrev view : View
@@ -40,7 +33,7 @@ module _ (procs : List ProcTree) (before : RegionView) (h : HeldView) (is : IsHe
       let there : AllIn (Has (ids_in view)) ids = all_image (Has (ids_in view)) (λ (r : Running). r.id) h.running (all_map _ (λ (r : Running). Has (ids_in view) r.id) h.running known is.executable) in
       let a : length ids ≤ length (ids_in view) = distinct_within ids (ids_in view) once there in
       let b : length ids ≡ length h.running = length-map h.running (λ (r : Running). r.id) in
-      let c : length (ids_in view) ≡ parts_in view = ids_count view in
+      let c : length (ids_in view) ≡ parts_in view = ids_in_length view in
       let d : parts_in view ≤ parts_in h.region.state.logs = fronts_few h.region.state.here.inserted h.region.state.logs in
       let e = is.underway.sound.few in
       omega (arith, a, b, c, d, e)

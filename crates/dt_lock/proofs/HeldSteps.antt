@@ -23,7 +23,7 @@ use Rattle.dt_txn.specs.Execution.{execution, one, see, seen_of}
 use Rattle.dt_txn.specs.Replica.{executed}
 use Rattle.dt_txn.specs.Serial.{after}
 use Rattle.dt_region.specs.Region.{RegionState, RegionView, held, sched_of}
-use Rattle.dt_region.specs.Rules.{MakesStep, after_finishing, after_step, with_event}
+use Rattle.dt_region.specs.Rules.{MakesStep, after_finishing, after_making, with_event}
 use Rattle.dt_region.specs.Conditions.{ComesTo, HasRun}
 use Rattle.dt_region.specs.Sound.{IsSoundRegion}
 use Rattle.dt_region.proofs.Callers.{executable_held, execute_leaves, held_id, insert_leaves, resolve_leaves, step_sound}
@@ -48,9 +48,9 @@ module _ (procs : List ProcTree) (before : RegionView) (v : HeldView) (h : IsHel
 
   -- a step that leaves the table and what is executable
   module _ (later : RegionView) (event : Event) (mine : region_of event ≡ v.region.state.number) (makes : MakesStep procs v.region event (Ok true) later) (sound : IsSoundRegion later.state)
-      (leaves : (id : TxnId) → CanExecute (sched_of v.region.state.logs v.region.state.here) id → CanExecute (sched_of v.region.state.logs (after_step procs v.region.state event).here) id)
-      (table : (after_step procs v.region.state event).here.table ≡ v.region.state.here.table) where
-    same_state : later.state ≡ after_step procs v.region.state event
+      (leaves : (id : TxnId) → CanExecute (sched_of v.region.state.logs v.region.state.here) id → CanExecute (sched_of v.region.state.logs (after_making procs v.region.state event).here) id)
+      (table : (after_making procs v.region.state event).here.table ≡ v.region.state.here.table) where
+    same_state : later.state ≡ after_making procs v.region.state event
     same_state = ap (λ (r : RegionView). r.state) makes.1
 
     goes_on : IsHeld procs before (record v { region = later })
@@ -141,7 +141,7 @@ module _ (procs : List ProcTree) (before : RegionView) (v : HeldView) (h : IsHel
     event = Execute v.region.state.number r.id
 
     abbrev plain : RegionView
-    plain = with_event v.region (after_step procs v.region.state event) event
+    plain = with_event v.region (after_making procs v.region.state event) event
 
     plain_sound : IsSoundRegion plain.state
     plain_sound = step_sound procs v.region.state h.underway.sound h.underway.holds event can_commit

@@ -3,7 +3,6 @@ pub mod HeldSteps
 pub mod Free
 pub mod Few
 pub mod Empty
-pub mod Crossing
 pub mod Captures
 pub mod Counting
 pub mod Callers

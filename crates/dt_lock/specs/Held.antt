@@ -1,6 +1,6 @@
 -- A region behind its lock, in one round: what holds of it whenever the lock is free, whoever had it before (`IsHeld`), and
 -- what each step under the lock is. An insertion, a resolution and a commit are each one event of the region; a claim is
--- none. Of claims that are running the lock keeps that each may run now, that it saw what the rows still are, that no two
+-- no event. Of claims that are running the lock keeps that each may run now, that it saw what the rows still are, that no two
 -- of them touch each other, and that there is room to commit them all: so a commit is never refused, and needs no memory.
 -- Read `Claims` before. Read next: src/held.rt, the calls.
 use Rattle.std.specs.Prelude.{◌≡◌, ◌≢◌, ◌⊎◌, ◌≤◌, ◌+◌, Bool, true, false, not, List, [], ◌∷◌, ◌++◌, map, filter, length, max, Option, Some, None, Result, Ok, Err}

@@ -1,4 +1,4 @@
-ghost use Rattle.std.specs.Prelude.{◌≡◌, IfOk, OnOk};
+ghost use Rattle.std.specs.Prelude.{◌≡◌, OnOk};
 ghost use Rattle.dt_txn.specs.Replica.{IsDrained};
 ghost use Rattle.dt_round.specs.Rounds.{CanRound, Continues};
 
@@ -74,7 +74,7 @@ fn round_named<
     }
 }
 
-// Has the jobs done, of a region that lies behind a lock meanwhile.
+// Runs the jobs of a region, which lies behind a lock meanwhile.
 fn by_threads<
     R: Threads + Wait + Sync,
     S: Scheduler + Drop + Send,
@@ -88,7 +88,7 @@ fn by_threads<
     lock.into_inner()
 }
 
-// Has the jobs done, by a thread each. Where no thread can be started, the calling one does what it would have done; where memory
+// Runs the jobs, each in a thread of its own. Where no thread can be started, the calling one does what it would have done; where memory
 // runs out before, the jobs are dropped, and what they were to do is left to the end of the round.
 fn act_all<R: Threads + Wait + Sync, S: Scheduler + Drop + Send, N: Named + Send + Sync, G: Gate>(
     rt: &R,

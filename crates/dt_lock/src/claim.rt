@@ -11,7 +11,7 @@ use dt_txn::{Body, Outcome, Seens, Txn, execute_seen};
 use std::alloc::Global;
 use std::marker::{Model, PhantomData};
 
-/// A transaction that is claimed to be worked, of the round that `N` names, and what it saw when it was claimed.
+/// A transaction that is claimed to be computed, of the round that `N` names, and what it saw when it was claimed.
 ///
 /// Contracts see both. Its type keeps that the transaction is the one that the named region holds under its id, and is valid
 /// there.

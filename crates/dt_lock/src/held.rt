@@ -226,7 +226,7 @@ impl<S: Scheduler, N: Named> Held<S, N> {
         true
     }
 
-    /// Takes back a claim that is not worked: an equal one that is running is taken off. Takes no memory.
+    /// Takes back a claim that is not computed: an equal one that is running is taken off. Takes no memory.
     pub fn give_back(&mut self, claim: Claim<N>)
         ensures { GivesBack self.old claim self.new }
     {

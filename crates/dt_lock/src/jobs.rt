@@ -17,7 +17,7 @@ pub enum Job<N: Named> {
     Insert(u8),
     /// Resolves, as long as something is missing or resolvable.
     Resolve,
-    /// Works claims, beginning with this one.
+    /// Computes claims, beginning with this one.
     Work(Claim<N>),
 }
 

@@ -84,7 +84,7 @@ fn insert_some<S: Scheduler, N: Named>(
     Ok(false)
 }
 
-// Works claims, until nothing is missing and there is none to claim, or memory runs out.
+// Computes claims, until nothing is missing and there is none to claim, or memory runs out.
 fn work_all<R: Wait, S: Scheduler, N: Named, G: Gate>(
     rt: &R,
     alloc: Global,
@@ -115,7 +115,7 @@ fn work_all<R: Wait, S: Scheduler, N: Named, G: Gate>(
     }
 }
 
-// The next claim to work. None where nothing is missing and there is none to claim, or memory ran out.
+// The next claim to compute. None where nothing is missing and there is none to claim, or memory ran out.
 fn next_claim<R: Wait, S: Scheduler, N: Named>(
     rt: &R,
     alloc: Global,

@@ -45,6 +45,6 @@ source_of event = None
 abbrev pub IsSupplied : World → Event → Type 0
 -- the source asked the home for more parts than that
 IsSupplied w (Append home source number) = number < length (asked_of w source home)
--- the home's log reaches so far
+-- the home's log reaches that far
 IsSupplied w (Deliver region home first last) = last ≤ length (log_of w home)
 IsSupplied w event = Unit {0}

@@ -1,4 +1,4 @@
--- When it does not matter in which order events of different regions happen. A world is spoken of only through the part of it
+-- When it does not matter in which order events of different regions happen. A world is considered only through the part of it
 -- that is each region's own: an event changes the own part of one region, and is legal by that part and, if it takes
 -- something from another region, by that being there. Nothing else is known here of worlds and events. Read next:
 -- proofs/EventOrders.antt, what follows: lists of events of many regions may be reordered.
@@ -15,7 +15,7 @@ pub record Regions (W E O : Type 0) : Type 1 where
   pub next : W → E → W
   -- what is a region's own in a world
   pub own : W → ℕ → O
-  -- the worlds that are spoken of
+  -- the worlds that are considered
   pub Good : W → Type 0
   -- the event is legal in the world
   pub Legal : W → E → Type 0
@@ -49,7 +49,7 @@ Below g w v = (q : ℕ) → g.Grown (g.own w q) (g.own v q)
 
 -- events are local
 pub record AreLocal {W E O : Type 0} (g : Regions W E O) : Type 0 where
-  -- legal events lead to worlds that are spoken of
+  -- legal events lead to worlds that are considered
   pub kept : (w : W) (e : E) → g.Good w → g.Legal w e → g.Good (g.next w e)
   -- a world is what the regions have as their own
   pub whole : (w v : W) → g.Good w → g.Good v → ((q : ℕ) → g.own w q ≡ g.own v q) → w ≡ v
@@ -76,7 +76,7 @@ pub record IsRescheduling {W E O : Type 0} (g : Regions W E O) (w : W) (events o
   pub fed : (before : List E) (e : E) (behind front rest : List E) (q : ℕ) → others ≡ before ++ e ∷ behind → events ≡ front ++ rest
       → g.source e ≡ Some q → those_of g q front ≡ those_of g q before → g.Supplied (after_all g w front) e
 
--- what follows of it: it is legal; a region ends as where the first list has just its events of that region; and where each
+-- what follows from it: it is legal; a region ends as where the first list has just its events of that region; and where each
 -- event of the first list changes something, so does each of the second
 pub record Rescheduled {W E O : Type 0} (g : Regions W E O) (w : W) (events others : List E) : Type 0 where
   pub legal : AreLegalIn g w others
@@ -93,7 +93,7 @@ pub record AreTurns {W E O : Type 0} (g : Regions W E O) (w : W) (turns : ℕ �
   pub mine : (q : ℕ) → q < n → AllIn (λ e. g.region e ≡ q) (turns q)
   pub legal : (q : ℕ) → q < n → AreLegalIn g w (turns q)
 
--- what follows of it: one after another they are legal too; each region ends as after its own turn, and all others stay; and
+-- what follows from it: one after another they are legal too; each region ends as after its own turn, and all others stay; and
 -- where each event of each turn changes something, so does each of them all
 pub record AreSideBySide {W E O : Type 0} (g : Regions W E O) (w : W) (turns : ℕ → List E) (n : ℕ) : Type 0 where
   pub legal : AreLegalIn g w (one_by_one turns n)

@@ -1,4 +1,4 @@
--- Worlds of regions and sessions, as a case of what `Regional` speaks of. One learns here which worlds are spoken of: those
+-- Worlds of regions and sessions, as a case of what `Regional` speaks of. One learns here which worlds are considered: those
 -- that keep the invariant, as every legal world does. Read next: src/laws.rt.
 use Rattle.std.specs.Prelude.{List}
 use Rattle.dt_access.specs.declared.TxnId.{TxnId}

@@ -25,10 +25,10 @@ pub fn frame()
         own workload (next cluster workload w event) region ≡ own workload w region }
 {}
 
-/// The law of locality. What regions submit and place stays. A legal event finds what it takes, and wherever as much of the
-/// source is there, it is there too. Take two worlds on the way to a third which have the same own part of a region: an event
+/// The law of locality. What regions submit and place stays. A legal event finds what it takes, and that is there wherever
+/// its source has come at least as far. Take two worlds on the way to a third which have the same own part of a region: an event
 /// of the region that is legal in the one is legal in the other, if what it takes from another region is there, and does the
-/// same to that part, whatever other regions did. Two worlds that have the same own part of each region are one.
+/// same to that part, whatever other regions did. Two worlds that have the same own part of each region are the same.
 pub fn locality()
     ensures grows { (cluster : Cluster) (workload : Workload) (w : World) (event : Event) →
         HasInvariant cluster workload w → IsLegal cluster workload w event → HaveGrown w (next cluster workload w event) }

@@ -26,7 +26,7 @@ pub record IsToldOf (w : World) (p : Packet) : Type 0 where
   pub entries_to : p.log_at + length p.entries ≤ length (log_of w p.source)
   pub entries : map (λ e. e.part) p.entries ≡ drop p.log_at (take (p.log_at + length p.entries) (log_of w p.source))
   pub entry_txns : AllIn (λ e. txn_of w e.part.id ≡ Some e.txn) p.entries
-  -- the source has come at least so far with the requests and the log of the target
+  -- the source has come at least that far with the requests and the log of the target
   pub took : p.took ≤ taken_of w p.source p.target
   pub received : p.received ≤ received_of w p.source p.target
 

@@ -1,7 +1,7 @@
-ghost use Rattle.std.specs.Prelude.{◌≡◌, ◌≢◌, ◌<◌, ◌≤◌, ◌↔◌, ◌⊎◌, List, map, length, IfOk, IfSome, None, Some, IsTrue, false, if◌then◌else◌, string_bytes, nat_eq, find};
+ghost use Rattle.std.specs.Prelude.{◌≡◌, ◌≢◌, ◌<◌, ◌≤◌, ◌↔◌, map, length, IfOk, IfSome, None, Some, IsTrue, false, if◌then◌else◌, string_bytes, nat_eq, find};
 ghost use Rattle.std.specs.Option.{option_map, option_copied};
 ghost use Rattle.std.specs.Cmp.Lexicographic.{pointwise};
-ghost use Rattle.dt_outside.specs.Faults.{next_count, Rose};
+ghost use Rattle.dt_outside.specs.Faults.{next_count};
 ghost use Rattle.dt_outside.specs.Folder.{IsAboveLimit, file_in, fails_next, stored_file};
 
 use crate::failures::LoadError;

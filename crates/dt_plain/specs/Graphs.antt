@@ -10,7 +10,7 @@ use Rattle.dt_sched.specs.Surroundings.{ArePresent}
 use Rattle.dt_plain.specs.Links.{IsLinked}
 use Rattle.dt_plain.specs.declared.search.Link.{Link}
 
--- the links got those from u to t where P u t
+-- the links from u to t where P u t were added
 pub record Gains (P : TxnId → TxnId → Type 0) (old new : List Link) : Type 0 where
   pub members : (u t : TxnId) → IsLinked new u t ↔ (IsLinked old u t ⊎ P u t)
 
@@ -26,7 +26,7 @@ pub record AreTurned (view : View) (links : List Link) : Type 0 where
 abbrev pub turned_link : Link → Link
 turned_link l = record { from = l.to; to = l.from }
 
--- the list got the ids of the parts of the log
+-- the ids of the parts of the log were added to the list
 pub record GetsIds (log : List Part) (old new : List TxnId) : Type 0 where
   pub distinct : Distinct new
   pub members : (u : TxnId) → Has new u ↔ (Has old u ⊎ HasPart log u)

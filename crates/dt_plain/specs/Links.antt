@@ -1,5 +1,5 @@
 -- Links between ids, and a search along them: from an id, all that the links lead to, each once. A list of links says
--- nothing of logs; that it is the edges of a view, forth or turned round, stands in Graphs.antt. Read next:
+-- nothing about logs; that it is the edges of a view, forth or turned round, stands in Graphs.antt. Read next:
 -- Surroundings.antt of dt_sched, for what is read off what a search has found.
 use Rattle.std.specs.Prelude.{◌≡◌, ◌⊎◌, ◌↔◌, List}
 use Rattle.dt_lists.specs.Lists.{AnyIn, Has, IsFront, Distinct}
@@ -11,7 +11,7 @@ use Rattle.dt_plain.specs.declared.search.Link.{Link}
 abbrev pub IsLinked : List Link → TxnId → TxnId → Type 0
 IsLinked links u t = AnyIn (λ l. (l.from ≡ u) × (l.to ≡ t)) links
 
--- the list got, at its back, what the links lead to from u in one step and it didn't have
+-- what the links lead to from u in one step was added at the back of the list, as far as it was not there
 pub record Follows (links : List Link) (u : TxnId) (old new : List TxnId) : Type 0 where
   pub front : IsFront old new
   pub distinct : Distinct new

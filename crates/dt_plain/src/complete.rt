@@ -1,4 +1,4 @@
-ghost use Rattle.std.specs.Prelude.{◌≡◌, ◌↔◌, IsTrue};
+ghost use Rattle.std.specs.Prelude.{◌↔◌, IsTrue};
 ghost use Rattle.dt_lists.specs.Lists.{AnyIn, AllIn};
 ghost use Rattle.dt_sched.specs.Views.{HasPart, log_at, IsComplete};
 ghost use Rattle.dt_sched.specs.Surroundings.{ShowsComplete};

@@ -1,4 +1,4 @@
-ghost use Rattle.std.specs.Prelude.{◌≡◌, ◌↔◌, ◌≤◌, IsTrue, IfOk, length};
+ghost use Rattle.std.specs.Prelude.{◌↔◌, ◌≤◌, IsTrue, IfOk, length};
 ghost use Rattle.dt_lists.specs.Lists.{AllIn, Has};
 ghost use Rattle.dt_sched.specs.Decide.{IsExecutable, IsResolvable};
 ghost use Rattle.dt_sched.specs.Sched.{IsNextReady, IsNextClass};

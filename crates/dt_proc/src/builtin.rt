@@ -1,8 +1,7 @@
-ghost use Rattle.std.specs.Prelude.{◌≡◌, ◌<◌, ◌^◌, ℕ, [], ◌∷◌, ◌++◌, length, map, true, false, IfOk};
-ghost use Rattle.dt_text.specs.Texts.{IsName, IsStr};
+ghost use Rattle.std.specs.Prelude.{◌≡◌, ◌<◌, [], ◌∷◌, map, true, false, IfOk};
 ghost use Rattle.dt_proc.specs.Builtin as builtin;
-ghost use Rattle.dt_proc.specs.Tree.{done, then, joined};
-ghost use Rattle.dt_proc.specs.TreeViews.{block_tree, expr_tree, give_tree, stmt_tree};
+ghost use Rattle.dt_proc.specs.Tree.{done, then};
+ghost use Rattle.dt_proc.specs.TreeViews.{expr_tree, give_tree, stmt_tree};
 ghost use Rattle.dt_proc.specs.Tree.{binary};
 
 use crate::procs::{Proc, Procs};

@@ -1,4 +1,4 @@
-ghost use Rattle.std.specs.Prelude.{◌≡◌, ◌<◌, [], ◌∷◌, ◌++◌, length, map, IfOk};
+ghost use Rattle.std.specs.Prelude.{◌≡◌, ◌<◌, map, IfOk};
 ghost use Rattle.dt_proc.specs.TreeViews.{block_tree, expr_tree, give_tree, stmt_tree};
 
 use crate::procs::{Proc, Procs};

@@ -1,13 +1,12 @@
-ghost use Rattle.std.specs.Prelude.{◌≡◌, ◌↔◌, ◌<◌, ◌≤◌, ◌++◌, ◌∷◌, [], length, slice_get, IfOk, IfSome, IfNone, OnOk, OnErr, Some, ℕ, IsTrue, option_copied, nat_eq};
+ghost use Rattle.std.specs.Prelude.{◌≡◌, ◌↔◌, ◌<◌, [], length, slice_get, Some, IsTrue, option_copied, nat_eq};
 ghost use Rattle.dt_proc.specs.TreeViews.{block_tree};
 ghost use Rattle.dt_proc.specs.Sound.{IsSoundProc, AreProcs};
-ghost use Rattle.dt_proc.specs.Tree.{joined, ProcTree};
+ghost use Rattle.dt_proc.specs.Tree.{ProcTree};
 ghost use Rattle.std.specs.Cmp.Lexicographic.{pointwise};
 ghost use Rattle.dt_proc.specs.Names.{place_of_name};
 
 use crate::tree::{KeyDecl, Kind, Stmt, Stmts};
-use dt_text::{Listed, Name, NoMemory};
-use std::alloc::Global;
+use dt_text::{Listed, Name};
 use std::marker::Model;
 
 /// A procedure. Contracts see its name, the kinds of its parameters, its keys and its statements.

@@ -1,4 +1,4 @@
-ghost use Rattle.std.specs.Prelude.{◌≡◌, [], ◌∷◌, ◌++◌, length, IfOk, OnOk, OnErr};
+ghost use Rattle.std.specs.Prelude.{◌≡◌, OnOk, OnErr};
 ghost use Rattle.dt_proc.specs.Tree.{done, then, joined};
 ghost use Rattle.dt_proc.specs.TreeViews.{stmt_tree, block_tree};
 

@@ -1,5 +1,5 @@
 -- How a lane is searched: what stands before and after the place where the search for a number ends.
-use Rattle.std.proofs.Common.{◌≡◌, ◌≢◌, ℕ, zero, suc, ◌+◌, ◌<◌, ◌≤◌, Bool, true, false, not, ◌&&◌, ◌==◌, nat_lt, cond, List, [], ◌∷◌, ◌++◌, length, take}
+use Rattle.std.proofs.Common.{◌≡◌, ◌≢◌, ℕ, zero, suc, ◌+◌, ◌<◌, ◌≤◌, Bool, true, false, not, ◌&&◌, ◌==◌, nat_lt, cond, List, [], ◌∷◌, ◌++◌, length, take, drop}
 use Rattle.std.proofs.Common.{slice_index_or, Option, Some, None, IsSome, OnSome, refl, ap, sym, subst, inl, inr, arith}
 use Rattle.std.specs.List.{filter, remove}
 use Rattle.std.specs.List.Sorted.{IsPartitionedBy, IsPartitionPoint}
@@ -72,6 +72,11 @@ removed n (x ∷ xs) zero d num ends lt same = sym (leaves n x xs xs same (other
 removed n (x ∷ xs) (suc p) d num ends lt same =
     let rest : EndsBelow n xs p = record { within = omega (arith, ends.within); lesser = ends.lesser.1; others = ends.others } in
     sym (keeps n x xs (remove xs p) (apart n x (omega (arith, ends.lesser.0))) (sym (removed n xs p d num.1 rest (omega arith) same)))
+
+-- the first mark was taken out, where it has the number
+pub first_removed : (n : ℕ) (ms : List Mark) (d : Mark) → HasRisingNumbers ms → 0 < length ms → (slice_index_or ms 0 d).number ≡ n → drop 1 ms ≡ filter (is_not n) ms
+first_removed n [] d num lt same = absurd (omega (arith, lt))
+first_removed n (x ∷ xs) d num lt same = sym (leaves n x xs xs same (others_kept n xs (above n x xs (omega (arith, same)) num.0)))
 
 -- no mark has the number
 pub untouched : (n : ℕ) (ms : List Mark) (p : ℕ) (d : Mark) → HasRisingNumbers ms → EndsBelow n ms p → (p < length ms → (slice_index_or ms p d).number ≢ n) → ms ≡ filter (is_not n) ms

@@ -36,7 +36,7 @@ HasDistinctSlots waiting = EachThen (λ v w. v.slot ≢ w.slot) waiting
 abbrev pub entries_clash : Waiting → Waiting → Bool
 entries_clash v w = (v.home == w.home) && uses_clash (v.key, v.mode) (w.key, w.mode)
 
--- the entry at a slot; where none waits there, some entry, of which nothing is said
+-- the entry at a slot; where none waits there, an arbitrary entry
 abbrev pub entry_at : List Waiting → ℕ → Waiting
 entry_at [] slot = record { slot = slot; home = 0; key = []; mode = Read; vertex = 0 }
 entry_at (w ∷ waiting) slot = if w.slot == slot then w else entry_at waiting slot
@@ -74,7 +74,7 @@ followers waiting slot = filter (λ w. is_neighbour waiting slot w.slot) waiting
 abbrev pub followers_after : List Waiting → ℕ → ℕ → List Waiting
 followers_after waiting slot place = filter (λ w. is_neighbour waiting slot w.slot) (pushed_after waiting place)
 
--- what is said of a follower
+-- an entry as a follower: its slot and its vertex
 abbrev pub follower_of : Waiting → Follower
 follower_of w = record { slot = w.slot; vertex = w.vertex }
 

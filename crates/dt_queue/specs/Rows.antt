@@ -6,7 +6,7 @@ use Rattle.dt_access.specs.Granules.{granule_of}
 use Rattle.dt_access.specs.Clash.{Bytes}
 use Rattle.dt_queue.specs.declared.rows.Rows.{Rows}
 
--- the home and the key of a row, by its number; past the end some name, of which nothing is said
+-- the home and the key of a row, by its number; past the end an arbitrary name
 abbrev pub name_at : List (ℕ × Bytes) → ℕ → ℕ × Bytes
 name_at names row = get_or names row (0, [])
 

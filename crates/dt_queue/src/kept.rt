@@ -196,11 +196,13 @@ impl Kept {
     {
         let reads = self.reads.as_slice();
         let writes = self.writes.as_slice();
-        let rows = self.in_use.of_granule(self.rows.granule_of(cell.row));
         match cell.mode {
             Mode::Read => near_write(alloc, writes, cell.row, low, cell.number),
             Mode::Write => near_row(alloc, reads, writes, cell.row, low, cell.number),
-            Mode::Whole => near_rows(alloc, reads, writes, rows, low, cell.number),
+            Mode::Whole => {
+                let rows = self.in_use.of_granule(self.rows.granule_of(cell.row));
+                near_rows(alloc, reads, writes, rows, low, cell.number)
+            }
         }
     }
 
@@ -212,11 +214,13 @@ impl Kept {
     {
         let reads = self.reads.as_slice();
         let writes = self.writes.as_slice();
-        let rows = self.in_use.of_granule(self.rows.granule_of(cell.row));
         match cell.mode {
             Mode::Read => Next::in_lane(writes, cell.row, cell.number, high, after),
             Mode::Write => Next::in_row(reads, writes, cell.row, cell.number, high, after),
-            Mode::Whole => Next::in_rows(reads, writes, rows, cell.number, high, after),
+            Mode::Whole => {
+                let rows = self.in_use.of_granule(self.rows.granule_of(cell.row));
+                Next::in_rows(reads, writes, rows, cell.number, high, after)
+            }
         }
     }
 }

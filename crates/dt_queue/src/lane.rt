@@ -1,4 +1,4 @@
-ghost use Rattle.std.specs.Prelude.{◌≡◌, ◌<◌, ◌≤◌, ◌==◌, [], ◌∷◌, ◌++◌, length, map, not, OnOk, OnErr};
+ghost use Rattle.std.specs.Prelude.{◌≡◌, ◌<◌, ◌≤◌, ◌==◌, [], ◌∷◌, ◌++◌, length, map, not, IsFalse, IsTrue, OnOk, OnErr};
 ghost use Rattle.std.specs.List.{filter};
 ghost use Rattle.dt_lists.specs.Lists.{AllIn};
 ghost use Rattle.dt_queue.specs.Lanes.{EndsBelow, IsFirstBetween, IsLastBetween, is_between};
@@ -55,8 +55,32 @@ impl Lane {
         Ok(())
     }
 
-    /// Takes out the mark of this number, if there is one. Takes no memory.
+    /// Takes out the mark of this number, if there is one. Takes no memory. Mostly it is the first, as entries leave in about the
+    /// order in which they came.
     pub fn remove(&mut self, number: u64)
+        ensures { self.new ≡ filter (λ m. not (m.number == number)) self.old }
+    {
+        if !self.remove_first(number) {
+            self.remove_within(number);
+        }
+    }
+
+    /// Takes out the first mark, if it is of this number, and says whether it was. Takes no memory.
+    fn remove_first(&mut self, number: u64) -> bool
+        ensures taken { IsTrue result → self.new ≡ filter (λ m. not (m.number == number)) self.old }
+        ensures same { IsFalse result → self.new ≡ self.old }
+    {
+        if let Some(mark) = self.marks.front() {
+            if mark.number == number {
+                self.marks.pop_front();
+                return true;
+            }
+        }
+        false
+    }
+
+    /// Takes out the mark of this number, if there is one, wherever it stands. Takes no memory.
+    fn remove_within(&mut self, number: u64)
         ensures { self.new ≡ filter (λ m. not (m.number == number)) self.old }
     {
         let place = self.below(number);

@@ -17,7 +17,7 @@ use Rattle.dt_txn.specs.declared.outcome.Outcome.{Outcome}
 use Rattle.dt_txn.specs.Execution.{one}
 use Rattle.dt_txn.specs.Replica.{done_ids, executed, view_of}
 use Rattle.dt_region.specs.Region.{RegionState, held, sched_of}
-use Rattle.dt_region.specs.Rules.{MayMake, after_step}
+use Rattle.dt_region.specs.Rules.{MayMake, after_making}
 use Rattle.dt_region.specs.Sound.{IsSoundRegion}
 use Rattle.dt_region.proofs.HeldTransactions.{held_id}
 use Rattle.dt_region.proofs.Rule4Insert.{insert_sound, view_now}
@@ -38,21 +38,21 @@ within_more : {A : Type 0} (xs : List A) (y : A) → IsWithin xs (xs ++ y ∷ []
 within_more xs y = all_put (Has (xs ++ y ∷ [])) xs (λ x h. any_append_left (λ z. z ≡ x) xs (y ∷ []) h)
 
 module _ (procs : List ProcTree) (s : RegionState) (sound : IsSoundRegion s) (id : TxnId) (can : CanExecute (sched_of s.logs s.here) id) where
-  pub insert_leaves : (home : ℕ) → MayMake s (Insert s.number home) → CanExecute (sched_of s.logs (after_step procs s (Insert s.number home)).here) id
+  pub insert_leaves : (home : ℕ) → MayMake s (Insert s.number home) → CanExecute (sched_of s.logs (after_making procs s (Insert s.number home)).here) id
   insert_leaves home may =
       let next : (part : Part) × (slice_get (log_at s.logs home) (slice_index s.here.inserted home) ≡ Some part) = at_place (log_at s.logs home) (slice_index s.here.inserted home) may in
       let known : home < s.regions = has_log s sound home (slice_index s.here.inserted home) may in
-      let now : View = view_of s.logs (after_step procs s (Insert s.number home)).here in
+      let now : View = view_of s.logs (after_making procs s (Insert s.number home)).here in
       let longer : IsLonger (view_of s.logs s.here) now = subst (IsLonger (view_of s.logs s.here)) (sym (view_now s sound home next.0 known next.1)) (with_part_longer (view_of s.logs s.here) next.0) in
       stays (view_of s.logs s.here) now longer (insert_sound s sound home next.0 known next.1).decided.well_formed s.here.resolved s.here.resolved (done_ids s.here) (done_ids s.here)
       (within_refl s.here.resolved) (within_refl (done_ids s.here)) id can.waiting can
 
-  pub resolve_leaves : (ids : List TxnId) → CanExecute (sched_of s.logs (after_step procs s (Resolve s.number ids)).here) id
+  pub resolve_leaves : (ids : List TxnId) → CanExecute (sched_of s.logs (after_making procs s (Resolve s.number ids)).here) id
   resolve_leaves ids =
       stays (view_of s.logs s.here) (view_of s.logs s.here) (longer_refl (view_of s.logs s.here)) sound.decided.well_formed s.here.resolved (s.here.resolved ++ ids ∷ []) (done_ids s.here) (done_ids s.here)
       (within_more s.here.resolved ids) (within_refl (done_ids s.here)) id can.waiting can
 
-  pub execute_leaves : (other : TxnId) → MayMake s (Execute s.number other) → other ≢ id → CanExecute (sched_of s.logs (after_step procs s (Execute s.number other)).here) id
+  pub execute_leaves : (other : TxnId) → MayMake s (Execute s.number other) → other ≢ id → CanExecute (sched_of s.logs (after_making procs s (Execute s.number other)).here) id
   execute_leaves other may apart =
       let found : (txn : Txn) × (held s other ≡ Some txn) = executable_held s sound other may in
       subst (λ o. CanExecute (sched_of s.logs (executed procs s.here o)) id) (sym found.1) (does found.0 found.1)

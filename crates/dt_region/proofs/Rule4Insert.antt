@@ -19,7 +19,7 @@ use Rattle.dt_txn.specs.declared.txn.Txn.{Txn}
 use Rattle.dt_txn.specs.Transaction.{homes_of}
 use Rattle.dt_txn.specs.Replica.{fronts, view_of, done_ids}
 use Rattle.dt_region.specs.Region.{RegionState, RegionView, latest_stamp, held, sched_of}
-use Rattle.dt_region.specs.Rules.{after_step, MakesStep}
+use Rattle.dt_region.specs.Rules.{after_making, MakesStep}
 use Rattle.dt_region.specs.Sound.{IsSoundRegion, IsHeldPart}
 use Rattle.dt_region.specs.RegionInner.{AreWell}
 use Rattle.dt_region.proofs.ViewOfRegion.{IsSeenAs, kept_under, under}
@@ -147,7 +147,7 @@ module _ (r : RegionView) (s : RegionState) (events : List Stamped) (heard room 
     now_is : now ≡ after_insert (sched_of s.logs s.here) part
     now_is = is ∙ ap₂ after_insert stands.well.1 same
 
-    insert_is : made place now ≡ after_step [] s (Insert s.number home)
+    insert_is : made place now ≡ after_making [] s (Insert s.number home)
     insert_is = λ j. made (at j) (now_is j)
 
     pub insert_keeps : AreWell (made place now) now

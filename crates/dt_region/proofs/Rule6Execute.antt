@@ -20,7 +20,7 @@ use Rattle.dt_txn.specs.Execution.{one}
 use Rattle.dt_txn.specs.Replica.{view_of, done_ids, executed}
 use Rattle.dt_txn.proofs.Callers.{few_places, moves_unit}
 use Rattle.dt_region.specs.Region.{RegionState, RegionView, latest_stamp, held, sched_of}
-use Rattle.dt_region.specs.Rules.{after_finishing, after_step, with_event, MakesStep}
+use Rattle.dt_region.specs.Rules.{after_finishing, after_making, with_event, MakesStep}
 use Rattle.dt_region.specs.Conditions.{CanMove, HoldsValid}
 use Rattle.dt_region.specs.Sound.{IsSoundRegion, IsHeldPart}
 use Rattle.dt_region.specs.RegionInner.{AreWell}
@@ -141,7 +141,7 @@ module _ (procs : List ProcTree) (r : RegionView) (s : RegionState) (events : Li
           → after ≡ events ++ under stamp (Execute s.number id) ∷ []
           → record { state = made now done table; events = after; heard = heard; room = room - 1 } ≡ after_finishing procs r id
       finish_made stamp is_next after kept =
-          let state : made now done table ≡ after_step procs s (Execute s.number id) = ran_so ∙ ap (λ o. record s { here = executed procs s.here o }) (sym held_here.1) in
+          let state : made now done table ≡ after_making procs s (Execute s.number id) = ran_so ∙ ap (λ o. record s { here = executed procs s.here o }) (sym held_here.1) in
           subst (λ x. record { state = made now done table; events = after; heard = heard; room = room - 1 } ≡ after_finishing procs x id) stands.view
           (λ j. record { state = state j; events = kept_under stands (Execute s.number id) stamp after is_next kept j; heard = heard; room = room - 1 })
 
@@ -150,4 +150,4 @@ pub execute_made : (procs : List ProcTree) (r roomy after : RegionView) (id : Tx
     → after ≡ after_finishing procs roomy id → MakesStep procs r (Execute r.state.number id) (Ok true) after
 execute_made procs r roomy after id may made finished =
     let back : r.room + 1 - 1 ≡ r.room = omega arith in
-    (may, finished ∙ ap (λ x. after_finishing procs x id) made ∙ ap (λ n. record (with_event r (after_step procs r.state (Execute r.state.number id)) (Execute r.state.number id)) { room = n }) back)
+    (may, finished ∙ ap (λ x. after_finishing procs x id) made ∙ ap (λ n. record (with_event r (after_making procs r.state (Execute r.state.number id)) (Execute r.state.number id)) { room = n }) back)

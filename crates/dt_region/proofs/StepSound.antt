@@ -12,7 +12,7 @@ use Rattle.dt_proc.specs.Tree.{ProcTree}
 use Rattle.dt_txn.specs.declared.txn.Txn.{Txn}
 use Rattle.dt_txn.specs.Replica.{executed}
 use Rattle.dt_region.specs.Region.{RegionState, held}
-use Rattle.dt_region.specs.Rules.{MayMake, after_step}
+use Rattle.dt_region.specs.Rules.{MayMake, after_making}
 use Rattle.dt_region.specs.Conditions.{HoldsValid}
 use Rattle.dt_region.specs.Sound.{IsSoundRegion}
 use Rattle.dt_region.proofs.Rule4Insert.{insert_sound}
@@ -31,7 +31,7 @@ has_log s sound home place lt = by (either_le (suc home) s.regions)
         let empty : length (log_at s.logs home) ≡ 0 = ap length none in
         absurd (omega (arith, lt, empty))
 
-pub step_sound : (procs : List ProcTree) (s : RegionState) → IsSoundRegion s → HoldsValid procs s → (event : Event) → MayMake s event → IsSoundRegion (after_step procs s event)
+pub step_sound : (procs : List ProcTree) (s : RegionState) → IsSoundRegion s → HoldsValid procs s → (event : Event) → MayMake s event → IsSoundRegion (after_making procs s event)
 step_sound procs s sound holds (Insert region home) may =
     let next : (part : Part) × (slice_get (log_at s.logs home) (slice_index s.here.inserted home) ≡ Some part) = at_place (log_at s.logs home) (slice_index s.here.inserted home) may in
     insert_sound s sound home next.0 (has_log s sound home (slice_index s.here.inserted home) may) next.1

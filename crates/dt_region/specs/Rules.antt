@@ -93,8 +93,8 @@ abbrev pub MayMake : RegionState → Event → Type 0
 MayMake s event = MayStep s.logs s.here event
 
 -- the region after one of these steps, by these procedures
-abbrev pub after_step : List ProcTree → RegionState → Event → RegionState
-after_step procs s event = record s { here = stepped procs (held s) s.here event }
+abbrev pub after_making : List ProcTree → RegionState → Event → RegionState
+after_making procs s event = record s { here = stepped procs (held s) s.here event }
 
 -- From here on: how each call is answered, and what the region is after it, its events with it. After `NoMemory` it is
 -- always as before.
@@ -137,13 +137,13 @@ MakesDelivery r home begin first entries (Err e) after = after ≡ r
 
 -- a step of its own (insert, resolve, execute) is made exactly where it may be made, and nothing changes otherwise
 abbrev pub MakesStep : List ProcTree → RegionView → Event → Result Bool NoMemory → RegionView → Type 0
-MakesStep procs r event (Ok true) after = MayMake r.state event × (after ≡ with_event r (after_step procs r.state event) event)
+MakesStep procs r event (Ok true) after = MayMake r.state event × (after ≡ with_event r (after_making procs r.state event) event)
 MakesStep procs r event (Ok false) after = ¬ (MayMake r.state event) × (after ≡ r)
 MakesStep procs r event (Err e) after = after ≡ r
 
 -- to finish an execution makes the step, and takes one unit of room
 abbrev pub after_finishing : List ProcTree → RegionView → TxnId → RegionView
-after_finishing procs r id = record (with_event r (after_step procs r.state (Execute r.state.number id)) (Execute r.state.number id)) { room = r.room - 1 }
+after_finishing procs r id = record (with_event r (after_making procs r.state (Execute r.state.number id)) (Execute r.state.number id)) { room = r.room - 1 }
 
 -- an answer changes nothing but that its event is kept
 abbrev pub MakesAnswer : RegionView → List ℕ → Result (Unit {0}) NoMemory → RegionView → Type 0

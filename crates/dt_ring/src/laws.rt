@@ -1,4 +1,4 @@
-//! What holds of all rings. A law is the contract of a function that does nothing, and so is what its body needs of a type.
+//! What holds of all rings. A law is the contract of a function that does nothing, or what the body of one needs of a type.
 ghost use Rattle.dt_ring.specs.Rings.{EndsStayEnds};
 
 use crate::ends::{RingIn, RingOut};

@@ -10,7 +10,7 @@ use Rattle.dt_proc.specs.Tree.{ProcTree}
 use Rattle.dt_txn.specs.declared.txn.Txn.{Txn}
 use Rattle.dt_txn.specs.Replica.{IsContinuation, MayStep, Replica, stepped}
 use Rattle.dt_region.specs.Region.{RegionView, held, latest_stamp}
-use Rattle.dt_region.specs.Rules.{MakesStep, after_step}
+use Rattle.dt_region.specs.Rules.{MakesStep, after_making}
 use Rattle.dt_region.proofs.Callers.{under}
 use Rattle.dt_round.specs.Rounds.{Continues, after_steps}
 
@@ -47,7 +47,7 @@ module _ (procs : List ProcTree) (a b c : RegionView) (going : Continues procs a
   pub state : c.state ≡ record a.state { here = after_steps procs (held a.state) a.state.here events }
   state =
       ap (λ r. r.state) makes.1
-      ∙ ap (λ s. after_step procs s event) going.state
+      ∙ ap (λ s. after_making procs s event) going.state
       ∙ ap (λ h. record a.state { here = h }) (sym (after_more procs (held a.state) a.state.here going.events event))
 
   pub kept : c.events ≡ a.events ++ stamped_from (latest_stamp a + 1) events

@@ -11,7 +11,7 @@ use Rattle.dt_txn.specs.declared.txn.Body.TheVariants.{Call, Move}
 use Rattle.dt_txn.specs.Transaction.{IsValid}
 use Rattle.dt_txn.specs.Replica.{done_ids, view_of}
 use Rattle.dt_region.specs.Region.{HasStamp, RegionView, held, latest_stamp, sched_of}
-use Rattle.dt_region.specs.Rules.{after_step}
+use Rattle.dt_region.specs.Rules.{after_making}
 use Rattle.dt_region.specs.Conditions.{CanMove, HasPlaceToMove, HoldsValid}
 use Rattle.dt_region.specs.Sound.{IsSoundRegion}
 use Rattle.dt_region.proofs.Callers.{fronts_few, latest_more}
@@ -90,7 +90,7 @@ module _ (procs : List ProcTree) (entry now : RegionView) (u : IsUnderway procs 
     counts = subst (λ (r : RegionView). IsOneStepOn now.state.here r.state.here) (sym step.makes.1) (step_counted procs now.state u.sound step.event step.makes.0)
 
     latest : latest_stamp next ≡ latest_stamp now + 1
-    latest = ap latest_stamp step.makes.1 ∙ latest_more now (after_step procs now.state step.event) step.event
+    latest = ap latest_stamp step.makes.1 ∙ latest_more now (after_making procs now.state step.event) step.event
 
     holds : HoldsValid procs next.state
     holds id txn e =

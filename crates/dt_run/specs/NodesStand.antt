@@ -49,7 +49,7 @@ pub record IsInStep (v : NodesView) (made region : ℕ) : Type 0 where
   pub placed : HasPlacedOwn (node_in v region)
   pub begun : made ≢ 0 → BeganEagerly v.cluster v.workload region (kept_by_region v region)
 
--- no phase has failed: the nodes have made as many turns, the links bring what their sources would send now, and all that
+-- no phase has failed: all nodes have made the same number of turns, the links bring what their sources would send now, and all that
 -- regions took from each other came as planned
 pub record AreInStep (v : NodesView) : Type 0 where
   pub made : ℕ

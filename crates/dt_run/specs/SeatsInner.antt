@@ -73,7 +73,7 @@ pub record HaveEnds (seats : List SeatView) : Type 0 where
   pub ins : (region : ℕ) → region < length seats → length (seat_at seats region).ins + 1 ≡ length seats
   pub outs : (region : ℕ) → region < length seats → length (seat_at seats region).outs + 1 ≡ length seats
 
--- the ends of each link are related so
+-- the two ends of each link are related by `Link`
 pub record AreLinkedBy (Link : RingOutView → RingInView → Type 0) (seats : List SeatView) : Type 0 where
   pub ends : HaveEnds seats
   pub each : (source target : ℕ) → source < length seats → target < length seats → source ≢ target → (d : RingOutView) (e : RingInView)

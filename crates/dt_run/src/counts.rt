@@ -29,7 +29,7 @@ impl Counts {
         }
     }
 
-    /// After one phase more, which left the seats so.
+    /// After one phase more, which left these seats.
     pub fn after<S: Scheduler + Drop>(self, seats: &[Seat<S>]) -> Self
         requires kept { sum_by events_at seats.now < 2 ^ 64 }
         requires quiet { self.quiet < length (seat_at seats.now 0).marks }

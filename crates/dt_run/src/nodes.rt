@@ -55,7 +55,7 @@ pub struct Nodes<S: Scheduler + Drop> {
     broken: bool,
     /// How far they have come.
     counts: Counts,
-    /// How many events the last phase has kept: so long the next one is taken to be.
+    /// How many events the last phase has kept: the next one is expected to keep as many.
     grown: u64,
 }
 

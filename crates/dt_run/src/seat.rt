@@ -89,7 +89,7 @@ impl<S: Scheduler + Drop> Seat<S> {
         self.outs = outs;
     }
 
-    /// Makes a turn, with rounds made so, and notes whether it failed.
+    /// Makes a turn, whose rounds `rounds` makes, and notes whether it failed.
     pub fn turn<D: Rounds<Region<S>>>(&mut self, alloc: Global, procs: &Procs, rounds: &D)
         requires ready { D.ready rounds.now }
         requires can { SeatCan procs.now self.old }

@@ -16,10 +16,10 @@ use std::sync::Wait;
 use std::thread::Threads;
 
 /// Makes phases until every call is answered and every region has executed every attempt, and gives the report of the events
-/// that the nodes then hold, in the order of their stamps. Its phases are bounded, whatever packets are lost, so it returns
-/// if each of them does. It fails only when out of memory: in a phase, which the nodes then report (`broken`), and they are as
-/// after some phases, of which the last one was made in part; or for the report alone, when all is done. What was kept before
-/// stays.
+/// that the nodes then hold, in the order of their stamps. There is a bound on the number of its phases, for every loss plan of a
+/// cluster (at most every second packet is lost), so it returns if each of them does. It fails only when out of memory: in a
+/// phase, which the nodes then report (`broken`), and they are as after some phases, of which the last one was made in part; or
+/// for the report alone, when all is done. What was kept before stays.
 pub fn run<R: Threads + Wait + Sync, S: Scheduler + Drop + Send, G: Gate>(
     rt: &R,
     alloc: Global,

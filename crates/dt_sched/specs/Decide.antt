@@ -50,7 +50,7 @@ HasNothingToDo view resolved done = HasNothingToDoBy IsSooner view resolved done
 abbrev pub IsDownward : View → List TxnId → Type 0
 IsDownward view done = (u t : TxnId) → Has done t → Precedes view u t → Has done u
 
--- what a region keeps true, which inserted this view, resolved these classes and has done these ids
+-- what stays true at a region that inserted this view, resolved these classes and has done these ids
 pub record IsSound (view : View) (resolved : List (List TxnId)) (done : List TxnId) : Type 0 where
   pub well_formed : IsWellFormed view
   -- what is done was done once, and is closed

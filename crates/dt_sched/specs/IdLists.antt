@@ -6,7 +6,7 @@ use Rattle.dt_lists.specs.Lists.{Has, IsFront, Distinct}
 use Rattle.dt_access.specs.Ids.{AreAscending}
 use Rattle.dt_access.specs.declared.TxnId.{TxnId}
 
--- the list got the id at its back, or had it already
+-- the id was added at the back of the list, or was there already
 pub record AddsOnce (old : List TxnId) (id : TxnId) (new : List TxnId) : Type 0 where
   pub front : IsFront old new
   pub distinct : Distinct new

@@ -1,4 +1,4 @@
--- How ties are broken. Where edges go round, no member of the group comes first by them, so another order has to decide.
+-- How ties are broken. Where edges form a cycle, no member of the group comes first by them, so another order has to decide.
 -- Regions agree by it if it is a strict total order which every view computes alike. The laws of views hold for any such
 -- order; the store's own is by rank, then by id (`IsSooner`), which the parts alone decide. Read next: the laws
 -- `ties` and `order` in src/laws.rt.

@@ -1,6 +1,6 @@
 -- The dependency graph. Each home keeps a log of the parts of transactions that use its rows; what a region has inserted
 -- of all logs is its view. Two parts that clash in one log make an edge from the earlier to the later. Logs of several
--- homes may disagree, so edges can go round; ranks then break the tie, and ids where ranks are the same. Any order serves
+-- homes may disagree, so edges can form a cycle; ranks then break the tie, and ids where ranks are the same. Any order serves
 -- for this that every view computes alike (Ties.antt). Read next: Decide.antt, for what a region may do with its view.
 use Rattle.std.specs.Prelude.{◌≡◌, ◌≢◌, ◌<◌, ◌⊎◌, ◌↔◌, ℕ, List, [], get_or, map, length, true}
 use Rattle.std.specs.List.{filter, flat_map}
@@ -71,7 +71,7 @@ parts_with view t = flat_map (filter (λ p. same_id p.id t)) view
 abbrev pub rank_of : View → TxnId → ℕ
 rank_of view t = get_or (map (λ p. p.rank) (parts_with view t)) 0 0
 
--- u is sooner than t: it has the lesser rank, or the same rank and the lesser id
+-- u is sooner than t: it has the lower rank, or the same rank and the smaller id
 abbrev pub IsSooner : View → TxnId → TxnId → Type 0
 IsSooner view u t = (rank_of view u < rank_of view t) ⊎ ((rank_of view u ≡ rank_of view t) × Before u t)
 

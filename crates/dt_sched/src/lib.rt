@@ -13,9 +13,9 @@
 //! - **Complete**: the transaction has its part at each of its homes. **Closed**: all that reaches it is complete. Then no
 //!   longer view has anything more that reaches it.
 //! - **Class**: all that reach t and that t reaches. Where each transaction has one home, classes have one member; with
-//!   more homes the edges may go round.
-//! - **Precedes**: u reaches t, and if t reaches u too, u is the sooner one: its rank is less, or the ranks are the same
-//!   and its id is less. It is a strict order.
+//!   more homes the edges may form a cycle.
+//! - **Precedes**: u reaches t, and if t reaches u too, u is the sooner one: its rank is lower, or the ranks are the same
+//!   and its id is smaller. It is a strict order.
 //! - **Executable**: closed, not done, all that precedes it is done, and its class is resolved if it has two members.
 //! - **Resolvable**: a class of two or more, all of it complete, where all else that reaches it is done.
 //!
@@ -23,7 +23,7 @@
 //! 1.0 before 1.1, home 1 puts 1.1 before 1.0. A region that has inserted only the first entry of each log sees no edge;
 //! but neither payment is complete, so neither is executable. With all four entries inserted there are edges both ways:
 //! the two are one class, which is resolvable, and 1.0 precedes 1.1 where they have the same rank, since its id is the
-//! lesser one. Once the class is resolved, 1.0 runs, and then 1.1. Every region finds this, in whatever order the entries
+//! smaller one. Once the class is resolved, 1.0 runs, and then 1.1. Every region finds this, in whatever order the entries
 //! came.
 //!
 //! Read next: `specs/Views.antt` and `specs/Decide.antt` for the definitions, `laws.rt` for what holds of every view (that

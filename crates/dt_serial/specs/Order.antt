@@ -32,7 +32,7 @@ pub record IsDown (order : TxnId → TxnId → Type 0) (ids : List TxnId) : Type
   pub once : Distinct ids
   pub preceders : (u t : TxnId) → Has ids t → order u t → StandsBefore ids u t
 
--- t comes after the first n of these moves: the last one of them is there, and its mover precedes t; of none there is none
+-- t comes after the first n of these moves: the last one of them is there, and its mover precedes t; nothing is required for n = 0
 abbrev pub FollowsMove : (TxnId → TxnId → Type 0) → List Moved → ℕ → TxnId → Type 0
 FollowsMove order moves zero t = Unit {0}
 FollowsMove order moves (suc c) t = (m : Moved) × (slice_get moves c ≡ Some m) × order m.by t

@@ -2,12 +2,12 @@
 //!
 //! Each region executes its transactions one after another, and no two regions need the same order. The logs order
 //! those that clash, and every region keeps to that order; the others each region takes as they come. This crate shows
-//! that nothing of it can be seen, neither in an outcome nor in a table. It speaks of lists of transactions and of tables
+//! that none of this can be seen, neither in an outcome nor in a table. It speaks of lists of transactions and of tables
 //! alone: there is no region here, no log and no event, and no code that runs.
 //!
 //! - A *history* (`IsHistory`) is one run of all transactions, and an order of ids that fits it: what precedes a
-//!   transaction stands before it; of two that clash, and were annotated with equally many moves of what they clash on, one
-//!   precedes the other; and each comes after the moves that it was annotated with.
+//!   transaction stands before it; of two that clash, and were annotated with the same number of moves of what they clash on,
+//!   one precedes the other; and each comes after the moves that it was annotated with.
 //! - A *part* of a history (`IsPart`) is what one region may have run: some of its transactions, in an order of the
 //!   region's own, each after all that precedes it.
 //! - The laws hold of every part. `one_outcome`: each transaction has the outcome that it has in the history. `one_table`:

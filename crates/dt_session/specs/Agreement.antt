@@ -1,5 +1,5 @@
 -- What all regions agree on after a list of events: outcomes, tables, the order of an attempt that was answered before
--- another was submitted, the causes of failures, and, once they are drained of the same logs, all rows. `Agree` is what the
+-- another was submitted, the causes of failures, and, once they have drained the same logs, all rows. `Agree` is what the
 -- program promises of each list that it reports; that each legal list has it is the law `agreement`. Read next: src/laws.rt
 -- of dt_agreement; docs/PROOF.md says why it is so.
 use Rattle.std.specs.Prelude.{◌≡◌, ◌<◌, ℕ, List, [], ◌∷◌, ◌++◌, Option, Some, None}
@@ -51,7 +51,7 @@ HasCause cluster workload events id (Stale unit had by) =
     × (serial_outcome cluster workload events by ≡ Some (Gave []))
     × (next_mover (table_before cluster workload events id) unit had ≡ Some by)
 
--- two regions have received equally much of every log
+-- two regions have received the same amount of every log
 abbrev pub ReceivedAlike : World → ℕ → ℕ → Type 0
 ReceivedAlike w region other = (home : ℕ) → received_of w region home ≡ received_of w other home
 

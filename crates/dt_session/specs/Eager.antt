@@ -1,7 +1,7 @@
 -- Lists of events that waste nothing. One learns here what an eager list is: each event changes the world, and each
 -- region begins by submitting the first call of each of its sessions, in the order of their names. A cluster that runs by
--- itself makes such a list. So it can't keep deadlocks from arising by letting one call run at a time. What is left undone at
--- the end is no matter here. Read next: `Finished`, for when all is done.
+-- itself makes such a list. So it cannot avoid deadlocks by running one call at a time. What is left undone at the end does
+-- not matter here. Read next: `Finished`, for when all is done.
 use Rattle.std.specs.Prelude.{◌≢◌, ◌<◌, ◌+◌, ◌==◌, ℕ, List, [], ◌∷◌, flat_map, filter, Bool, if◌then◌else◌}
 use Rattle.std.specs.Ordering.{nat_cmp, is_lt}
 use Rattle.std.specs.Cmp.Lexicographic.{slice_cmp}
@@ -57,7 +57,7 @@ abbrev pub AllChange : Cluster → Workload → World → List Event → Type 0
 AllChange cluster workload w [] = Unit {0}
 AllChange cluster workload w (event ∷ events) = (next cluster workload w event ≢ w) × AllChange cluster workload (next cluster workload w event) events
 
--- nothing is done in vain, and every region begins by submitting the first call of each of its sessions
+-- each event changes the world, and every region begins by submitting the first call of each of its sessions
 pub record IsEager (cluster : Cluster) (workload : Workload) (events : List Event) : Type 0 where
   pub changing : AllChange cluster workload (opening_world cluster workload) events
   pub begins : (region : ℕ) → region < cluster.regions →

@@ -1,7 +1,7 @@
 -- The sessions of one region, as their keeper sees them: each with its calls, how many of these are answered, and the
 -- attempt that it waits for, with the number of that attempt. One learns here which session may go on (`MayGo`,
 -- `MayBeAnswered`, in the words of `Tries`), and what submitting an attempt (`after_wait`) and being answered
--- (`after_answer`) change. No world is spoken of: the outcome of the attempt that is waited for is given by whoever asks.
+-- (`after_answer`) change. No world is mentioned: whoever asks supplies the outcome of the attempt that is waited for.
 -- Read next: src/sessions.rt, the keeper; `Step` asks the same of a whole world.
 use Rattle.std.specs.Prelude.{◌≡◌, ◌<◌, ◌≤◌, ◌+◌, ◌-◌, ◌^◌, ℕ, List, length, map, slice_get, Bool, Option, Some, None, option_map, option_and_then}
 use Rattle.std.specs.Ordering.{nat_cmp, is_eq}
@@ -42,7 +42,7 @@ is_named name other = is_eq (slice_cmp nat_cmp name other)
 abbrev pub seat_of : SessionsView → Bytes → Option Seat
 seat_of s name = lookup (is_named name) s.seats
 
--- the attempt that a session waits for, if it does, with the outcome that it is said to have
+-- the attempt that a session waits for, if it does, with the outcome that is supplied for it
 abbrev pub awaited_in : Seat → Option Outcome → Option Awaited
 awaited_in seat last = option_map (λ w. record { attempt = w.attempt; outcome = last }) seat.waits
 

@@ -47,7 +47,7 @@ abbrev pub MayHappen : Cluster → Workload → World → Event → Type 0
 MayHappen cluster workload w (Submit region session) = MaySubmit cluster w region (session_at workload.sessions w.places region session)
 -- the source asked the home for more parts than that
 MayHappen cluster workload w (Append home source number) = number < length (asked_of w source home)
--- the places are in order, and the home's log reaches so far
+-- the places are in order, and the home's log reaches that far
 MayHappen cluster workload w (Deliver region home first last) = (first ≤ last) × (last ≤ length (log_of w home))
 -- the region may make the step by what it received
 MayHappen cluster workload w (Insert region home) = MayStep (received_logs w region) (node_at w region).here (Insert region home)
@@ -88,7 +88,7 @@ attempt_for cluster w region session place call = record {
   attempt = next_attempt w place.waits;
 }
 
--- the region after it submitted an attempt: each home of it is asked for its part
+-- the region after it submitted an attempt: each home of the attempt is asked for its part
 abbrev pub node_submitted : Node → Submission → Node
 node_submitted node s = record node { submitted = node.submitted ++ s ∷ []; here = after_asking node.here s.txn }
 

@@ -18,7 +18,7 @@ use Rattle.dt_cluster.specs.declared.Cluster.{Cluster}
 use Rattle.dt_workload.specs.declared.Workload.{Workload}
 use Rattle.dt_workload.specs.declared.Session.{Session}
 
--- an attempt that a region submitted: the transaction, the session whose it is, and the numbers of its call in the
+-- an attempt that a region submitted: the transaction, the session that made it, and the numbers of its call in the
 -- session and of the attempt in the call, both from 1
 pub record Submission : Type 0 where
   pub txn : Txn

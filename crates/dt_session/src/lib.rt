@@ -24,8 +24,8 @@
 //! ```
 //!
 //! Log 0 puts 1.0 first and log 1 puts 1.1 first, so neither can go before the other: a deadlock, with no lock held. Each
-//! region that has all four parts sees the same group {1.0, 1.1}, resolves it, and runs the lesser rank first and, as both
-//! have one rank here, the lesser id. Whatever is delivered when, all regions end with the same rows, and both sessions are
+//! region that has all four parts sees the same group {1.0, 1.1}, resolves it, and runs the lower rank first and, as both
+//! have one rank here, the smaller id. Whatever is delivered when, all regions end with the same rows, and both sessions are
 //! given outcomes of the one order 1.0, 1.1.
 //!
 //! A key may be moved to another home by a transaction of its own; in version 2 of a cluster a move takes along all keys of a

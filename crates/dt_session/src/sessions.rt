@@ -59,7 +59,7 @@ impl Model for Sessions {
 }
 
 impl Sessions {
-    /// The sessions of a workload that are at this region, before their first calls. A call may be tried so often. No two
+    /// The sessions of a workload that are at this region, before their first calls. A call may be tried `tries` times. No two
     /// sessions of the workload have one name, and it has at most 20,000 calls, as each workload of a cluster.
     pub fn new(alloc: Global, workload: &Workload, region: u8, tries: u32) -> Result<Self, NoMemory>
         requires names { Distinct (session_names workload.now.sessions) }

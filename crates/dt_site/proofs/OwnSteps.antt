@@ -6,7 +6,7 @@ use Rattle.dt_events.specs.declared.Event.TheVariants.{Insert, Resolve, Execute}
 use Rattle.dt_txn.specs.declared.Txn.{Txn}
 use Rattle.dt_txn.specs.Replica.{Replica, MayStep, stepped, executed}
 use Rattle.dt_region.specs.Region.{RegionView, held, latest_stamp}
-use Rattle.dt_region.specs.Rules.{MakesStep, after_step, with_event}
+use Rattle.dt_region.specs.Rules.{MakesStep, after_making, with_event}
 use Rattle.dt_region.specs.Sound.{IsSoundRegion}
 use Rattle.dt_region.proofs.Callers.{kept_more, latest_more}
 use Rattle.dt_events.specs.Stamps.{events_of}
@@ -30,7 +30,7 @@ module _ {cluster : Cluster} {workload : Workload} {w : World} (k : IsReached cl
   -- a step of the region's own
   module _ (event : Event) (l : IsLegal cluster workload w event) (moves : next cluster workload w event ≡ moved_on cluster w region event)
       (finds : stepped cluster.procs (held p.region.state) p.region.state.here event ≡ stepped cluster.procs (txn_of w) p.region.state.here event) (r : RegionView)
-      (is : r ≡ with_event p.region (after_step cluster.procs p.region.state event) event) (sound : IsSoundRegion r.state) where
+      (is : r ≡ with_event p.region (after_making cluster.procs p.region.state event) event) (sound : IsSoundRegion r.state) where
     node_made : node_of (in_region p r) ≡ record (node_at w region) { here = stepped cluster.procs (txn_of w) (node_at w region).here event }
     node_made =
         ap (λ x. node_of (in_region p x)) is

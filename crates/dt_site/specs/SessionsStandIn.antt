@@ -23,7 +23,7 @@ seat_in w (session, place) = record {
 
 -- the sessions are those of the region in the world
 pub record SessionsStandIn (cluster : Cluster) (workload : Workload) (w : World) (region : ℕ) (s : SessionsView) : Type 0 where
-  -- a call may be tried as often
+  -- a call may be tried as often as the cluster allows
   pub tries : s.tries ≡ cluster.tries
   -- under each name it has the region's session, with where that stands, or none
   pub seats : (name : Bytes) → seat_of s name ≡ option_map (seat_in w) (session_at workload.sessions w.places region name)

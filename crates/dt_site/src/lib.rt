@@ -4,7 +4,7 @@
 //! it submitted, whose it is: the session, the number of its call, and the number of the attempt.
 //!
 //! What makes this a crate of its own is the relation between a site and a world of all regions, `StandsIn` in `specs/`,
-//! and what follows of it. Where a site stands in a world that legal events lead to:
+//! and what follows from it. Where a site stands in a world that legal events lead to:
 //!
 //! - it may be given the requests that the world's regions asked it to place (`can_append`);
 //! - it may be given any stretch of another region's log, from a place that it has already or not (`can_deliver`);

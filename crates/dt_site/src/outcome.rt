@@ -1,4 +1,4 @@
-//! What became at a region of the attempt that a session waits for.
+//! The outcome at a region of the attempt that a session waits for.
 ghost use Rattle.std.specs.Prelude.{◌≡◌, option_and_then};
 ghost use Rattle.std.specs.Option.{option_copied};
 ghost use Rattle.dt_region.specs.Region.{outcome_of};

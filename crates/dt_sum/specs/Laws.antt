@@ -71,7 +71,7 @@ EachCallHasAReply =
     (calls : ℕ) (events : List Event) (item_of : Event → Option Bytes) → calls ≤ 20000 → AreLegal load_cluster (load_workload calls) events
     → IsFinished load_cluster (load_workload calls) events → ((event : Event) → is_some (item_of event) ≡ is_answer event) → length (filter_map item_of events) ≡ calls
 
--- so what is reported of a finished run, by its events and by the rows that its report shows of region 0, is known before
+-- so what is reported of a finished run, by its events and by the rows that its report shows of region 0, is known beforehand
 abbrev pub EachSummaryIsKnown : Type 0
 EachSummaryIsKnown =
     (calls : ℕ) (events : List Event) → calls ≤ 20000 → AreLegal load_cluster (load_workload calls) events → IsFinished load_cluster (load_workload calls) events →

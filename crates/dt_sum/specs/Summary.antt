@@ -1,5 +1,5 @@
 -- What is reported of a run of the generated load: three lines, with the number of its calls, the number of answers that were given,
--- and the sum of the rows of region 0. The last two are read off the report of the run. Of a finished run they are known before,
+-- and the sum of the rows of region 0. The last two are read off the report of the run. Of a finished run they are known beforehand,
 -- since each call is answered once and no money is made or lost; so one learns here what `big` writes (`big_text`). Read next:
 -- Laws, among which is that a finished run has this summary.
 use Rattle.std.specs.Prelude.{ℕ, ℤ, pos, ◌+ℤ◌, Bool, true, false, List, [], ◌∷◌, ◌++◌, codes, count_by, get_or, Option, Some}

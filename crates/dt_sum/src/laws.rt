@@ -40,7 +40,7 @@ pub fn each_call_has_a_reply()
     ensures { EachCallHasAReply }
 {}
 
-/// What is reported of a finished run of the load of n calls is known before: as many answers as calls, and the sum 100,000.
+/// What is reported of a finished run of the load of n calls is known beforehand: as many answers as calls, and the sum 100,000.
 pub fn each_summary_is_known()
     ensures { EachSummaryIsKnown }
 {}

@@ -1,6 +1,6 @@
 //! What is counted of the tokens so far.
 
-ghost use Rattle.std.specs.Prelude.{◌≡◌, ◌+◌, ◌-◌, ◌<◌, ◌≤◌, ◌^◌, [], ◌∷◌, List, if◌then◌else◌};
+ghost use Rattle.std.specs.Prelude.{◌≡◌, ◌+◌, ◌-◌, ◌≤◌, ◌^◌, [], ◌∷◌, List, if◌then◌else◌};
 ghost use Rattle.dt_syntax.specs.declared.token.Placed.{Placed};
 ghost use Rattle.dt_syntax.specs.FirstPass as passes;
 ghost use Rattle.dt_syntax.specs.CountsInner.{AreAtMost, counts_of};

@@ -1,10 +1,10 @@
-ghost use Rattle.std.specs.Prelude.{◌≡◌, ◌+◌, ◌-◌, ◌<◌, ◌≤◌, ◌^◌, ◌≢◌, ◌==◌, ◌||◌, ℕ, [], ◌∷◌, ◌++◌, length, drop, take_while, slice_index, nat_eq, IfOk, IsTrue, MatchOption, None, pos};
+ghost use Rattle.std.specs.Prelude.{◌≡◌, ◌+◌, ◌-◌, ◌<◌, ◌≤◌, ◌^◌, ◌≢◌, ◌==◌, ◌||◌, length, drop, take_while, slice_index, nat_eq, IfOk, IsTrue, None, pos};
 ghost use Rattle.std.specs.Option.{option_map};
 ghost use Rattle.std.specs.List.{list_all};
 ghost use Rattle.std.specs.Cmp.Lexicographic.{pointwise};
-ghost use Rattle.dt_text.specs.Texts.{is_name_byte, is_text_byte, IsStr};
+ghost use Rattle.dt_text.specs.Texts.{is_name_byte, is_text_byte};
 ghost use Rattle.dt_syntax.specs.Tokens as tokens;
-ghost use Rattle.dt_syntax.specs.Tokens.{items_of, tokens_from, with_item};
+ghost use Rattle.dt_syntax.specs.Tokens.{tokens_from};
 
 use crate::apart::Apart;
 use crate::operator::Op;

@@ -1,5 +1,5 @@
 -- A map whose keys are vectors of bytes, and the same entries by the bytes of their keys: look-ups and inserts agree.
-use Rattle.std.proofs.Common.{◌≡◌, ℕ, true, false, cond, List, [], ◌∷◌, nat_eq, refl, ap, Some}
+use Rattle.std.proofs.Common.{◌≡◌, ℕ, true, false, cond, List, [], ◌∷◌, length, nat_eq, refl, ap, Some, None, arith}
 use Rattle.std.specs.Cmp.Lexicographic.{pointwise}
 use Rattle.std.specs.List.{IsDistinct, AllByRecursion}
 use Rattle.std.specs.Map.{lookup, keys_of}
@@ -9,6 +9,11 @@ use Rattle.dt_access.specs.Clash.{Bytes, same_key}
 use Rattle.dt_table.specs.StoredUnitInner.{by_bytes}
 
 module _ {Z V : Type 0} where
+  -- where nothing is stored, nothing is found
+  pub none_of_none : (es : List (Vec ℕ Z × V)) (q : Bytes) → length es ≡ 0 → lookup (same_key q) (by_bytes es) ≡ None
+  none_of_none [] q e = refl
+  none_of_none (e ∷ es) q none = absurd (omega (arith, none))
+
   pub lookup-by_bytes : (es : List (Vec ℕ Z × V)) (q : Bytes) → lookup (λ k. pointwise nat_eq q k.items) es ≡ lookup (same_key q) (by_bytes es)
   lookup-by_bytes [] q = refl
   lookup-by_bytes (e ∷ es) q = ap (cond (same_key q e.0.items) (Some e.1)) (lookup-by_bytes es q)

@@ -1,5 +1,5 @@
 -- Scaffolding: how the code keeps values. Those of the opening stand apart from what has changed since, so that tables can
--- share them; `layered` is what the two come to. No contract of a public call speaks of these words; read Table.antt for
+-- share them; `layered` is what the two come to. No contract of a public call uses these words; read Table.antt for
 -- what callers see.
 use Rattle.std.specs.Prelude.{ℕ, not, List, [], ◌∷◌, ◌++◌, map, flat_map, Option, Some, is_some, if◌then◌else◌}
 use Rattle.std.specs.Map.{lookup}

@@ -1,6 +1,6 @@
 -- Scaffolding: how the code keeps one unit. A stored unit has its home and its number of moves beside it, so that both
 -- are read without a walk along its moves. Units are looked up by their bytes, so that the front of a key serves and
--- takes no memory. No contract of a public call speaks of these words; read Table.antt for what they come to. Read next:
+-- takes no memory. No contract of a public call uses these words; read Table.antt for what they come to. Read next:
 -- StoredMovesInner.antt, for where the moves are.
 use Rattle.std.specs.Prelude.{ℕ, Bool, not, nat_lt, ◌&&◌, List, [], ◌∷◌, map, flat_map, Option, None, is_some, unwrap_or, if◌then◌else◌}
 use Rattle.std.specs.Map.{lookup}

@@ -31,19 +31,34 @@ pub fn opening_home(homes: &IndexMap<Vec<u8>, u8>, regions: u8, unit: &[u8]) -> 
     requires unit { 0 < length unit.now }
     ensures { result ≡ opening_home_of regions (by_bytes homes.now.entries) unit.now }
 {
-    match homes.get(unit) {
+    match listed_home(homes, unit) {
         Some(home) => *home,
         None => unit[0] % regions,
     }
 }
 
-/// The stored unit of these bytes, if it is stored.
+/// The home that is listed for the unit of these bytes, if one is. Where none is listed at all, the bytes are not hashed.
+#[tactic(auto, using(crate::proofs::ByBytes::none_of_none))]
+fn listed_home<'a>(homes: &'a IndexMap<Vec<u8>, u8>, unit: &[u8]) -> Option<&'a u8>
+    ensures { option_copied result ≡ lookup (same_key unit.now) (by_bytes homes.now.entries) }
+{
+    if homes.is_empty() {
+        return None;
+    }
+    homes.get(unit)
+}
+
+/// The stored unit of these bytes, if it is stored. Where no unit is, the bytes are not hashed.
+#[tactic(auto, using(crate::proofs::ByBytes::none_of_none))]
 pub fn stored_unit<'a>(
     units: &'a IndexMap<Vec<u8>, StoredUnit>,
     unit: &[u8],
 ) -> Option<&'a StoredUnit>
     ensures { option_copied result ≡ lookup (same_key unit.now) (by_bytes units.now.entries) }
 {
+    if units.is_empty() {
+        return None;
+    }
     units.get(unit)
 }
 

@@ -1,4 +1,4 @@
-//! Generated loads: what their clusters have, and what their sessions want. The rows were worked out by a program of its own
+//! Generated loads: what their clusters have, and what their sessions want. The rows were worked out by a separate program
 //! in another language, from the description alone.
 
 use crate::workloads::put_session;

@@ -124,7 +124,7 @@ fn below(alloc: Global, vertices: u32, numbers: &[u32]) -> Result<Vec<u32>, Fail
     Ok(kept)
 }
 
-/// A class of a graph that nothing outside reaches, and none of the blocked; no vertex where there is none.
+/// A class of a graph that nothing outside it and no blocked vertex reaches; no vertex where there is no such class.
 fn source(
     alloc: Global,
     vertices: u32,

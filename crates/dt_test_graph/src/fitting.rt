@@ -1,5 +1,5 @@
 //! Whether a part may be inserted after those that were.
-ghost use Rattle.std.specs.Prelude.{◌≡◌, ◌<◌, ◌↔◌, IsTrue, length};
+ghost use Rattle.std.specs.Prelude.{◌≡◌, ◌<◌, ◌↔◌, IsTrue};
 ghost use Rattle.dt_lists.specs.Lists.{AllIn, Has};
 ghost use Rattle.dt_sched.specs.Views.{HasPart, log_at};
 ghost use Rattle.dt_sched.specs.Sched.{CanInsert};

@@ -1,6 +1,7 @@
 //! Tests of the schedulers and of their graph: what a vertex reaches, its class, queues, what is ready and what is resolved,
 //! and that the two schedulers answer alike.
-//! Each is a table of expected values that were worked out independently, with one loop and one assertion; there is no other code.
+//! Most are tables of expected values that were worked out independently, each with one loop and one assertion; `alike.rt` draws parts
+//! at random.
 #![tactic(auto)]
 
 #[cfg(test)]

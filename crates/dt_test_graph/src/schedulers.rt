@@ -167,7 +167,7 @@ const CASES: [(&[Row<'static>], &[u8]); 7] = [
         ],
         b"ready, resolve 1.0 1.1; ready 1.0, execute 1.0; ready 1.1, execute 1.1; ready, ",
     ),
-    // Of a group the lesser rank runs first, whatever the ids are.
+    // In a group the lower rank runs first, whatever the ids are.
     (
         &[
             (1, 0, 5, 0, b"b", Mode::Write, 0, 1),

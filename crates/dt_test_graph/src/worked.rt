@@ -1,5 +1,5 @@
 //! Three short runs, call by call at both schedulers: what is ready after each call, and what may be resolved.
-ghost use Rattle.std.specs.Prelude.{◌≡◌, [], OnOk, replicate};
+ghost use Rattle.std.specs.Prelude.{◌≡◌, OnOk};
 
 use crate::alike::{execute, insert, resolve_some, same_executable, same_resolvable};
 use crate::schedulers::{Row, empty_logs, put_ids, ready};

@@ -325,7 +325,7 @@ fn calls_end_as_their_texts_say(rt: HostRuntime) -> Result<(), Fail> {
     Ok(())
 }
 
-/// A text with a piece in it that stands so often.
+/// A text in which a piece stands `times` times.
 fn repeated(
     alloc: Global,
     front: &[u8],

@@ -1,5 +1,5 @@
 //! Tests of what runs come to: all regions at once, until nothing is left.
-//! Each is a table of expected values that were worked out independently, with one loop and one assertion; there is no other code.
+//! Each runs clusters until nothing is left, and compares what they report.
 #![tactic(auto)]
 
 #[cfg(test)]

@@ -1,23 +1,23 @@
 -- A part more is delivered to a region: it may be given it, and has made one event more afterwards.
-use Rattle.std.proofs.Common.{◌≡◌, ◌≢◌, ◌⊎◌, ◌<◌, ◌≤◌, ◌+◌, ◌-◌, ◌^◌, ℕ, zero, suc, Bool, true, false, cond, List, [], ◌∷◌}
+use Rattle.std.proofs.Common.{◌≡◌, ◌≢◌, ◌⊎◌, ◌<◌, ◌≤◌, ◌+◌, ◌-◌, ℕ, zero, suc, true, false, cond, List, [], ◌∷◌}
 use Rattle.std.proofs.Common.{◌++◌, map, length, set, take, drop, slice_get, Option, Some, None, is_some, refl, sym, ap, subst, ◌∙◌, inl, inr, arith}
 use Rattle.std.proofs.lemmas.List.{append_assoc, drop_all, length-append, map-append}
 use Rattle.std.proofs.lemmas.List.Sums.{sum_by-set}
 use Rattle.std.proofs.lemmas.Option.{none-some, same_Some}
-use Rattle.dt_lists.specs.Lists.{AllIn, AnyIn, Has, Distinct, IsFront}
+use Rattle.dt_lists.specs.Lists.{AllIn, Has, Distinct, IsFront}
 use Rattle.dt_lists.proofs.Callers.{any_of_image, distinct_push, front_empty}
 use Rattle.dt_access.specs.Ids.{same_id}
 use Rattle.dt_access.specs.declared.Part.{Part}
 use Rattle.dt_access.specs.declared.TxnId.{TxnId}
 use Rattle.dt_access.proofs.Callers.{id_of_test}
-use Rattle.dt_sched.specs.Views.{HasPart, View, ids_of, log_at}
+use Rattle.dt_sched.specs.Views.{HasPart, ids_of, log_at}
 use Rattle.dt_sched.specs.Sched.{parts_in}
 use Rattle.dt_events.specs.declared.Event.{Event}
 use Rattle.dt_proc.specs.Tree.{ProcTree}
 use Rattle.dt_txn.specs.declared.txn.Txn.{Txn}
 use Rattle.dt_txn.specs.declared.txn.Entry.{Entry}
-use Rattle.dt_txn.specs.Transaction.{homes_of, part_of, IsValid}
-use Rattle.dt_region.specs.Conditions.{Agrees, AreFew, CanDeliver, HasHomesIn, IsPartOf}
+use Rattle.dt_txn.specs.Transaction.{IsValid}
+use Rattle.dt_region.specs.Conditions.{Agrees, CanDeliver, HasHomesIn, IsPartOf}
 use Rattle.dt_region.specs.Region.{RegionState, RegionView, find_txn, held}
 use Rattle.dt_region.specs.Rules.{after_deliver, hold, keep_all, past_end, with_entries, with_event}
 use Rattle.dt_region.specs.Sound.{IsSoundRegion}

@@ -1,5 +1,5 @@
 -- What a region of a few events does by itself: it submits a call, places a part in its own log, and inserts one.
-use Rattle.std.proofs.Common.{◌≡◌, ◌⊎◌, ◌<◌, ◌≤◌, ◌+◌, ℕ, Bool, true, false, cond, List, [], ◌∷◌, ◌++◌, length, map, Option, Ok, Some, None, refl, sym, ap, subst, ◌∙◌, inl, inr, arith}
+use Rattle.std.proofs.Common.{◌≡◌, ◌⊎◌, ◌<◌, ◌+◌, ℕ, true, false, cond, List, [], ◌∷◌, ◌++◌, length, Ok, Some, sym, subst, inl, inr, arith}
 use Rattle.std.proofs.lemmas.List.{length-append}
 use Rattle.std.proofs.lemmas.List.Sums.{sum_by-set}
 use Rattle.std.proofs.lemmas.Option.{same_Some}
@@ -19,8 +19,8 @@ use Rattle.dt_txn.specs.Transaction.{BodyFits, IsValid, homes_of, part_of, uses_
 use Rattle.dt_txn.proofs.Callers.{annotated_uses}
 use Rattle.dt_region.specs.Conditions.{Agrees, CanAppend, HasHomesIn}
 use Rattle.dt_lists.specs.Lists.{Has}
-use Rattle.dt_region.specs.Region.{RegionState, RegionView, find_txn, held}
-use Rattle.dt_region.specs.Rules.{MakesStep, after_append, after_step, after_submit, txn_for, with_event, with_submission}
+use Rattle.dt_region.specs.Region.{RegionState, RegionView, find_txn}
+use Rattle.dt_region.specs.Rules.{MakesStep, after_append, after_making, after_submit, txn_for, with_event, with_submission}
 use Rattle.dt_region.specs.Sound.{IsSoundRegion}
 use Rattle.dt_region.proofs.Callers.{latest_more}
 use Rattle.dt_test_round.specs.Fed.{WasFed}
@@ -98,5 +98,5 @@ module _ (procs : List ProcTree) (count : ℕ) (r after : RegionView) (fed : Was
     unmoved = fed.unmoved;
     submitted = let a = fed.submitted in omega (arith, a);
     parts = let a = fed.parts in omega (arith, a);
-    stamp = let a = fed.stamp in let b = latest_more r (after_step [] r.state (Insert r.state.number home)) (Insert r.state.number home) in omega (arith, a, b);
+    stamp = let a = fed.stamp in let b = latest_more r (after_making [] r.state (Insert r.state.number home)) (Insert r.state.number home) in omega (arith, a, b);
   })

@@ -1,5 +1,5 @@
 -- What two claims leave of a region that has room for them.
-use Rattle.std.proofs.Common.{◌≡◌, ◌≤◌, ◌+◌, List, [], ◌∷◌, ◌++◌, length, max, sym, ap, subst, ◌∙◌, arith}
+use Rattle.std.proofs.Common.{◌≡◌, ◌≤◌, ◌+◌, [], ◌∷◌, length, max, sym, ap, subst, ◌∙◌, arith}
 use Rattle.std.proofs.Math.Nat.{le-max_right, max-eq_left}
 use Rattle.std.proofs.lemmas.List.{length-append}
 use Rattle.dt_region.specs.Region.{RegionView}

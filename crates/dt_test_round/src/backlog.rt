@@ -104,7 +104,7 @@ struct Patient {
     passed: AtomicU64,
 }
 
-/// So often a worker looks.
+/// How often a worker looks.
 const LOOKS: u32 = 10000;
 
 impl Gate for Patient {

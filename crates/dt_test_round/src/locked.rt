@@ -118,7 +118,7 @@ impl Meeting {
     }
 }
 
-// So often the first worker looks for a second one.
+// How often the first worker looks for a second one.
 const TURNS: u64 = 100000000;
 
 impl Gate for Meeting {

@@ -1,4 +1,4 @@
-//! That a call is worked outside the lock: meanwhile another worker claims, works and commits.
+//! A call is computed outside the lock: meanwhile another worker claims, computes and commits.
 
 use crate::calls::{Call, procs_of};
 use crate::feeding::Row;
@@ -45,7 +45,7 @@ fn look(count: &AtomicU64, least: u64) {
     }
 }
 
-// So often a worker looks for the other one, and so many looks are a moment: a few of these are less time than the long call takes.
+// How often a worker looks for the other one; and how many looks make a moment, a few of which are shorter than the long call.
 const LOOKS: u64 = 100000000;
 
 const MOMENT: u64 = 100000;
@@ -97,10 +97,10 @@ fn procs(alloc: Global) -> Result<Procs, Fail> {
     procs_of(alloc, text.as_slice())
 }
 
-/// How the events end where all short calls were committed while the long one was worked.
+/// How the events end where all short calls were committed while the long one was computed.
 const BEHIND: &[u8] = b"execute 3 6.0\n18 execute 3 3.0\ntrue";
 
-/// So often it is tried at most: a worker may be stopped while the other one goes on.
+/// How often it is tried at most: a worker may be stopped while the other one goes on.
 const TIMES: u32 = 200;
 
 #[test]

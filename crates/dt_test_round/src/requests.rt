@@ -1,5 +1,5 @@
 //! What a region submits, and what it places in its own log.
-ghost use Rattle.std.specs.Prelude.{◌≡◌, ◌+◌, ◌<◌, ◌≤◌, length, OnOk};
+ghost use Rattle.std.specs.Prelude.{◌+◌, ◌<◌, ◌≤◌, length, OnOk};
 ghost use Rattle.dt_test_round.specs.Fed.{WasFed};
 
 use crate::calls::{Call, call_of};

@@ -45,7 +45,7 @@ pub enum Telling {
     Outcomes,
 }
 
-/// What came to a region before its round: its number in a cluster of so many regions, what its sessions submitted, and the parts of
+/// What came to a region before its round: its number in a cluster of n regions, what its sessions submitted, and the parts of
 /// logs, in their order.
 #[derive(Clone, Copy)]
 pub struct Story<'a> {

@@ -106,7 +106,7 @@ fn finished_in_twin<S: Scheduler + Drop, N: Named>(
     Err(Fail::from("the first is claimed, and there is memory"))
 }
 
-/// Whether a claim that is running is worked and committed, and what a twin finished of the same transaction is not committed then.
+/// Whether a running claim is computed and committed, and a second result for the same transaction is then not committed.
 fn commits_once<S: Scheduler + Drop, N: Named>(
     alloc: Global,
     held: &mut Held<S, N>,

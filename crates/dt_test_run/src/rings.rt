@@ -1,5 +1,4 @@
 //! Rings: what is put at one end, and what is taken at the other.
-ghost use Rattle.std.specs.Prelude.{◌≡◌};
 ghost use Rattle.dt_ring.specs.Rings.{AreEnds, SameIn, SameOut};
 
 use crate::ends::{put, stamped, take};

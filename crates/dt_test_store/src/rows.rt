@@ -1,5 +1,4 @@
 //! Rows: their values, homes and moves after changes, and which of them are shown.
-ghost use Rattle.std.specs.Prelude.{◌≡◌, IsTrue};
 
 use dt_access::{TxnId, Writes, is_unit};
 use dt_table::{Effect, Table, UnitName};

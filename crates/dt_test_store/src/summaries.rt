@@ -3,7 +3,7 @@ use dt_events::read_events;
 use dt_report::{EventList, Rans, Replies, Report, Tables};
 use dt_sum::summary;
 use dt_table::{Shown, ShownList};
-use dt_text::{Key, NoMemory, Str, Value};
+use dt_text::{Key, Str, Value};
 use std::alloc::Global;
 use std::test::Fail;
 

@@ -1,7 +1,7 @@
 //! Transactions that move a key: their homes and parts, and what they come to.
 //!
 //! In version 1 a key is moved alone, in version 2 with all keys of its granule.
-ghost use Rattle.std.specs.Prelude.{◌≡◌, IfOk};
+ghost use Rattle.std.specs.Prelude.{IfOk};
 ghost use Rattle.dt_txn.specs.Transaction.{CanRun, HasItsUses};
 
 use crate::rows::key_of;

@@ -7,7 +7,7 @@ use std::test::Fail;
 /// More bytes than a test reads.
 const MANY: usize = 100000;
 
-/// The events of a file, each copied and printed, or the line that is none.
+/// The events of a file, each copied and printed, or the first line that is not an event.
 fn told(alloc: Global, file: &[u8]) -> Result<Vec<u8>, Fail> {
     if file.len() > MANY {
         return Err(Fail::from("a test reads few bytes"));
@@ -31,7 +31,7 @@ fn told(alloc: Global, file: &[u8]) -> Result<Vec<u8>, Fail> {
     }
 }
 
-/// Files, each with its events as they are printed, or the first line that is none.
+/// Files, each with its events as they are printed, or the first line that is not an event.
 const FILES: [(&[u8], &[u8]); 30] = [
     (b"", b""),
     (b"submit 0 a", b"submit 0 a\n"),

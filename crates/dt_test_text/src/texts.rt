@@ -269,7 +269,7 @@ fn a_file_is_made_of_lines_and_a_line_of_words(rt: HostRuntime) -> Result<(), Fa
     Ok(())
 }
 
-/// How many bytes are shown of a piece that stands so often between others.
+/// How many bytes are shown of a piece that stands `times` times between others.
 fn told_of_many(
     alloc: Global,
     what: What,
@@ -286,7 +286,7 @@ fn told_of_many(
     Ok(told(alloc, what, bytes.as_slice())?.len())
 }
 
-/// A piece that stands so often between others, and how many bytes are shown of it.
+/// A piece that stands n times between others, and how many bytes are shown of it.
 const LONG: [(What, &[u8], &[u8], u32, &[u8], usize); 7] = [
     // A text has 256 bytes, however many its word has.
     (What::Text, b"", b"\"", 256, b"", 1028),

@@ -108,8 +108,8 @@ fn report_circle(report: &mut File, regions: u32, descending: bool) -> Result<()
     one_row_each(report, regions)
 }
 
-/// Ten transfers of all ranks between two rows, by turns from the one and from the other, which all wait for each other: the lesser the
-/// id, the greater the rank.
+/// Ten transfers of all ranks between two rows, alternately from the one and from the other, which all wait for each other: the smaller
+/// the id, the greater the rank.
 pub fn all_ranks(play: &mut Play) -> Result<(), Fail> {
     play.cluster
         .add_all(&["regions = 2", "[rows]", "a = 100", "b = 100"])?;

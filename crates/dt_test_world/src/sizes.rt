@@ -14,7 +14,7 @@ enum Size {
     Ranks,
     /// A call over n homes.
     Homes(u32),
-    /// A call that may be tried so often, and n moves of its row meanwhile.
+    /// A call that may be tried m times, and n moves of its row meanwhile.
     Tries(u32, u32),
     /// Sessions at up to five regions, and the calls of each.
     Calls(u32, u32),
@@ -157,7 +157,7 @@ fn run_call(events: &mut Script, homes: u32, region: u32) -> Result<(), Fail> {
     events.add("execute # 1.0", &[region])
 }
 
-/// Sessions at up to five regions by turns, each with n calls: puts of keys of their own, at home in the region of the session.
+/// Sessions at up to five regions in rotation, each with n calls: puts of keys of their own, at home in the region of the session.
 /// One more region receives all logs whole.
 fn calls_of_sessions(play: &mut Play, sessions: u32, calls: u32) -> Result<(), Fail> {
     let homes = sessions.min(5);

@@ -2,7 +2,7 @@
 use crate::scripts::{Play, Script};
 use std::test::Fail;
 
-/// A put that may be tried so often, and as many moves of its row to and fro, or one less, each while the put is under way.
+/// A put that may be tried n times, and n moves of its row to and fro, or one less, each while the put is under way.
 pub fn tries_of_a_call(play: &mut Play, tries: u32, moves: u32) -> Result<(), Fail> {
     play.cluster.add("regions = 2", &[])?;
     play.cluster.add("tries = #", &[tries])?;

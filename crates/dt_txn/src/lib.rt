@@ -1,8 +1,8 @@
 //! Transactions: what a region annotates and sends to the homes, and what one does to a table.
 //!
-//! A region that submits a call or a move notes of each key which home its table gives it, and how often the key's unit was
-//! moved so far. By the homes the transaction is cut into parts, one for the log of each; by the numbers of moves it is seen,
-//! where it runs, whether its parts stand in the right logs still. If not, it is stale and changes nothing.
+//! A region that submits a call or a move notes for each key which home its table gives it, and how often the key's unit was
+//! moved so far. By the homes the transaction is cut into parts, one for the log of each; the numbers of moves show, when it
+//! runs, whether its parts still stand in the right logs. If not, it is stale and changes nothing.
 //!
 //! Read next: `specs/Transaction.antt`, `specs/Execution.antt` and `specs/Staleness.antt`; `specs/Replica.antt` for what a
 //! region keeps for itself.

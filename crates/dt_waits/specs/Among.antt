@@ -11,7 +11,7 @@ use Rattle.dt_queue.specs.Queues.{Waiting, neighbours}
 abbrev pub HasNeighbour : List Waiting → ℕ → ℕ → Type 0
 HasNeighbour waiting u v = AnyIn (λ w. (w.vertex ≡ v) × AnyIn (λ n. n.vertex ≡ u) (neighbours waiting w.slot)) waiting
 
--- the vertex at a place of the list has a neighbour that is none of the list
+-- the vertex at a place of the list has a neighbour that is not in the list
 abbrev pub WaitsOutside : List Waiting → List ℕ → ℕ → Type 0
 WaitsOutside waiting list v = (u : ℕ) × HasNeighbour waiting u v × ¬ (Has list u)
 

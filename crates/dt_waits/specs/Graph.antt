@@ -1,7 +1,7 @@
 -- What the scheduler with queues keeps: of each transaction that has a part a vertex, which is a number; of those that are
 -- left in the graph the entries that wait, and how many neighbours these have; of those that are complete, which are ready,
 -- as they may be executed, and which are stuck; and of each resolved class its vertices, in the order in which they run.
--- That all of it is so at each moment is `KeepsGraph`; that the answers read off it are right is in proofs/Keeping.antt, and of
+-- That all of it is right at each moment is `KeepsGraph`; that the answers read off it are right is in proofs/Keeping.antt, and of
 -- classes in proofs/Classes.antt.
 use Rattle.std.specs.Prelude.{◌≡◌, ◌≤◌, ◌<◌, ◌↔◌, ℕ, Bool, not, List, [], length, map, get_or, slice_get, take, drop, Option, None, Some}
 use Rattle.std.specs.List.{filter, list_any}
@@ -29,7 +29,7 @@ pub record GraphView : Type 0 where
   pub stuck : List ℕ
   pub classes : List Open
 
--- the vertex of a number; past the last one some vertex, of which nothing is said
+-- the vertex of a number; past the last one an arbitrary vertex
 abbrev pub vertex_at : List Vertex → ℕ → Vertex
 vertex_at vertices v = get_or vertices v (record { rank = 0; missing = 0; class = None; slots = [] })
 
@@ -46,14 +46,14 @@ abbrev pub IsPlaceOfClass : List (List TxnId) → TxnId → Option ℕ → Type 
 IsPlaceOfClass resolved t None = ¬ (IsInResolved resolved t)
 IsPlaceOfClass resolved t (Some place) = (ids : List TxnId) × (slice_get resolved place ≡ Some ids) × Has ids t
 
--- what is kept of t beside its entries is so
+-- what is kept of t beside its entries is right
 pub record IsVertexOf (view : View) (resolved : List (List TxnId)) (t : TxnId) (x : Vertex) : Type 0 where
   -- it has the rank of each part of t, and the number of those homes that the part names which have no part of t yet
   pub rank : (home : ℕ) (p : Part) → Has (log_at view home) p → p.id ≡ t → x.rank ≡ p.rank
   pub missing : (home : ℕ) (p : Part) → Has (log_at view home) p → p.id ≡ t → x.missing ≡ lacking view t p.homes
   pub class : IsPlaceOfClass resolved t x.class
 
--- what is kept of a resolved class is so: its members, the soonest first, of which a front is done
+-- what is kept of a resolved class is right: its members, the soonest first, of which a front is done
 pub record IsOpened (view : View) (done ids class : List TxnId) (kept : Open) : Type 0 where
   pub within : AllIn (λ v. v < length ids) kept.members
   pub ordered : EachThen (IsSooner view) (map (id_at ids) kept.members)
@@ -69,7 +69,7 @@ pub record IsStuck (view : View) (resolved : List (List TxnId)) (done : List Txn
   pub apart : ¬ (IsInResolved resolved t)
   pub waits : ¬ (IsFree view done t)
 
--- all that is kept is so, of a view, resolved classes and done ids
+-- all that is kept is right, for a view, resolved classes and done ids
 pub record KeepsGraph (view : View) (resolved : List (List TxnId)) (done : List TxnId) (g : GraphView) : Type 0 where
   -- the ids are those that have a part, each once
   pub once : Distinct g.ids

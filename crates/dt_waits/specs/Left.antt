@@ -1,4 +1,4 @@
--- What is left in the graph. Once all that reaches a transaction is done, it is out: nothing waits for it any more, and no
+-- What is left in the graph. Once all that reaches a transaction is done, it is out: nothing waits for it, and no
 -- later part reaches it. So a scheduler may forget it, and answer from what is left alone. What it answers is stated of the
 -- whole view (dt_sched); that what is left determines it is in proofs/Left.antt and proofs/Test.antt.
 use Rattle.std.specs.Prelude.{◌≡◌, ◌⊎◌, ◌≤◌, List, length}

@@ -1,3 +1,4 @@
+pub mod Place
 pub mod Left
 pub mod Waits
 pub mod Graph

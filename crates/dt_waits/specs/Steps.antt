@@ -1,6 +1,6 @@
--- What the calls make of what is kept: a part is inserted, a class is resolved, an id is done. Each is said in terms of what
--- was kept before (Graph.antt), with no word of the view; that it stays the graph of the view is in proofs/Inserted.antt,
--- proofs/Resolved.antt and proofs/Finished.antt.
+-- What the calls make of what is kept: a part is inserted, a class is resolved, an id is done. Each is stated in terms of
+-- what was kept before (Graph.antt), without mention of the view; that it stays the graph of the view is in
+-- proofs/Inserted.antt, proofs/Resolved.antt and proofs/Finished.antt.
 use Rattle.std.specs.Prelude.{◌≡◌, ◌≢◌, ◌≤◌, ◌<◌, ◌⊎◌, ◌↔◌, ◌+◌, ℕ, suc, not, List, [], ◌∷◌, ◌++◌, length, map, get_or, set, slice_get, None, Some}
 use Rattle.std.specs.List.{filter}
 use Rattle.dt_lists.specs.Lists.{AnyIn, AllIn, Has, EachThen, Distinct}
@@ -133,7 +133,7 @@ AreEntriesBelow bound waiting = AllIn (λ w. w.vertex < bound) waiting
 abbrev pub InsertsPart : Part → GraphView → GraphView → Type 0
 InsertsPart part old new = (v : ℕ) × (more : List Waiting) × Inserts part v more old new
 
--- u runs before v in a class: it has the lesser rank, or the same rank and the lesser id
+-- u runs before v in a class: it has the lower rank, or the same rank and the smaller id
 abbrev pub RunsBefore : GraphView → ℕ → ℕ → Type 0
 RunsBefore g u v = ((vertex_at g.vertices u).rank < (vertex_at g.vertices v).rank) ⊎ ((vertex_at g.vertices u).rank ≡ (vertex_at g.vertices v).rank) × Before (id_at g.ids u) (id_at g.ids v)
 

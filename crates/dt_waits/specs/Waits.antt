@@ -14,7 +14,7 @@ use Rattle.dt_sched.specs.Views.{View, log_at, ids_of}
 use Rattle.dt_waits.specs.Left.{IsLeft}
 use Rattle.dt_queue.specs.Queues.{Waiting, HasDistinctSlots, followers, neighbours}
 
--- the id of a vertex; past the last one some id, of which nothing is said
+-- the id of a vertex; past the last one an arbitrary id
 abbrev pub id_at : List TxnId → ℕ → TxnId
 id_at ids vertex = get_or ids vertex (record { seq = 0; region = 0 })
 

@@ -1,4 +1,4 @@
--- What a workload file is, and what fault is reported for a file that is none. A file is read line by line: the lines before
+-- What a workload file is, and what fault is reported for a file that is not one. A file is read line by line: the lines before
 -- the first faulty one are some sessions, and that line's fault is the first of its causes in a fixed order, so each file
 -- is one workload or has one fault (`Laws`). The forms of lines are in `Lines`, and what a workload is in `Valid`. Read
 -- next: `Laws`.

@@ -49,7 +49,7 @@ ReadsRegion fixed words answer =
     MatchOption answer ((n : ℕ) → n < 2 ^ 32 → words ≢ bare fixed ∷ bare (decimal n) ∷ [])
     (λ n. (n < 2 ^ 32) × (words ≡ bare fixed ∷ bare (decimal n) ∷ []))
 
--- a refusal is of a cause that is there, or memory ran out
+-- a refusal has a cause that holds, or memory ran out
 abbrev pub Refuses : (WorkloadCause → Type 0) → Refusal → Type 0
 Refuses IsCause (Cause why) = IsCause why
 Refuses IsCause NoMemory = Unit {0}
@@ -74,7 +74,7 @@ IsNoBeginning cluster before name region told =
     (Needs (region < cluster.regions) cause.Region
     (Needs (session_count_at region before < 64) cause.TooMany NothingMore)) told
 
--- a form goes on some sessions: a session is one more, and a call or a move is wanted by the last one
+-- a form goes on from some sessions: a session is one more, and a call or a move is wanted by the last one
 abbrev pub FormGoesOn : Cluster → List Session → lines.Form → List Session → Type 0
 FormGoesOn cluster before (lines.session_line name region) after =
     IsName name × ¬ (Has (session_names before) name) × (region < cluster.regions) × (session_count_at region before < 64)
@@ -85,11 +85,11 @@ FormGoesOn cluster before (lines.call_line rank name args) after =
 FormGoesOn cluster before (lines.move_line rank key target) after =
     IsUnitKey cluster.version key × (target < cluster.regions) × (calls_in before < 20000) × (rank < 10) × IsWithWanted before (record { rank = rank; wanted = Move key target }) after
 
--- a line goes on some sessions: by its form
+-- a line goes on from some sessions: by its form
 abbrev pub LineGoesOn : Cluster → List Session → Bytes → List Session → Type 0
 LineGoesOn cluster before line after = (form : lines.Form) × HasForm line form × FormGoesOn cluster before form after
 
--- no call of this procedure, if there is one: it needs one, arguments that fit it, and keys
+-- why there is no call of this procedure: it needs a procedure, arguments that fit it, and keys
 abbrev pub IsNoCall : Option ProcTree → List Value → WorkloadCause → Type 0
 IsNoCall proc args told =
     Needs (IsSome proc) cause.Proc (Needs (FitsIf proc args) cause.Args (Needs (GivesKeys proc args) cause.Key NothingMore)) told

@@ -58,7 +58,7 @@ impl From<NoMemory> for WorkloadError {
     }
 }
 
-/// Why a line does not go on a workload.
+/// Why a line cannot continue a workload.
 #[derive(Clone, Copy)]
 pub(crate) enum Refusal {
     /// The line is at fault.

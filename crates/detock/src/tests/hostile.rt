@@ -32,7 +32,7 @@ fn each_failing_load_is_told<R: Threads + Wait + Sync>(
     Ok(holds)
 }
 
-/// How the replay of one put with these events ends, with so much room in `out` and in `err`.
+/// How the replay of one put with these events ends, with this much room in `out` and in `err`.
 fn one_put<R: Threads + Wait + Sync>(
     rt: &R,
     alloc: Global,
@@ -76,7 +76,7 @@ fn a_fault_line_is_cut<R: Threads + Wait + Sync>(rt: &R, alloc: Global) -> Resul
     Ok(told.as_slice() == b"6 detoc|".as_slice())
 }
 
-/// From which length on, up to which, events that are cut there have a faulty line, and the line.
+/// Two lengths and a line: events that are cut at a length from the first to the second have this line faulty.
 const CUT_IN_A_LINE: [(usize, usize, u32); 5] = [
     (1, 9, 1),
     (12, 22, 2),
@@ -85,7 +85,7 @@ const CUT_IN_A_LINE: [(usize, usize, u32); 5] = [
     (50, 58, 5),
 ];
 
-/// At which lengths events that are cut there have none.
+/// The lengths at which events that are cut there have no faulty line.
 const CUT_BEHIND_AN_EVENT: [usize; 11] = [0, 10, 11, 23, 24, 34, 35, 48, 49, 59, 60];
 
 /// Whether events that are cut in a line have that line reported.

@@ -57,7 +57,7 @@ const CROSSING_URGENT: &[&str] = &[
     "call/2 xfer \"a\" \"b\" 4",
 ];
 
-/// The same two, with the rank that a call has which names none.
+/// The same two, with the rank of a call that names none.
 const CROSSING_OF_RANK_5: &[&str] = &[
     "session p at 0",
     "call/5 xfer \"b\" \"a\" 3",

@@ -230,7 +230,7 @@ fn a_run_tells_the_first_fault_of_the_first_file(rt: HostRuntime) -> Result<(), 
     Ok(())
 }
 
-/// Words of what threads do.
+/// Words that ask for what threads do.
 const THREADED: [&[&str]; 5] = [
     &["run", ":1", "w"],
     &["run", ":8", ":w"],

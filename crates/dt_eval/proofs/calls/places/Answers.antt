@@ -11,6 +11,6 @@ place_of-requires-clause-read c =
 
 pub loop-declared-preserved : goal.loop-declared-preserved
 loop-declared-preserved c =
-    subst (Placing c.args.args.now c.args.declarations.now c.args.reads.now _) (sym c.in_ok-push.ensures.items)
+    subst (Placing c.args.args.now c.args.declarations.now c.args.reads.now _) (sym c.in_ok-push.ensures.ok)
     (placing_more c.args.args.now c.args.declarations.now c.args.reads.now c.loop-declared.declared-index c.loop-declared.places.items c.declared-item.result c.loop-declared-test.true c.declared-item.is c.loop-declared.invariant
     c.place_of.result c.place_of.ensures.below (c.place_of.ensures.there ∙ ap (key_text c.args.args.now) c.as_slice.ensures))

@@ -4,12 +4,12 @@ use Rattle.dt_events.specs.Reading.{spelled}
 use Rattle.dt_events.proofs.EventWords.{event_of_line, no_event_of_line}
 use Rattle.dt_events.proofs.reader.read_event.Goals as goal
 
-pub returns-in-Some : goal.returns-in-Some
-returns-in-Some c =
-    let found = rw c.in-Some.is at c.in_ok-words.ensures.exact in
+pub returns-then-not-made : goal.returns-then-not-made
+returns-then-not-made c =
+    no_event_of_line c.args.line.now (rw c.if-not-made.true at c.in_ok-made.ensures.exact)
+
+pub returns : goal.returns
+returns c =
+    let found = rw c.if-not-made.false at c.in_ok-made.ensures.exact in
     let are : AreBareWords c.args.line.now (spelled c.as_slice.result.now) = rw c.as_slice.ensures.value found in
     IfOk-weaker c.event_of_words.result _ _ (λ answer h. event_of_line c.args.line.now (spelled c.as_slice.result.now) answer are h) c.event_of_words.ensures
-
-pub returns-in-None : goal.returns-in-None
-returns-in-None c =
-    no_event_of_line c.args.line.now (rw c.in-None.is at c.in_ok-words.ensures.exact)

@@ -1,7 +1,7 @@
 use Rattle.std.proofs.Common.{◌∙◌, subst}
 use Rattle.std.proofs.lemmas.List.{take_all}
 use Rattle.dt_lists.specs.Lists.{Has}
-use Rattle.dt_graph.specs.Links.{Links}
+use Rattle.dt_graph.specs.Links.{HasLinked}
 use Rattle.dt_queue.specs.Queues.{neighbours}
 use Rattle.dt_graph.proofs.WaitEdges.{links_next_in, links_next_out, links_of_entries}
 use Rattle.dt_graph.proofs.class.link_slot.Goals as goal
@@ -18,4 +18,4 @@ pub returns : goal.returns
 returns c =
     let all = take_all c.loop-neighbour.neighbour-index c.as_slice-neighbour-items.result.now c.loop-neighbour-test.false in
     let found = all ∙ c.as_slice-neighbour-items.ensures.value ∙ c.in_ok-neighbours.ensures in
-    links_of_entries (neighbours c.args.queues.now c.args.slot) _ _ _ _ _ (subst (λ xs. Links (Has xs) c.args.group.now c.args.place c.args.graph.now c.loop-neighbour.graph c.loop-neighbour.blocked) found c.loop-neighbour.invariant)
+    links_of_entries (neighbours c.args.queues.now c.args.slot) _ _ _ _ _ (subst (λ xs. HasLinked (Has xs) c.args.group.now c.args.place c.args.graph.now c.loop-neighbour.graph c.loop-neighbour.blocked) found c.loop-neighbour.invariant)

@@ -1,7 +1,7 @@
 use Rattle.std.proofs.Common.{take}
 use Rattle.dt_lists.specs.Lists.{Has}
-use Rattle.dt_graph.specs.Links.{Links}
+use Rattle.dt_graph.specs.Links.{HasLinked}
 use Rattle.dt_graph.proofs.class.link_slot.Given as goal
 
 abbrev pub invariant-loop-neighbour : goal.invariant-loop-neighbour
-invariant-loop-neighbour l = Links (Has (take l.neighbour-index l.neighbour-items)) l.group l.place l.initial.graph l.graph l.blocked
+invariant-loop-neighbour l = HasLinked (Has (take l.neighbour-index l.neighbour-items)) l.group l.place l.initial.graph l.graph l.blocked

@@ -4,7 +4,8 @@ use denote.Param.Send.{IsSync, arg_send, arg_sync, given_sync, param_send, param
 use mir.Syntax.{w32}
 use Rattle.std.proofs.Common.{sym, subst}
 use Rattle.std.proofs.Crossing.{sync}
-use Rattle.dt_lock.proofs.Callers.{and_shared, captures_sync, no_more, procs_sync}
+use Rattle.dt_proc.proofs.Callers.{procs_sync}
+use Rattle.dt_lock.proofs.Callers.{and_shared, captures_sync, no_more}
 use Rattle.dt_run.specs.SeatsInner.{SeatCan, no_seat}
 use Rattle.dt_run.proofs.SeatTurns.{went}
 use Rattle.dt_run.proofs.nodes.turn_all.Goals as goal

@@ -1,13 +1,12 @@
-use Rattle.std.proofs.Common.{◌%◌, ℕ, ap, ◌∙◌, Option, unwrap_or, slice_index}
-use Rattle.dt_table.proofs.ByBytes.{lookup-by_bytes}
+use Rattle.std.proofs.Common.{◌%◌, ℕ, ap, Option, unwrap_or, slice_index}
 use Rattle.dt_table.proofs.units.opening_home.Goals as goal
 
 pub returns-in-Some : goal.returns-in-Some
 returns-in-Some c =
     let listed = λ (o : Option ℕ). unwrap_or o (slice_index c.args.unit.now 0 % c.args.regions) in
-    ap listed (c.in-Some.ensures.value ∙ lookup-by_bytes c.args.homes.now.entries c.args.unit.now)
+    ap listed c.in-Some.ensures
 
 pub returns-in-None : goal.returns-in-None
 returns-in-None c =
     let listed = λ (o : Option ℕ). unwrap_or o (slice_index c.args.unit.now 0 % c.args.regions) in
-    ap listed (c.in-None.ensures.value ∙ lookup-by_bytes c.args.homes.now.entries c.args.unit.now)
+    ap listed c.in-None.ensures

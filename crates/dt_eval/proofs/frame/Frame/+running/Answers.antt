@@ -7,7 +7,7 @@ use Rattle.dt_eval.specs.Statements.{after_block}
 use Rattle.dt_eval.specs.declared.state.Datum.TheVariants.{Bool as Truth}
 use Rattle.dt_eval.proofs.FrameLaws.{block_tail, choose_by, drop_step}
 use Rattle.dt_eval.proofs.frame.Frame.+running.Goals as goal
-use Rattle.dt_eval.proofs.frame.Frame.+running.Goals.{choose-then-truth_of+in_ok-block, choose-else-truth_of+in_ok-block-2}
+use Rattle.dt_eval.proofs.frame.Frame.+running.Goals.{choose-then-branch+in_ok-block, choose-else-branch+in_ok-block-2}
 
 pub block-loop-stmt-preserved : goal.block-loop-stmt-preserved
 block-loop-stmt-preserved t c =
@@ -31,15 +31,15 @@ block-loop-stmt-preserved t c =
 pub choose-returns-clause-answer : goal.choose-returns-clause-answer
 choose-returns-clause-answer t c =
     let self = c.args.self.now in
-    elim c.if-truth_of.branch [
-      | choose-then-truth_of+in_ok-block w ↦
-          choose_by self.rows.0 (expr_tree c.args.test.now) c.args.then.now c.args.otherwise.now (seen self) (seen c.if-truth_of.self) true c.in_ok-value_of.field-0 c.truncate.new.self
-          c.in_ok-value_of.ensures.answer (c.truth_of.ensures ∙ ap Truth w.if-truth_of.true)
+    elim c.if-branch.branch [
+      | choose-then-branch+in_ok-block w ↦
+          choose_by self.rows.0 (expr_tree c.args.test.now) c.args.then.now c.args.otherwise.now (seen self) (seen c.if-branch.self) true (Truth c.in_ok-holds.field-0) c.truncate.new.self
+          c.in_ok-holds.ensures (ap Truth w.if-branch.true)
           (ap (λ b. after_block self.rows.0 b (seen self)) (sym w.as_slice.ensures) ∙ w.in_ok-block.ensures.answer ∙ ap (λ g. Ok (seen g)) (sym w.self-is))
-          (c.truncate.ensures ∙ ap (λ n. take n c.if-truth_of.self.variables) c.len-visible.ensures)
-      | choose-else-truth_of+in_ok-block-2 w ↦
-          choose_by self.rows.0 (expr_tree c.args.test.now) c.args.then.now c.args.otherwise.now (seen self) (seen c.if-truth_of.self) false c.in_ok-value_of.field-0 c.truncate.new.self
-          c.in_ok-value_of.ensures.answer (c.truth_of.ensures ∙ ap Truth w.if-truth_of.false)
-          (ap (λ b. after_block self.rows.0 b (seen self)) (sym w.as_slice-else-truth_of.ensures) ∙ w.in_ok-block-2.ensures.answer ∙ ap (λ g. Ok (seen g)) (sym w.self-is))
-          (c.truncate.ensures ∙ ap (λ n. take n c.if-truth_of.self.variables) c.len-visible.ensures)
+          (c.truncate.ensures ∙ ap (λ n. take n c.if-branch.self.variables) c.len-visible.ensures)
+      | choose-else-branch+in_ok-block-2 w ↦
+          choose_by self.rows.0 (expr_tree c.args.test.now) c.args.then.now c.args.otherwise.now (seen self) (seen c.if-branch.self) false (Truth c.in_ok-holds.field-0) c.truncate.new.self
+          c.in_ok-holds.ensures (ap Truth w.if-branch.false)
+          (ap (λ b. after_block self.rows.0 b (seen self)) (sym w.as_slice-else-branch.ensures) ∙ w.in_ok-block-2.ensures.answer ∙ ap (λ g. Ok (seen g)) (sym w.self-is))
+          (c.truncate.ensures ∙ ap (λ n. take n c.if-branch.self.variables) c.len-visible.ensures)
     ]

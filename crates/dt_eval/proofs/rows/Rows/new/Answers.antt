@@ -9,7 +9,7 @@ pub invariant_of-result : goal.invariant_of-result
 invariant_of-result c =
     let long = c.len.ensures ∙ c.args.items.ok.0 in
     let rows = rows_made c.args.items.items c.in_ok-changed.changed.items c.len.result (c.in_ok-changed.ensures.items_if_clones_equal (λ y h. h)) long in (
-      sym c.in_ok-changed.changed.ok.0 ∙ c.in_ok-changed.ensures.len ∙ long,
+      c.in_ok-changed.ensures.len ∙ long,
       subst (λ rs. AllIn (λ p. p < length rs) c.args.places.items) (sym rows) c.requires.places,
       subst (λ rs. EachThen KeyBefore (keys_in rs)) (sym rows) c.requires.keys,
     )

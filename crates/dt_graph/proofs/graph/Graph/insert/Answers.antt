@@ -38,6 +38,12 @@ invariant_of-self c =
     (subst (λ n. length ids ≤ n) (sym c.extend.ensures.ready) c.self.invariant.ready_bound) (subst (λ n. length ids ≤ n) (sym c.extend.ensures.stuck) c.self.invariant.stuck_bound) i.1)
     (λ e. fitted_same ids c.self.inside.waits c.self.invariant c.extend.new.self classes e (omega (arith, c.extend.ensures.ready)) (omega (arith, c.extend.ensures.stuck)))
 
+pub reserve-requires-in-None : goal.reserve-requires-in-None
+reserve-requires-in-None c =
+    let g : GraphView = kept_of c.self.inside.names.ids c.self.inside.waits c.self.inside.classes.items in
+    let r : MayInsert g c.args.part.now = subst (λ g. MayInsert g c.args.part.now) (sym c.self.view_is) c.requires in
+    few_more g c.args.part.now r _ c.self.invariant.vertices
+
 pub invariant_of-self-in_err-reserve-in-None-2 : goal.invariant_of-self-in_err-reserve-in-None-2
 invariant_of-self-in_err-reserve-in-None-2 c =
     rw c.reserve.ensures.same

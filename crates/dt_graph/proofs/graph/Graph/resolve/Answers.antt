@@ -1,9 +1,10 @@
-use Rattle.std.proofs.Common.{◌≡◌, ◌∙◌, ◌<◌, ◌++◌, ◌∷◌, [], length, sym, ap, subst, arith}
+use Rattle.std.proofs.Common.{◌≡◌, ◌∙◌, ◌+◌, ◌<◌, ◌^◌, ◌++◌, ◌∷◌, [], length, sym, ap, subst, arith}
 use Rattle.dt_lists.specs.Lists.{AllIn}
+use Rattle.dt_waits.specs.Graph.{GraphView}
 use Rattle.dt_graph.specs.Held.{kept_of}
 use Rattle.dt_waits.specs.Steps.{Resolves, RunInOrder}
 use Rattle.dt_graph.proofs.Bounds.{fitted_resolved}
-use Rattle.dt_graph.proofs.ResolveCall.{are_once, are_there, pushed_at}
+use Rattle.dt_graph.proofs.ResolveCall.{MayResolve, are_once, are_there, class_fits, pushed_at}
 use Rattle.dt_graph.proofs.graph.Graph.resolve.Goals as goal
 
 pub in_order-requires-clause-there : goal.in_order-requires-clause-there
@@ -19,6 +20,13 @@ resolve-requires-clause-within c =
     let run : RunInOrder (kept_of c.self.inside.names.ids c.self.inside.waits c.self.inside.classes.items) c.args.ids.now c.in_ok-members.members = subst (λ g. RunInOrder g c.args.ids.now c.in_ok-members.members)
     (sym c.self.view_is) c.in_ok-members.ensures in
     subst (λ l. AllIn (λ v. v < length c.self.inside.waits.vertices.items) l) (sym same) (subst (λ n. AllIn (λ v. v < n) c.in_ok-members.members) (sym c.self.invariant.vertices) run.within)
+
+pub resolve-requires-clause-few : goal.resolve-requires-clause-few
+resolve-requires-clause-few c =
+    let g : GraphView = kept_of c.self.inside.names.ids c.self.inside.waits c.self.inside.classes.items in
+    let r : MayResolve g c.args.ids.now = subst (λ g. MayResolve g c.args.ids.now) (sym c.self.view_is) c.requires in
+    let size : c.len-class.result ≡ length c.self.inside.classes.items = omega (arith, c.len-class.ensures, c.self.inside.classes.ok.0) in
+    subst (λ n. n + 1 < 2 ^ 32) (sym size) (class_fits g c.args.ids.now r c.self.invariant.few)
 
 pub invariant_of-self-2 : goal.invariant_of-self-2
 invariant_of-self-2 c =

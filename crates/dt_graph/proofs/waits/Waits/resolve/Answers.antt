@@ -1,4 +1,4 @@
-use Rattle.std.proofs.Common.{◌≡◌, ◌<◌, ◌⊎◌, ◌↔◌, ℕ, length, get_or, slice_get, Some, refl, sym, ap, subst}
+use Rattle.std.proofs.Common.{◌≡◌, ◌<◌, ◌⊎◌, ◌↔◌, ℕ, length, get_or, slice_get, Some, refl, sym, ap, subst, ◌∙◌}
 use Rattle.std.proofs.lemmas.List.{get_or_read, take_all}
 use Rattle.dt_lists.specs.Lists.{Has}
 use Rattle.dt_lists.proofs.Callers.{all_get}
@@ -18,7 +18,7 @@ loop-vertex-preserved c =
     let read : c.index_mut.result.now ≡ vertex_at items v = get_or_read items v _ within c.index_mut.ensures.value _ in
     record {
       put = putting_on _ _ _ c.loop-vertex-test.true _ _ _ _ _ k.put within _
-          (record { rank = ap (λ x. x.rank) read; missing = ap (λ x. x.missing) read; class = refl; slots = ap (λ x. x.slots) read }) c.remove.ensures;
+          (record { rank = ap (λ x. x.rank) read; missing = ap (λ x. x.missing) read; class = c.at.ensures ∙ refl; slots = ap (λ x. x.slots) read }) c.remove.ensures;
       degrees = k.degrees;
       queues = k.queues;
       ready = k.ready;

@@ -4,7 +4,7 @@ use Rattle.dt_lists.proofs.Callers.{filter_each}
 use Rattle.dt_queue.specs.declared.mark.Mark.{Mark}
 use Rattle.dt_queue.specs.Lanes.{EndsBelow}
 use Rattle.dt_queue.proofs.Marks.{is_not, on_some, past_all_places, removed, untouched}
-use Rattle.dt_queue.proofs.lane.Lane.remove.Goals as goal
+use Rattle.dt_queue.proofs.lane.Lane.remove_within.Goals as goal
 
 pub invariant_of-self : goal.invariant_of-self
 invariant_of-self c =

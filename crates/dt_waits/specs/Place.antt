@@ -1,0 +1,6 @@
+-- A place in a list, or none, as one number: 0 is none, and each other number is the place that is one less.
+use Rattle.std.specs.Prelude.{ℕ, zero, suc, Option, None, Some}
+
+abbrev pub place_before : ℕ → Option ℕ
+place_before zero = None
+place_before (suc place) = Some place
