@@ -9,9 +9,9 @@ use Rattle.dt_region.proofs.region.Region.append_owned.Goals as goal
 
 pub place-requires-clause-room : goal.place-requires-clause-room
 place-requires-clause-room g c =
+    let part_is = c.in_ok-part.ensures ∙ c.in_ok-cut.ensures ∙ ap (λ txn. part_of txn c.self.inside.number) c.get.ensures in
     let turn = c.if-number-taken.false ∙ c.taken.ensures.taken in
-    rw (c.in_ok-part.ensures ∙ c.in_ok-cut.ensures ∙ ap (λ txn. part_of txn c.self.inside.number) c.get.ensures)
-    (append_room _ _ _ _ _ _ (seen_as c.self.view_is c.self.invariant.well) c.args.source c.args.number c.args.txn c.requires.source c.requires.can turn).0
+    rw part_is (append_room _ _ _ _ _ _ (seen_as c.self.view_is c.self.invariant.well) c.args.source c.args.number c.args.txn c.requires.source c.requires.can turn).0
 
 pub overflow_add-number : goal.overflow_add-number
 overflow_add-number g c =
@@ -21,22 +21,22 @@ overflow_add-number g c =
 
 pub invariant_of-self-2 : goal.invariant_of-self-2
 invariant_of-self-2 g c =
+    let part_is = c.in_ok-part.ensures ∙ c.in_ok-cut.ensures ∙ ap (λ txn. part_of txn c.self.inside.number) c.get.ensures in
     let turn = c.if-number-taken.false ∙ c.taken.ensures.taken in
     let seen = seen_as c.self.view_is c.self.invariant.well in
     let kept = append_kept _ _ _ _ _ _ seen c.args.source c.args.number c.args.txn c.requires.source c.requires.can turn c.reserve-2.ensures.same c.keep.ensures.kept in
     record {
-      well = append_keeps _ _ _ _ _ _ seen c.args.source c.args.number c.args.txn c.requires.source c.requires.can turn _ _ kept
-          (c.in_ok-place.ensures.ok ∙ ap (with_part c.self.inside.logs.items) (c.in_ok-part.ensures ∙ c.in_ok-cut.ensures ∙ ap (λ txn. part_of txn c.self.inside.number) c.get.ensures));
+      well = append_keeps _ _ _ _ _ _ seen c.args.source c.args.number c.args.txn c.requires.source c.requires.can turn _ _ kept (c.in_ok-place.ensures.ok ∙ ap (with_part c.self.inside.logs.items) part_is);
       stock = stock_kept c.self.invariant.stock c.in_ok-reserve.ensures.room c.keep-2.ensures.spare (omega arith);
     }
 
 pub returns-clause-makes : goal.returns-clause-makes
 returns-clause-makes g c =
+    let part_is = c.in_ok-part.ensures ∙ c.in_ok-cut.ensures ∙ ap (λ txn. part_of txn c.self.inside.number) c.get.ensures in
     let turn = c.if-number-taken.false ∙ c.taken.ensures.taken in
     let seen = seen_as c.self.view_is c.self.invariant.well in
     let kept = append_kept _ _ _ _ _ _ seen c.args.source c.args.number c.args.txn c.requires.source c.requires.can turn c.reserve-2.ensures.same c.keep.ensures.kept in
-    append_made _ _ _ _ _ _ seen c.args.source c.args.number c.args.txn c.requires.source c.requires.can turn _ _ kept
-    (c.in_ok-place.ensures.ok ∙ ap (with_part c.self.inside.logs.items) (c.in_ok-part.ensures ∙ c.in_ok-cut.ensures ∙ ap (λ txn. part_of txn c.self.inside.number) c.get.ensures))
+    append_made _ _ _ _ _ _ seen c.args.source c.args.number c.args.txn c.requires.source c.requires.can turn _ _ kept (c.in_ok-place.ensures.ok ∙ ap (with_part c.self.inside.logs.items) part_is)
     _ c.next_stamp-stamp.ensures _ (c.keep-2.ensures.kept ∙ ap (λ es. es ++ under c.next_stamp-stamp.result (Append c.self.inside.number c.args.source c.args.number) ∷ []) c.reserve.ensures.same)
 
 pub returns-clause-sound : goal.returns-clause-sound
