@@ -18,7 +18,7 @@ loop-place-preserved g c =
     let lt : c.loop-place.place < length log = omega (arith, c.loop-place-test.true, c.end_from-end.ensures, c.len.ensures) in
     let at : slice_get log c.loop-place.place ≡ Some part = sym c.in-Some.ensures ∙ ap Some (sym c.in_ok-copy.ensures) in
     let is : get_or log c.loop-place.place part ≡ part = sym (unwrap_or-slice_get log c.loop-place.place part) ∙ ap (λ o. unwrap_or o part) at in
-    let kept : held s part.id ≡ Some txn = ap (λ (p : Part). held s p.id) (c.in_ok-copy.ensures ∙ sym c.get.ensures) ∙ sym c.in-Some-txn.ensures ∙ ap Some (sym c.in_ok-copy-2.ensures) in
+    let kept : held s part.id ≡ Some txn = ap (λ (p : Part). held s p.id) (c.in_ok-copy.ensures ∙ sym c.get.ensures) ∙ sym c.in-Some-common_txn.ensures ∙ ap Some (sym c.in_ok-copy-2.ensures) in
     let entry : Entry = record { part = part; txn = txn } in
     let found : entry_held s (get_or log c.loop-place.place part) ≡ Some entry = ap (entry_held s) is ∙ ap (option_map (λ (t : Txn). record { part = part; txn = t })) kept in
     c.in_ok-push.ensures.added ∙ ap (λ l. l ++ entry ∷ []) c.loop-place.invariant

@@ -11,7 +11,7 @@ loop-place-preserved g c =
     let at : slice_get (log_at c.args.source.now.state.logs c.args.home) c.loop-place.place ≡ Some c.in_ok-copy.field-0 =
     ap (λ (l : List Part). slice_get l c.loop-place.place) (sym c.log-log.ensures) ∙ sym c.in-Some.ensures ∙ ap Some (sym c.in_ok-copy.ensures) in
     let kept : held c.args.source.now.state c.in_ok-copy.field-0.id ≡ Some c.in_ok-copy-2.field-0 =
-    ap (λ (p : Part). held c.args.source.now.state p.id) (c.in_ok-copy.ensures ∙ sym c.get.ensures) ∙ sym c.in-Some-txn.ensures ∙ ap Some (sym c.in_ok-copy-2.ensures) in
+    ap (λ (p : Part). held c.args.source.now.state p.id) (c.in_ok-copy.ensures ∙ sym c.get.ensures) ∙ sym c.in-Some-common_txn.ensures ∙ ap Some (sym c.in_ok-copy-2.ensures) in
     let entry : Entry = record { part = c.in_ok-copy.field-0; txn = c.in_ok-copy-2.field-0 } in
     record {
       parts = entries_more (log_at c.args.source.now.state.logs c.args.home) c.args.first c.loop-place.place c.loop-place.entries.items c.push.new.self.items entry
