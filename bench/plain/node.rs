@@ -203,7 +203,6 @@ impl<'a> Node<'a> {
         for home in 0..self.load.regions {
             self.insert_all(home);
         }
-        while self.resolve() {}
         while self.execute() || self.resolve() {}
     }
 
