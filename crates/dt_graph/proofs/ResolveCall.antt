@@ -37,8 +37,8 @@ few_classes view ids ([] ∷ cs) once several are there = absurd (none several.0
 few_classes view ids ((t ∷ c) ∷ cs) once several are there =
     let r = few_classes view ids cs once.1 several.1 are.1 there.1 in
     let apart : (u : TxnId) → Has r.0 u → t ≢ u = λ u h e.
-        let k : (d : List TxnId) × Has cs d × IsClass view u d = any_get _ cs (all_get _ r.0 r.4 u h) in
-        all_get _ cs once.0 k.0 k.1 (class_unique view t (t ∷ c) k.0 are.0.0 (subst (λ v. IsClass view v k.0) (sym e) k.2)) in
+    let k : (d : List TxnId) × Has cs d × IsClass view u d = any_get _ cs (all_get _ r.0 r.4 u h) in
+    all_get _ cs once.0 k.0 k.1 (class_unique view t (t ∷ c) k.0 are.0.0 (subst (λ v. IsClass view v k.0) (sym e) k.2)) in
     (t ∷ r.0, (all_put _ r.0 apart, r.1), ap suc r.2, (there.0.0, r.3), (inl are.0.0, all_map _ _ r.0 (λ u a. inr a) r.4))
 
 -- with one class more there are at most as many as ids: so the place of the next one has 32 bits

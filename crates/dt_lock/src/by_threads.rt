@@ -2,11 +2,11 @@ ghost use Rattle.std.specs.Prelude.{◌≡◌, OnOk};
 ghost use Rattle.dt_txn.specs.Replica.{IsDrained};
 ghost use Rattle.dt_round.specs.Rounds.{CanRound, Continues};
 
-use crate::work::act;
 use crate::gate::Gate;
 use crate::held::Held;
 use crate::jobs::{Job, jobs};
 use crate::named::Named;
+use crate::work::act;
 use dt_proc::Procs;
 use dt_region::Region;
 use dt_round::finish;

@@ -32,9 +32,9 @@ mod statements;
 mod work;
 
 pub use by::By;
+pub use by_threads::round;
 pub use claim::{Claim, Finished};
 pub use gate::{Gate, NoGate};
 pub use held::Held;
 pub use named::Named;
 pub use running::Running;
-pub use by_threads::round;

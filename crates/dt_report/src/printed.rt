@@ -11,6 +11,9 @@ use dt_table::{Shown, ShownList, Table};
 use dt_text::NoMemory;
 use std::alloc::Global;
 
+/// How long a report is for each of its events, roughly.
+const BYTES_OF_AN_EVENT: usize = 28;
+
 /// The text of a report, in sections of lines, each ended by the byte 0x0A.
 ///
 /// First `replies` and a line for each answer, then `order` and a line for each executed attempt, then for each region its
@@ -38,7 +41,9 @@ pub fn print_shown(
 ) -> Result<Vec<u8>, NoMemory>
     ensures { IfOk result (λ text. text.items ≡ report_text (record { replies = replies.now; order = order.now; tables = all_shown tables.now; events = events.now })) }
 {
-    let mut text = Vec::new(alloc);
+    // Room for about as much as most reports have, so that the text is moved as seldom as may be while it grows.
+    let room = events.len().saturating_mul(BYTES_OF_AN_EVENT);
+    let mut text = Vec::with_capacity(alloc, room)?;
     put_replies(alloc, &mut text, replies)?;
     put_order(alloc, &mut text, order)?;
     put_all_shown(alloc, &mut text, tables)?;

@@ -24,6 +24,11 @@ pub(crate) fn put_number(alloc: Global, out: &mut Vec<u8>, number: u64) -> Resul
     ensures { OnOk result (out.new.items ≡ out.old.items ++ spaced (decimal number ∷ [])) }
 {
     out.push(b' ')?;
+    if number < 10 {
+        // As nearly all homes, and numbers of moves and attempts, are.
+        out.push(b'0' + number as u8)?;
+        return Ok(());
+    }
     put_u64(alloc, out, number)
 }
 

@@ -19,10 +19,10 @@
 //! well as a node that has only its own and learns of the others by packets.
 #![tactic(auto)]
 
-mod tables;
 mod outcome;
 mod site;
+mod tables;
 
-pub use tables::{first_table, opening_of};
 pub use outcome::last_outcome;
 pub use site::{Origin, Site};
+pub use tables::{first_table, opening_of};

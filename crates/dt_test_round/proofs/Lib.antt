@@ -1,4 +1,3 @@
 mod Delivered
 mod Opening
 mod Own
-pub mod RoomLeft

@@ -1,5 +1,5 @@
 -- A region before anything happens, and one of a few events: it may make a round.
-use Rattle.std.proofs.Common.{◌≡◌, ◌<◌, ◌+◌, ℕ, zero, suc, List, [], ◌∷◌, length, max, replicate, refl, sym, ap, subst, arith}
+use Rattle.std.proofs.Common.{◌≡◌, ◌<◌, ◌+◌, ℕ, zero, suc, List, [], ◌∷◌, length, replicate, refl, sym, ap, subst, arith}
 use Rattle.std.proofs.lemmas.List.Sums.{sum_by-cons}
 use Rattle.std.proofs.lemmas.Option.{none-some}
 use Rattle.dt_lists.specs.Lists.{AllIn}
@@ -51,7 +51,3 @@ can_round procs count r few fed = record {
 
 pub has_stamp : (procs : List ProcTree) (count : ℕ) (r : RegionView) → count < 1000 → WasFed procs count r → HasStamp r
 has_stamp procs count r few fed = let a = fed.stamp in omega (arith, few, a)
-
--- room changes nothing of this
-pub fed_still : (procs : List ProcTree) (count runs : ℕ) (r after : RegionView) → WasFed procs count r → after ≡ record r { room = max r.room runs } → WasFed procs count after
-fed_still procs count runs r after fed is = subst (WasFed procs count) (sym is) (record { holds = fed.holds; unmoved = fed.unmoved; submitted = fed.submitted; parts = fed.parts; stamp = fed.stamp })

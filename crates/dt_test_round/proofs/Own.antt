@@ -1,5 +1,5 @@
--- What a region of a few events does by itself: it submits a call, places a part in its own log, and inserts one.
-use Rattle.std.proofs.Common.{◌≡◌, ◌⊎◌, ◌<◌, ◌+◌, ℕ, true, false, cond, List, [], ◌∷◌, ◌++◌, length, Ok, Some, sym, subst, inl, inr, arith}
+-- What a region of a few events does by itself: it submits a call, and places a part in its own log.
+use Rattle.std.proofs.Common.{◌≡◌, ◌⊎◌, ◌<◌, ◌+◌, ℕ, true, false, cond, List, [], ◌∷◌, ◌++◌, length, Some, sym, ap, subst, inl, inr, arith}
 use Rattle.std.proofs.lemmas.List.{length-append}
 use Rattle.std.proofs.lemmas.List.Sums.{sum_by-set}
 use Rattle.std.proofs.lemmas.Option.{same_Some}
@@ -11,7 +11,6 @@ use Rattle.dt_access.specs.declared.TxnId.{TxnId}
 use Rattle.dt_sched.specs.Sched.{parts_in, with_part}
 use Rattle.dt_sched.specs.Views.{HasPart, log_at}
 use Rattle.dt_events.specs.declared.Event.{Event}
-use Rattle.dt_events.specs.declared.Event.TheVariants.{Insert}
 use Rattle.dt_proc.specs.Tree.{ProcTree}
 use Rattle.dt_txn.specs.declared.txn.Body.{Body}
 use Rattle.dt_txn.specs.declared.txn.Txn.{Txn}
@@ -19,8 +18,8 @@ use Rattle.dt_txn.specs.Transaction.{BodyFits, IsValid, homes_of, part_of, uses_
 use Rattle.dt_txn.proofs.Callers.{annotated_uses}
 use Rattle.dt_region.specs.Conditions.{Agrees, CanAppend, HasHomesIn}
 use Rattle.dt_lists.specs.Lists.{Has}
-use Rattle.dt_region.specs.Region.{RegionState, RegionView, find_txn}
-use Rattle.dt_region.specs.Rules.{MakesStep, after_append, after_making, after_submit, txn_for, with_event, with_submission}
+use Rattle.dt_region.specs.Region.{RegionState, RegionView, find_txn, held}
+use Rattle.dt_region.specs.Rules.{after_append, after_submit, txn_for, with_event, with_submission}
 use Rattle.dt_region.specs.Sound.{IsSoundRegion}
 use Rattle.dt_region.proofs.Callers.{latest_more}
 use Rattle.dt_test_round.specs.Fed.{WasFed}
@@ -90,13 +89,3 @@ module _ (procs : List ProcTree) (count : ℕ) (r after : RegionView) (fed : Was
       parts = let a = fed.parts in let b = more in omega (arith, a, b);
       stamp = let a = fed.stamp in let b = latest_more r (after_append r.state source txn) event in omega (arith, a, b);
     })
-
-  -- an insertion
-  pub inserted : (home : ℕ) → MakesStep [] r (Insert r.state.number home) (Ok true) after → WasFed procs (count + 1) after
-  inserted home makes = subst (WasFed procs (count + 1)) (sym makes.1) (record {
-    holds = fed.holds;
-    unmoved = fed.unmoved;
-    submitted = let a = fed.submitted in omega (arith, a);
-    parts = let a = fed.parts in omega (arith, a);
-    stamp = let a = fed.stamp in let b = latest_more r (after_making [] r.state (Insert r.state.number home)) (Insert r.state.number home) in omega (arith, a, b);
-  })

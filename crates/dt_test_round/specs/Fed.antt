@@ -1,4 +1,4 @@
--- For the tests of rounds: a region that only submitted, placed, received and inserted so far. Whoever asks for a round has to
+-- For the tests of rounds: a region that only submitted, placed and received so far. Whoever asks for a round has to
 -- show that it may be made (`CanRound` of dt_round); a test keeps this much of its region, from which that follows.
 use Rattle.std.specs.Prelude.{◌≡◌, ◌≤◌, ℕ, List, length}
 use Rattle.dt_access.specs.Clash.{Bytes}
@@ -8,8 +8,8 @@ use Rattle.dt_table.specs.Table.{counter_of}
 use Rattle.dt_region.specs.Region.{RegionView, latest_stamp}
 use Rattle.dt_region.specs.Conditions.{HoldsValid}
 
--- the region has made n events at most, all of them submissions of calls of these procedures, requests, deliveries and
--- insertions of such
+-- the region has made n events at most, all of them submissions of calls of these procedures, and requests and deliveries of
+-- such
 pub record WasFed (procs : List ProcTree) (count : ℕ) (r : RegionView) : Type 0 where
   -- each transaction that it holds is valid for them
   pub holds : HoldsValid procs r.state

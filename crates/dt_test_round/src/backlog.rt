@@ -2,8 +2,7 @@
 
 use crate::calls::{Call, procs_of};
 use crate::feeding::Row;
-use crate::locked::{Open, told_by_threads};
-use crate::rounds::{Telling, parts};
+use crate::rounds::{Open, Telling, parts, told_of};
 use dt_access::TxnId;
 use dt_graph::QueueSched;
 use dt_lock::Gate;
@@ -42,16 +41,6 @@ const FRONT: u32 = 100;
 /// The numbers of transactions that wait for each other are not greater.
 const GROUPS: u32 = 2;
 
-/// A part at the front of the log of a home, 0 or 1: those of region 0 use two rows in turn, those of region 1 one.
-fn front(home: u8, seq: u32) -> Row<'static> {
-    let call = match (home, seq % 2) {
-        (0, 0) => CLIMB_D,
-        (0, _) => CLIMB_H,
-        _ => CLIMB_A,
-    };
-    (home, seq, home, call)
-}
-
 /// The parts behind: two transactions wait for each other, and two more, and none of them for what stands before them.
 const BACK: [Row<'static>; 8] = [
     (0, 1, 0, CROSS_LE),
@@ -64,12 +53,18 @@ const BACK: [Row<'static>; 8] = [
     (1, 2, 0, CROSS_PQ),
 ];
 
-/// The parts of two long logs.
+/// The parts of two long logs: at their front, those of region 0 use two rows in turn, those of region 1 one.
 fn backlog(alloc: Global) -> Result<Vec<Row<'static>>, Fail> {
     let mut rows = Vec::new(alloc);
     for place in 1..=FRONT {
-        rows.push(front(0, GROUPS + place))?;
-        rows.push(front(1, GROUPS + place))?;
+        let number = GROUPS + place;
+        rows.push((
+            0,
+            number,
+            0,
+            if number % 2 == 0 { CLIMB_D } else { CLIMB_H },
+        ))?;
+        rows.push((1, number, 1, CLIMB_A))?;
     }
     for row in BACK {
         rows.push(row)?;
@@ -86,12 +81,12 @@ fn told<R: Threads + Wait + Sync, G: Gate>(
 ) -> Result<Vec<u8>, Fail> {
     let procs = procs_of(alloc, PROCS)?;
     let rows = backlog(alloc)?;
-    told_by_threads::<R, QueueSched, G>(
+    told_of::<R, QueueSched, G>(
         rt,
         alloc,
         &procs,
         parts(rows.as_slice()),
-        workers,
+        Some(workers),
         gate,
         Telling::Outcomes,
     )

@@ -1,13 +1,12 @@
 //! How parts come to a region, one after another: those of its own log it places itself, the others are delivered.
-ghost use Rattle.std.specs.Prelude.{◌≡◌, ◌+◌, ◌<◌, ◌≤◌, ◌↔◌, [], ◌∷◌, false, length, IsTrue, IfOk, OnOk};
+ghost use Rattle.std.specs.Prelude.{◌≡◌, ◌+◌, ◌<◌, ◌≤◌, ◌↔◌, ◌∷◌, [], false, length, IsTrue, IfOk, OnOk};
 ghost use Rattle.dt_lists.specs.Lists.{AllIn, Has};
-ghost use Rattle.dt_sched.specs.Views.{HasPart};
-ghost use Rattle.dt_txn.specs.Transaction.{IsValid};
+ghost use Rattle.dt_sched.specs.Views.{HasPart, log_at};
+ghost use Rattle.dt_txn.specs.Transaction.{IsValid, homes_of, part_of};
 ghost use Rattle.dt_region.specs.Conditions.{Agrees, HoldsValid};
 ghost use Rattle.dt_test_round.specs.Fed.{WasFed};
 
 use crate::calls::{Call, call_of};
-use crate::requests::place;
 use dt_access::{Part, TxnId};
 use dt_log::{Log, Taken};
 use dt_proc::Procs;
@@ -32,7 +31,7 @@ fn are_below(homes: &[u8], count: u8) -> bool
     true
 }
 
-pub fn has_home(homes: &[u8], home: u8) -> bool
+fn has_home(homes: &[u8], home: u8) -> bool
     ensures { IsTrue result ↔ Has homes.now home }
 {
     for other in homes {
@@ -49,7 +48,7 @@ fn is_of(part: &Part, id: TxnId) -> bool
     part.id == id
 }
 
-pub fn has_part(log: &Log, id: TxnId) -> bool
+fn has_part(log: &Log, id: TxnId) -> bool
     ensures { result ≡ false → ¬ (HasPart log.now id) }
 {
     for place in 0..log.len() {
@@ -90,7 +89,7 @@ fn txn_of<S: Scheduler>(
 }
 
 /// The transaction of a part: the one that the region holds, or else a new one of another region.
-pub fn held_or_new<S: Scheduler>(
+fn held_or_new<S: Scheduler>(
     alloc: Global,
     region: &Region<S>,
     procs: &Procs,
@@ -111,17 +110,50 @@ pub fn held_or_new<S: Scheduler>(
     txn_of(alloc, region, procs, row)
 }
 
-/// The one entry of this part and this transaction.
-fn one_entry(alloc: Global, part: Part, txn: Txn) -> Result<Vec<Entry>, Fail>
-    ensures { IfOk result (λ entries. entries.items ≡ record { part = part; txn = txn } ∷ []) }
+/// Whether the log of a home of a transaction lacks its part.
+fn is_new<S: Scheduler>(alloc: Global, region: &Region<S>, txn: &Txn, home: u8) -> bool
+    requires { home < region.now.state.regions }
+    ensures home { IsTrue result → Has (homes_of txn.now) home }
+    ensures fresh { IsTrue result → ¬ (HasPart (log_at region.now.state.logs home) txn.now.id) }
 {
-    let part = Common::new(alloc, part)?;
+    match homes(alloc, txn) {
+        Ok(homes) => has_home(homes.as_slice(), home) && !has_part(region.log(home), txn.id),
+        Err(_) => false,
+    }
+}
+
+/// The transaction of a part that the region may be given.
+fn next<S: Scheduler>(
+    alloc: Global,
+    region: &Region<S>,
+    procs: &Procs,
+    row: &Row,
+) -> Result<Txn, Fail>
+    requires holds { HoldsValid procs.now region.now.state }
+    requires home { row.now.0 < region.now.state.regions }
+    ensures valid { IfOk result (IsValid procs.now region.now.state.here.table.version region.now.state.regions) }
+    ensures agrees { IfOk result (Agrees region.now.state) }
+    ensures home { IfOk result (λ txn. Has (homes_of txn) row.now.0) }
+    ensures fresh { IfOk result (λ txn. ¬ (HasPart (log_at region.now.state.logs row.now.0) txn.id)) }
+{
+    let txn = held_or_new(alloc, region, procs, row)?;
+    if is_new(alloc, region, &txn, row.0) {
+        return Ok(txn);
+    }
+    Err(Fail::from("a part comes once, at a home"))
+}
+
+/// The entry of a transaction at a home.
+fn entry_at(alloc: Global, txn: Txn, home: u8) -> Result<Vec<Entry>, Fail>
+    ensures { IfOk result (λ entries. entries.items ≡ record { part = part_of txn home; txn = txn } ∷ []) }
+{
+    let part = Common::new(alloc, part_at(alloc, &txn, home)?)?;
     let txn = Common::new(alloc, txn)?;
     Ok(vec![in alloc; Entry { part, txn }]?)
 }
 
 /// Delivers a part to a region, which has made at most n events before.
-fn feed<S: Scheduler>(
+fn deliver<S: Scheduler>(
     alloc: Global,
     region: &mut Region<S>,
     procs: &Procs,
@@ -132,25 +164,41 @@ fn feed<S: Scheduler>(
     requires fed { WasFed procs.now count region.old }
     ensures { OnOk result (WasFed procs.now (count + 1) region.new) }
 {
-    let (home, _, _, _) = *row;
+    let home = row.0;
     if home == region.number() || home >= region.regions() {
         return Err(Fail::from("the home is another region"));
     }
-    let txn = held_or_new(alloc, region, procs, row)?;
-    if !has_home(homes(alloc, &txn)?.as_slice(), home) {
-        return Err(Fail::from("the part is at a home"));
-    }
-    let log = region.log(home);
-    if has_part(log, txn.id) {
-        return Err(Fail::from("a part comes once"));
-    }
-    let place = log.len();
-    let part = part_at(alloc, &txn, home)?;
-    let entries = one_entry(alloc, part, txn)?;
+    let txn = next(alloc, region, procs, row)?;
+    let place = region.log(home).len();
+    let entries = entry_at(alloc, txn, home)?;
     match region.deliver(alloc, home, place, place, entries)? {
         Taken::New(_) => Ok(()),
         _ => Err(Fail::from("the part is new")),
     }
+}
+
+/// A region, which has made at most n events before, places a part in its own log, as the next request of the transaction's region.
+fn place<S: Scheduler>(
+    alloc: Global,
+    region: &mut Region<S>,
+    procs: &Procs,
+    count: usize,
+    row: &Row,
+) -> Result<(), Fail>
+    requires few { count < 1000 }
+    requires fed { WasFed procs.now count region.old }
+    ensures { OnOk result (WasFed procs.now (count + 1) region.new) }
+{
+    let (home, _, by, _) = *row;
+    if home != region.number() || by >= region.regions() {
+        return Err(Fail::from("the home is the region"));
+    }
+    let txn = next(alloc, region, procs, row)?;
+    let number = region.taken(by);
+    if !region.append(alloc, by, number, &txn)? {
+        return Err(Fail::from("the request is the next one"));
+    }
+    Ok(())
 }
 
 /// Parts come to a region that has made at most n events before.
@@ -173,7 +221,7 @@ pub fn feed_all<S: Scheduler>(
         if row.0 == region.number() {
             place(alloc, region, procs, before + count, row)?;
         } else {
-            feed(alloc, region, procs, before + count, row)?;
+            deliver(alloc, region, procs, before + count, row)?;
         }
     }
     Ok(())

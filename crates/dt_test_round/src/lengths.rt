@@ -2,8 +2,7 @@
 
 use crate::calls::{Call, procs_of};
 use crate::feeding::Row;
-use crate::locked::told_by_threads;
-use crate::rounds::{Telling, parts};
+use crate::rounds::{Telling, parts, told_of};
 use dt_access::TxnId;
 use dt_graph::QueueSched;
 use dt_lock::Gate;
@@ -44,7 +43,7 @@ fn climb(alloc: Global, n: u32, first: u32, second: u32) -> Result<Procs, Fail> 
 }
 
 /// Appends n statements to a text.
-fn put_statements(text: &mut Vec<u8>, n: u32) -> Result<(), Fail> {
+pub fn put_statements(text: &mut Vec<u8>, n: u32) -> Result<(), Fail> {
     for _statement in 0..n {
         text.extend_from_slice(b"set a = 1; ")?;
     }
@@ -62,12 +61,12 @@ fn passes<R: Threads + Wait + Sync>(
         passed: AtomicU64::new(0),
     };
     let rows: [Row<'static>; 2] = [(0, 1, 0, CLIMB_D), (0, 2, 0, CLIMB_H)];
-    let _told = told_by_threads::<R, QueueSched, Count>(
+    let _told = told_of::<R, QueueSched, Count>(
         rt,
         alloc,
         procs,
         parts(&rows),
-        workers,
+        Some(workers),
         &gate,
         Telling::Events,
     )?;

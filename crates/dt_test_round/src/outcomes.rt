@@ -49,7 +49,7 @@ fn put_row(alloc: Global, told: &mut Vec<u8>, row: &Shown) -> Result<(), Fail> {
 }
 
 /// Appends the events of a region without their stamps, in the order of their texts.
-fn put_events<S: Scheduler>(
+fn put_sorted<S: Scheduler>(
     alloc: Global,
     told: &mut Vec<u8>,
     region: &Region<S>,
@@ -67,23 +67,22 @@ fn put_events<S: Scheduler>(
     Ok(())
 }
 
-/// The outcome of the transaction of each of these parts, the table, and the events in the order of their texts.
-pub fn outcomes_of<S: Scheduler>(
+/// Appends the outcome of the transaction of each of these parts, the table, and the events in the order of their texts.
+pub fn put_outcomes<S: Scheduler>(
     alloc: Global,
+    told: &mut Vec<u8>,
     region: &Region<S>,
     rows: &[Row],
-) -> Result<Vec<u8>, Fail> {
-    let mut told = Vec::new(alloc);
+) -> Result<(), Fail> {
     for (_, seq, by, _) in rows {
         let id = TxnId {
             seq: *seq,
             region: *by,
         };
-        put_outcome(alloc, &mut told, region, id)?;
+        put_outcome(alloc, told, region, id)?;
     }
     for row in region.table().shown(alloc)?.as_slice() {
-        put_row(alloc, &mut told, row)?;
+        put_row(alloc, told, row)?;
     }
-    put_events(alloc, &mut told, region)?;
-    Ok(told)
+    put_sorted(alloc, told, region)
 }

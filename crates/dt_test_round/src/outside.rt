@@ -2,8 +2,8 @@
 
 use crate::calls::{Call, procs_of};
 use crate::feeding::Row;
-use crate::locked::told_by_threads;
-use crate::rounds::{Telling, parts};
+use crate::lengths::put_statements;
+use crate::rounds::{Telling, parts, told_of};
 use dt_access::TxnId;
 use dt_graph::QueueSched;
 use dt_lock::Gate;
@@ -90,9 +90,7 @@ fn procs(alloc: Global) -> Result<Procs, Fail> {
     let mut text = Vec::new(alloc);
     text.extend_from_slice(b"proc short(k: text) write a = k; { set a = 1; } ")?;
     text.extend_from_slice(b"proc long(k: text) write a = k; { ")?;
-    for _statement in 0..40000 {
-        text.extend_from_slice(b"set a = 1; ")?;
-    }
+    put_statements(&mut text, 40000)?;
     text.extend_from_slice(b"}")?;
     procs_of(alloc, text.as_slice())
 }
@@ -108,12 +106,12 @@ fn others_commit_while_a_call_is_worked(rt: HostRuntime) -> Result<(), Fail> {
     let procs = procs(rt.alloc())?;
     for _time in 0..TIMES {
         let gate = Relay::new();
-        let told = told_by_threads::<_, QueueSched, _>(
+        let told = told_of::<_, QueueSched, _>(
             &rt,
             rt.alloc(),
             &procs,
             parts(&CHAINS),
-            2,
+            Some(2),
             &gate,
             Telling::Events,
         )?;

@@ -1,14 +1,13 @@
-//! What a region submits, and what it places in its own log.
+//! What a region submits.
 ghost use Rattle.std.specs.Prelude.{◌+◌, ◌<◌, ◌≤◌, length, OnOk};
 ghost use Rattle.dt_test_round.specs.Fed.{WasFed};
 
 use crate::calls::{Call, call_of};
-use crate::feeding::{Row, has_home, has_part, held_or_new};
 use dt_proc::Procs;
 use dt_region::Region;
 use dt_sched::Scheduler;
 use dt_text::Name;
-use dt_txn::{Body, homes};
+use dt_txn::Body;
 use std::alloc::Global;
 use std::test::Fail;
 
@@ -53,36 +52,6 @@ pub fn submit_all<S: Scheduler>(
     }
     for (count, call) in calls.iter().enumerate() {
         submit(alloc, region, procs, count, call)?;
-    }
-    Ok(())
-}
-
-/// A region, which has made at most n events before, places a part in its own log, as the next request of the transaction's region.
-pub fn place<S: Scheduler>(
-    alloc: Global,
-    region: &mut Region<S>,
-    procs: &Procs,
-    count: usize,
-    row: &Row,
-) -> Result<(), Fail>
-    requires few { count < 1000 }
-    requires fed { WasFed procs.now count region.old }
-    ensures { OnOk result (WasFed procs.now (count + 1) region.new) }
-{
-    let (home, _, by, _) = *row;
-    if home != region.number() || by >= region.regions() {
-        return Err(Fail::from("the home is the region"));
-    }
-    let txn = held_or_new(alloc, region, procs, row)?;
-    if !has_home(homes(alloc, &txn)?.as_slice(), home) {
-        return Err(Fail::from("the part is at a home"));
-    }
-    if has_part(region.log(home), txn.id) {
-        return Err(Fail::from("a part comes once"));
-    }
-    let number = region.taken(by);
-    if !region.append(alloc, by, number, &txn)? {
-        return Err(Fail::from("the request is the next one"));
     }
     Ok(())
 }

@@ -1,14 +1,17 @@
 //! Rounds of a region, to which parts of logs came.
-ghost use Rattle.std.specs.Prelude.{◌<◌, ◌≤◌, List, IfOk};
+ghost use Rattle.std.specs.Prelude.{◌<◌, ◌≤◌, List, IfOk, OnOk};
 ghost use Rattle.dt_proc.specs.Tree.{ProcTree};
+ghost use Rattle.dt_round.specs.Rounds.{CanRound};
 ghost use Rattle.dt_test_round.specs.Fed.{WasFed};
 
 use crate::calls::Call;
 use crate::feeding::{Row, feed_all};
-use crate::outcomes::outcomes_of;
+use crate::outcomes::put_outcomes;
 use crate::requests::{Submitted, submit_all};
+use dt_access::TxnId;
 use dt_events::put_event;
 use dt_graph::QueueSched;
+use dt_lock::{Gate, NoGate, round};
 use dt_plain::PlainSched;
 use dt_proc::{Procs, builtin_procs};
 use dt_region::Region;
@@ -18,31 +21,24 @@ use dt_table::Table;
 use dt_text::{Key, Value};
 use std::alloc::Global;
 use std::mem::forget;
+use std::sync::Wait;
 use std::test::Fail;
+use std::thread::Threads;
 
-/// The events of a region from a place on, each behind its stamp, and at last whether it is drained.
-pub fn events_from<S: Scheduler>(
+/// Appends the events of a region from a place on, each behind its stamp, and at last whether it is drained.
+pub fn put_events<S: Scheduler>(
     alloc: Global,
+    told: &mut Vec<u8>,
     region: &Region<S>,
     place: usize,
-) -> Result<Vec<u8>, Fail> {
-    let mut told = Vec::new(alloc);
+) -> Result<(), Fail> {
     for kept in region.events().iter().skip(place) {
         told.extend_from_slice(format!(in alloc; "{} ", kept.stamp)?.as_bytes())?;
-        put_event(alloc, &mut told, &kept.event)?;
+        put_event(alloc, told, &kept.event)?;
     }
     let drained = region.drained(alloc)?;
     told.extend_from_slice(format!(in alloc; "{drained}")?.as_bytes())?;
-    Ok(told)
-}
-
-/// What is reported of a region after a round.
-#[derive(Drop)]
-pub enum Telling {
-    /// Its events, in their order, and whether it is drained.
-    Events,
-    /// What it came to, whatever the order was.
-    Outcomes,
+    Ok(())
 }
 
 /// What came to a region before its round: its number in a cluster of n regions, what its sessions submitted, and the parts of
@@ -53,6 +49,14 @@ pub struct Story<'a> {
     pub regions: u8,
     pub calls: &'a [Submitted<'a>],
     pub rows: &'a [Row<'a>],
+}
+
+/// What is reported of a region after a round: its events, in their order, and whether it is drained; or what it came to, whatever
+/// the order was.
+#[derive(Clone, Copy)]
+pub enum Telling {
+    Events,
+    Outcomes,
 }
 
 /// A region that has done nothing, with the rows `a` and `b`.
@@ -69,6 +73,41 @@ pub fn begun<S: Scheduler>(alloc: Global, number: u8, regions: u8) -> Result<Reg
     Ok(Region::new(alloc, number, regions, table)?)
 }
 
+/// All this comes to a region, which may make a round then.
+pub fn feed<S: Scheduler>(
+    alloc: Global,
+    region: &mut Region<S>,
+    procs: &Procs,
+    story: Story,
+) -> Result<(), Fail>
+    requires { WasFed procs.now 0 region.old }
+    ensures { OnOk result (CanRound procs.now region.new) }
+{
+    submit_all(alloc, region, procs, story.calls)?;
+    feed_all(alloc, region, procs, story.calls.len(), story.rows)?;
+    Ok(())
+}
+
+/// All this comes to a region, which then makes a round, alone or by so many workers that pass this gate.
+fn go_on<R: Threads + Wait + Sync, S: Scheduler + Drop + Send, G: Gate>(
+    rt: &R,
+    alloc: Global,
+    region: &mut Region<S>,
+    procs: &Procs,
+    story: Story,
+    workers: Option<u32>,
+    gate: &G,
+) -> Result<(), Fail>
+    requires { WasFed procs.now 0 region.old }
+{
+    feed(alloc, region, procs, story)?;
+    match workers {
+        Some(workers) => round(rt, alloc, region, procs, workers, gate)?,
+        None => Alone.round(alloc, region, procs)?,
+    }
+    Ok(())
+}
+
 /// What is reported of a region after its round.
 fn tell<S: Scheduler>(
     alloc: Global,
@@ -76,57 +115,36 @@ fn tell<S: Scheduler>(
     story: Story,
     telling: Telling,
 ) -> Result<Vec<u8>, Fail> {
+    let mut told = Vec::new(alloc);
+    let count = story.calls.len().saturating_add(story.rows.len());
     match telling {
-        Telling::Events => {
-            let count = story.calls.len().saturating_add(story.rows.len());
-            events_from(alloc, region, count)
-        }
-        Telling::Outcomes => outcomes_of(alloc, region, story.rows),
+        Telling::Events => put_events(alloc, &mut told, region, count)?,
+        Telling::Outcomes => put_outcomes(alloc, &mut told, region, story.rows)?,
     }
+    Ok(told)
 }
 
-/// All this comes to a region, which then makes a round; what is reported of it.
-fn go_on<S: Scheduler, D: Rounds<Region<S>>>(
-    alloc: Global,
-    region: &mut Region<S>,
-    procs: &Procs,
-    story: Story,
-    rounds: &D,
-    telling: Telling,
-) -> Result<Vec<u8>, Fail>
-    requires fed { WasFed procs.now 0 region.old }
-    requires ready { D.ready rounds.now }
-{
-    submit_all(alloc, region, procs, story.calls)?;
-    feed_all(alloc, region, procs, story.calls.len(), story.rows)?;
-    rounds.round(alloc, region, procs)?;
-    tell(alloc, region, story, telling)
-}
-
-/// What a region makes of all this in one round, which are calls of these procedures. The region is left to the end of the process:
-/// that it may be dropped would be proved again here.
-pub fn told_of<S: Scheduler + Drop, D: Rounds<Region<S>>>(
+/// What a region makes of all this in one round, which are calls of these procedures, alone or by so many workers that pass this gate.
+/// The region is left to the end of the process: that it may be dropped would be proved again here.
+pub fn told_of<R: Threads + Wait + Sync, S: Scheduler + Drop + Send, G: Gate>(
+    rt: &R,
     alloc: Global,
     procs: &Procs,
     story: Story,
-    rounds: &D,
+    workers: Option<u32>,
+    gate: &G,
     telling: Telling,
-) -> Result<Vec<u8>, Fail>
-    requires { D.ready rounds.now }
-{
+) -> Result<Vec<u8>, Fail> {
     if story.number >= story.regions || story.regions > 8 {
         return Err(Fail::from("the region is one of eight at most"));
     }
     let mut region: Region<S> = begun(alloc, story.number, story.regions)?;
-    let told = go_on(alloc, &mut region, procs, story, rounds, telling);
+    let told = match go_on(rt, alloc, &mut region, procs, story, workers, gate) {
+        Ok(()) => tell(alloc, &region, story, telling),
+        Err(fail) => Err(fail),
+    };
     forget(region);
     told
-}
-
-/// What a region makes alone of all this, which are calls of the built-in procedures.
-fn told<S: Scheduler + Drop>(alloc: Global, story: Story) -> Result<Vec<u8>, Fail> {
-    let procs = builtin_procs(alloc)?;
-    told_of::<S, Alone>(alloc, &procs, story, &Alone, Telling::Events)
 }
 
 /// In a cluster of four the home of `d` and `h` is region 0, that of `a` region 1 and that of `b` region 2.
@@ -231,22 +249,48 @@ pub const ROUNDS: [(Story<'static>, &[u8], &[u8]); 5] = [
     ),
 ];
 
-#[test]
-fn a_region_with_the_plain_scheduler_goes_on_alone_until_nothing_is_left(
-    rt: HostRuntime,
-) -> Result<(), Fail> {
+/// Whether a round of each of these cases, alone or by so many workers that pass this gate, makes one of its texts.
+fn makes_all<R: Threads + Wait + Sync, S: Scheduler + Drop + Send, G: Gate>(
+    rt: &R,
+    alloc: Global,
+    workers: Option<u32>,
+    gate: &G,
+) -> Result<bool, Fail> {
+    let procs = builtin_procs(alloc)?;
     for (story, want, other) in ROUNDS {
-        let told = told::<PlainSched>(rt.alloc(), story)?;
-        assert!(rt; told.as_slice() == want || told.as_slice() == other);
+        let told = told_of::<R, S, G>(rt, alloc, &procs, story, workers, gate, Telling::Events)?;
+        if told.as_slice() != want && told.as_slice() != other {
+            return Ok(false);
+        }
     }
+    Ok(true)
+}
+
+/// A gate that lets everyone pass, but might hold them: so each claim gets a worker of its own.
+#[derive(Drop)]
+pub struct Open;
+
+impl Gate for Open {
+    fn between(&self, _id: TxnId) {}
+}
+
+#[test]
+fn a_region_goes_on_alone_until_nothing_is_left(rt: HostRuntime) -> Result<(), Fail> {
+    assert!(rt; makes_all::<_, PlainSched, _>(&rt, rt.alloc(), None, &NoGate)?);
+    assert!(rt; makes_all::<_, QueueSched, _>(&rt, rt.alloc(), None, &NoGate)?);
     Ok(())
 }
 
 #[test]
-fn a_region_with_queues_goes_on_alone_until_nothing_is_left(rt: HostRuntime) -> Result<(), Fail> {
-    for (story, want, other) in ROUNDS {
-        let told = told::<QueueSched>(rt.alloc(), story)?;
-        assert!(rt; told.as_slice() == want || told.as_slice() == other);
-    }
+fn a_round_by_threads_makes_what_one_alone_makes(rt: HostRuntime) -> Result<(), Fail> {
+    assert!(rt; makes_all::<_, PlainSched, _>(&rt, rt.alloc(), Some(4), &Open)?);
+    assert!(rt; makes_all::<_, QueueSched, _>(&rt, rt.alloc(), Some(4), &Open)?);
+    Ok(())
+}
+
+#[test]
+fn a_round_of_short_calls_or_without_workers_makes_the_same(rt: HostRuntime) -> Result<(), Fail> {
+    assert!(rt; makes_all::<_, QueueSched, _>(&rt, rt.alloc(), Some(4), &NoGate)?);
+    assert!(rt; makes_all::<_, QueueSched, _>(&rt, rt.alloc(), Some(0), &NoGate)?);
     Ok(())
 }

@@ -1,6 +1,0 @@
-use Rattle.std.proofs.Common.{◌+◌, length}
-use Rattle.dt_test_round.proofs.Opening.{can_round}
-use Rattle.dt_test_round.proofs.rounds.go_on.Goals as goal
-
-pub round-requires-clause-can : goal.round-requires-clause-can
-round-requires-clause-can g c = can_round c.args.procs.now (length c.args.story.calls.now + length c.args.story.rows.now) c.feed_all.new.region c.in_ok-feed_all.ensures.few c.in_ok-feed_all.ensures.fed
