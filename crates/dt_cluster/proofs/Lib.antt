@@ -1,8 +1,2 @@
-mod MapEntries
-pub mod OneCluster
-mod TomlTexts
-mod TomlTables
-pub mod EveryCluster
-mod Valid
-pub mod FileValid
+pub mod BuiltinValid
 pub mod Callers

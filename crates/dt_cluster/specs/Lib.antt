@@ -1,8 +1,2 @@
 pub mod Builtin
-pub mod Document
-pub mod File
-pub mod ReaderParts
-pub mod Laws
-pub mod Numbers
-pub mod Rows
 pub mod Valid

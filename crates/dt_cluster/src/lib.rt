@@ -1,23 +1,9 @@
-//! What a cluster is: its version, its regions, its procedures, the homes and values of its rows, and its limits; and the
-//! reader of its file.
+//! What a cluster is: its version, its regions, its procedures, the homes and values of its rows, and its limits.
 //!
-//! Read next: `specs/File.antt`, what a file means and which fault is reported for one that means nothing; `specs/Valid.antt`, what
-//! every cluster is; `src/laws.rt`, that each file has just one outcome.
+//! Read next: `specs/Valid.antt`, what every cluster is; `dt_cluster_file`, the files that give clusters.
 #![tactic(auto)]
 
 mod cluster;
 mod copies;
-mod entries;
-mod error;
-mod homes;
-mod laws;
-mod numbers;
-mod reader;
-mod rows;
 
 pub use cluster::{Cluster, HomeList, RowList, builtin};
-pub use error::{ClusterCause, ClusterError, ClusterFault, ClusterPlace, Label};
-pub use laws::{
-    clusters_have_no_fault, files_are_one_cluster, files_have_an_outcome, files_have_one_fault,
-};
-pub use reader::read_cluster;

@@ -1,5 +1,6 @@
 //! Cluster files: the cluster that each is, or its first fault.
-use dt_cluster::{Cluster, ClusterCause, ClusterError, ClusterPlace, Label, builtin, read_cluster};
+use dt_cluster::{Cluster, builtin};
+use dt_cluster_file::{ClusterCause, ClusterError, ClusterPlace, Label, read_cluster};
 use dt_text::{NoMemory, put_u64, put_value};
 use std::alloc::Global;
 use std::test::Fail;

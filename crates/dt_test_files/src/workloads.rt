@@ -3,7 +3,8 @@
 ghost use Rattle.std.specs.Prelude.{IfOk};
 ghost use Rattle.dt_cluster.specs.Valid.{IsValidCluster};
 
-use dt_cluster::{Cluster, ClusterError, builtin, read_cluster};
+use dt_cluster::{Cluster, builtin};
+use dt_cluster_file::{ClusterError, read_cluster};
 use dt_text::{NoMemory, put_u64, put_value};
 use dt_workload::{Ranked, Session, Wanted, Workload, WorkloadError, read_workload};
 use std::alloc::Global;

@@ -1,5 +1,0 @@
-use Rattle.dt_cluster.proofs.OneCluster.{no_fault}
-use Rattle.dt_cluster.proofs.laws.clusters_have_no_fault.Goals as goal
-
-pub returns : goal.returns
-returns c = no_fault

@@ -1,5 +1,0 @@
-use Rattle.dt_cluster.proofs.OneCluster.{one_cluster}
-use Rattle.dt_cluster.proofs.laws.files_are_one_cluster.Goals as goal
-
-pub returns : goal.returns
-returns c = one_cluster

@@ -1,5 +1,0 @@
-use Rattle.dt_cluster.proofs.EveryCluster.{short_procs}
-use Rattle.dt_cluster.proofs.reader.read_cluster.Goals as goal
-
-pub cluster_of-requires : goal.cluster_of-requires
-cluster_of-requires c = short_procs c.args.bytes.now _ c.in-Ok.ensures.ok c.requires.short

@@ -1,0 +1,130 @@
+ghost use Rattle.std.specs.Prelude.{◌≡◌, IfOk};
+
+use dt_text::NoMemory;
+use std::alloc::{AllocError, AllocFailed, Global};
+use std::marker::Model;
+
+/// The name of an entry, as the file gives it. Contracts see its bytes.
+#[derive(Debug, Drop)]
+pub struct Label {
+    bytes: Vec<u8>,
+}
+
+impl Model for Label {
+    ghost use Rattle.std.specs.Prelude.{ℕ, List};
+
+    ghost Value = { List ℕ };
+
+    ghost view = { λ l. l.bytes.items };
+}
+
+impl Label {
+    /// The label of these bytes.
+    pub(crate) fn new(alloc: Global, bytes: &[u8]) -> Result<Self, NoMemory>
+        ensures { IfOk result (λ label. label ≡ bytes.now) }
+    {
+        Ok(Label {
+            bytes: Vec::from_slice(alloc, bytes)?,
+        })
+    }
+
+    /// The bytes of the name.
+    pub fn bytes(&self) -> &[u8]
+        ensures { result.now ≡ self.now }
+    {
+        self.bytes.as_slice()
+    }
+}
+
+/// Where a cluster file is at fault.
+#[derive(Debug, Drop)]
+pub enum ClusterPlace {
+    /// The file as a whole.
+    Whole,
+    /// The entry of this name at the top.
+    Entry(Label),
+    /// The entry of this name in `homes`.
+    Home(Label),
+    /// The entry of this name in `rows`.
+    Row(Label),
+    /// This byte of the procedures' text, counted from 0.
+    Procs(u32),
+}
+
+/// What is wrong at a place of a cluster file.
+#[derive(Clone, Copy, Debug, PartialEq, Eq)]
+pub enum ClusterCause {
+    /// The file has more than 16 MiB.
+    TooLong,
+    /// The bytes are no document of TOML.
+    NotToml,
+    /// No entry has this name.
+    Unknown,
+    /// The entry has to be there.
+    Missing,
+    /// The value is of another kind.
+    Kind,
+    /// The number is not one that is allowed.
+    Range,
+    /// The name is no key.
+    BadKey,
+    /// The string is too long for a text, or has a byte that no text has.
+    BadText,
+    /// No procedures begin so.
+    Syntax,
+    /// The name is not visible there.
+    UnknownName,
+    /// The name is taken.
+    Twice,
+    /// It is one too many.
+    TooMany,
+}
+
+/// The first fault of a cluster file.
+#[derive(Debug, Drop)]
+pub struct ClusterFault {
+    pub place: ClusterPlace,
+    pub cause: ClusterCause,
+}
+
+/// Why a file is no cluster.
+#[derive(Debug, Drop)]
+pub enum ClusterError {
+    /// The first fault of the file.
+    Fault(ClusterFault),
+    /// Memory ran out.
+    NoMemory,
+}
+
+impl From<NoMemory> for ClusterError {
+    ghost use Rattle.std.specs.Prelude.{◌≡◌};
+    ghost use Rattle.dt_cluster_file.specs.declared.error.ClusterError.TheVariants.{NoMemory};
+
+    ghost from_gives = { λ _ e. e ≡ NoMemory };
+
+    fn from(_error: NoMemory) -> Self {
+        ClusterError::NoMemory
+    }
+}
+
+impl From<AllocError> for ClusterError {
+    ghost use Rattle.std.specs.Prelude.{◌≡◌};
+    ghost use Rattle.dt_cluster_file.specs.declared.error.ClusterError.TheVariants.{NoMemory};
+
+    ghost from_gives = { λ _ e. e ≡ NoMemory };
+
+    fn from(_error: AllocError) -> Self {
+        ClusterError::NoMemory
+    }
+}
+
+impl<T: Drop> From<AllocFailed<T>> for ClusterError {
+    ghost use Rattle.std.specs.Prelude.{◌≡◌};
+    ghost use Rattle.dt_cluster_file.specs.declared.error.ClusterError.TheVariants.{NoMemory};
+
+    ghost from_gives = { λ _ e. e ≡ NoMemory };
+
+    fn from(_error: AllocFailed<T>) -> Self {
+        ClusterError::NoMemory
+    }
+}
