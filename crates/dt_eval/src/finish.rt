@@ -1,8 +1,7 @@
 ghost use Rattle.std.specs.Prelude.{◌≡◌, IfOk};
 
 use dt_access::{Shared, Writes};
-use dt_text::{Key, Listed, NoMemory, Str, Value};
-use std::alloc::Global;
+use dt_text::{Common, Key, Listed, NoMemory, Str, Value};
 
 /// The arguments of a call.
 pub type Args = Shared<Value>;
@@ -16,8 +15,8 @@ pub type Reads = Listed<(Key, Option<Value>)>;
 /// Why a run of a procedure aborts.
 #[derive(Drop)]
 pub enum Cause {
-    /// The procedure says so, with this text.
-    Word(Str),
+    /// The procedure says so, with this text, which copies of the cause have in common: so a cause is small.
+    Word(Common<Str>),
     /// A number does not fit.
     Overflow,
     /// A divisor is 0.
@@ -29,12 +28,12 @@ pub enum Cause {
 }
 
 impl Cause {
-    /// An equal cause.
-    pub fn copy(&self, alloc: Global) -> Result<Self, NoMemory>
+    /// An equal cause. Takes no memory.
+    pub fn copy(&self) -> Result<Self, NoMemory>
         ensures { IfOk result (λ copied. copied ≡ self.now) }
     {
         match self {
-            Cause::Word(text) => Ok(Cause::Word(text.copy(alloc)?)),
+            Cause::Word(text) => Ok(Cause::Word(text.copy()?)),
             Cause::Overflow => Ok(Cause::Overflow),
             Cause::Zero => Ok(Cause::Zero),
             Cause::Kind => Ok(Cause::Kind),

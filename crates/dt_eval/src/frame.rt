@@ -20,7 +20,7 @@ use crate::state::Datum;
 use crate::stop::Stop;
 use crate::variables::Variables;
 use dt_proc::{Expr, Give, Op, Stmt, Stmts};
-use dt_text::{NoMemory, Value};
+use dt_text::{Common, NoMemory, Value};
 use std::alloc::Global;
 
 /// What a run knows between two statements.
@@ -163,7 +163,10 @@ impl Frame<'_> {
                 Ok(())
             }
             Stmt::If(test, then, otherwise) => self.choose(alloc, test, then, otherwise),
-            Stmt::Abort(text) => Err(Stop::Aborted(Cause::Word(text.copy(alloc)?))),
+            Stmt::Abort(text) => {
+                let word = Common::new(alloc, text.copy(alloc)?)?;
+                Err(Stop::Aborted(Cause::Word(word)))
+            }
             Stmt::Give(items) => self.give(alloc, items.as_slice()),
         }
     }

@@ -9,7 +9,8 @@ use dt_proc::KeyItem;
 use dt_text::{Key, Value};
 use itoa::Buffer;
 
-/// The place of the read of the key that a key expression gives, which is there. Takes no memory.
+/// The place of the read of the key that a key expression gives, which is there: so where it is none of the others, it is the
+/// last. Takes no memory.
 pub(crate) fn place_of(reads: &[(Key, Option<Value>)], items: &[KeyItem], args: &[Value]) -> usize
     requires within { AllIn (IsItemWithin (length args.now)) items.now }
     requires read { AnyIn (λ r. r.0 ≡ key_text args.now items.now) reads.now }
@@ -17,7 +18,7 @@ pub(crate) fn place_of(reads: &[(Key, Option<Value>)], items: &[KeyItem], args: 
     ensures there { slice_index_or (map (λ r. r.0) reads.now) result [] ≡ key_text args.now items.now }
 {
     for (place, read) in reads.iter().enumerate() {
-        if is_given(read.0.bytes(), items, args) {
+        if place + 1 == reads.len() || is_given(read.0.bytes(), items, args) {
             return place;
         }
     }

@@ -61,7 +61,7 @@ pub(crate) fn put_outcome(
     match outcome {
         Outcome::Gave(values) => put_done(alloc, out, values.as_slice()),
         Outcome::Aborted(cause) => put_abort(alloc, out, cause),
-        Outcome::Stale { key, had, by } => put_stale(alloc, out, key, *had, *by),
+        Outcome::Stale { key, had, by } => put_stale(alloc, out, key.get(), *had, *by),
     }
 }
 
@@ -82,7 +82,7 @@ fn put_abort(alloc: Global, out: &mut Vec<u8>, cause: &Cause) -> Result<(), NoMe
     match cause {
         Cause::Word(text) => {
             out.push(b' ')?;
-            put_text(alloc, out, text)
+            put_text(alloc, out, text.get())
         }
         Cause::Overflow => put_word(out, b"overflow"),
         Cause::Zero => put_word(out, b"zero"),

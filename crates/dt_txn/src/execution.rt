@@ -12,7 +12,7 @@ use dt_access::{Access, TryCopy, Writes, unit_bytes};
 use dt_eval::{Finish, Reads, Values, run_owned};
 use dt_proc::Procs;
 use dt_table::{Effect, Table, UnitName};
-use dt_text::{Key, NoMemory, Value};
+use dt_text::{Common, Key, NoMemory, Value};
 use std::alloc::Global;
 
 /// What a transaction sees in a table, for each entry of its access list, in order.
@@ -89,8 +89,9 @@ fn read(alloc: Global, access: &[Access], table: &Table) -> Result<Result<Reads,
     for entry in access {
         let row = table.row(&entry.key, entry.counter);
         if let Some(by) = row.mover {
+            let unit = Key::new(alloc, unit_bytes(table.version(), &entry.key))?;
             return Ok(Err(Outcome::Stale {
-                key: Key::new(alloc, unit_bytes(table.version(), &entry.key))?,
+                key: Common::new(alloc, unit)?,
                 had: entry.counter,
                 by,
             }));
@@ -118,7 +119,7 @@ fn stale(alloc: Global, access: &[Access], seen: &[Seen]) -> Result<Option<Outco
     for (place, entry) in access.iter().enumerate() {
         if let Some(by) = seen[place].mover {
             return Ok(Some(Outcome::Stale {
-                key: seen[place].unit.copy(alloc)?,
+                key: Common::new(alloc, seen[place].unit.copy(alloc)?)?,
                 had: entry.counter,
                 by,
             }));

@@ -2,7 +2,7 @@ ghost use Rattle.std.specs.Prelude.{◌≡◌, IfOk};
 
 use dt_access::{TryCopy, TxnId};
 use dt_eval::{Cause, Values};
-use dt_text::{Key, Listed, NoMemory, Value};
+use dt_text::{Common, Key, Listed, NoMemory, Value};
 use std::alloc::Global;
 
 /// What a transaction came to.
@@ -13,8 +13,13 @@ pub enum Outcome {
     /// Its procedure aborted, and it changed nothing.
     Aborted(Cause),
     /// A unit was moved since the transaction was annotated, so it changed nothing: the unit, the number of moves that
-    /// it was annotated with, and the transaction that made the next one.
-    Stale { key: Key, had: u32, by: TxnId },
+    /// it was annotated with, and the transaction that made the next one. The unit is in common to copies of the outcome, so
+    /// that outcomes, most of which are not stale, are small.
+    Stale {
+        key: Common<Key>,
+        had: u32,
+        by: TxnId,
+    },
 }
 
 impl Outcome {
@@ -24,9 +29,9 @@ impl Outcome {
     {
         match self {
             Outcome::Gave(values) => Ok(Outcome::Gave(values.copy(alloc)?)),
-            Outcome::Aborted(cause) => Ok(Outcome::Aborted(cause.copy(alloc)?)),
+            Outcome::Aborted(cause) => Ok(Outcome::Aborted(cause.copy()?)),
             Outcome::Stale { key, had, by } => Ok(Outcome::Stale {
-                key: key.copy(alloc)?,
+                key: key.copy()?,
                 had: *had,
                 by: *by,
             }),

@@ -1,12 +1,17 @@
 ghost use Rattle.std.specs.Prelude.{◌≡◌, ◌==◌, ◌≤◌, insert, IfSome, IfNone, nat_lt, IfOk, OnOk, OnErr, map, length};
 ghost use Rattle.std.specs.List.{prefix_len};
+ghost use Rattle.dt_access.specs.Orders.{AreAscendingHomes};
 ghost use Rattle.dt_txn.specs.Accesses.{AreAscendingAccesses};
 ghost use Rattle.dt_txn.specs.Transaction.{homes_of, part_of, parts_of, set_of, with_number, targets_of, entries_at, used_of};
 
 use crate::txn::{Body, Txn};
 use dt_access::{Access, Homes, Keys, Part};
 use dt_text::NoMemory;
+use smallvec::SmallVec;
 use std::alloc::Global;
+
+/// A set of homes while it is gathered. One of a few takes no memory.
+type HomeSet = SmallVec<u8, 8>;
 
 /// The homes of a transaction, in ascending order: those of its keys, and for a move also its target.
 pub fn homes(alloc: Global, txn: &Txn) -> Result<Homes, NoMemory>
@@ -19,22 +24,33 @@ pub fn homes(alloc: Global, txn: &Txn) -> Result<Homes, NoMemory>
         place -= 1;
         add_home(&mut homes, access[place].home)?;
     }
-    // The copy has them in itself, so that none of them is kept on the heap.
-    Homes::from_vec(homes).copy(alloc)
+    in_order(alloc, homes.as_slice())
+}
+
+/// These homes, which stand in ascending order.
+fn in_order(alloc: Global, ascending: &[u8]) -> Result<Homes, NoMemory>
+    requires { AreAscendingHomes ascending.now }
+    ensures { IfOk result (λ homes. homes ≡ ascending.now) }
+{
+    let mut homes = Homes::new(alloc);
+    for home in ascending {
+        homes.push(*home)?;
+    }
+    Ok(homes)
 }
 
 /// Where a move leads, if the body is one.
-fn targets(alloc: Global, body: &Body) -> Result<Vec<u8>, NoMemory>
+fn targets(alloc: Global, body: &Body) -> Result<HomeSet, NoMemory>
     ensures { IfOk result (λ targets. targets.items ≡ set_of (targets_of body.now)) }
 {
     match body {
-        Body::Call(_, _) => Ok(Vec::new(alloc)),
-        Body::Move(_, target) => Ok(vec![in alloc; *target]?),
+        Body::Call(_, _) => Ok(HomeSet::new(alloc)),
+        Body::Move(_, target) => Ok(HomeSet::from_slice(alloc, &[*target])?),
     }
 }
 
 /// Adds a home to a set of homes that stand in ascending order.
-fn add_home(homes: &mut Vec<u8>, home: u8) -> Result<(), NoMemory>
+fn add_home(homes: &mut HomeSet, home: u8) -> Result<(), NoMemory>
     ensures ok { OnOk result (homes.new.items ≡ with_number home homes.old.items) }
     ensures err { OnErr result (homes.new.items ≡ homes.old.items) }
 {
