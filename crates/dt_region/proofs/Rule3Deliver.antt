@@ -1,8 +1,8 @@
 -- Rule 3: what a delivery makes of a region's fields is what the rule says, and keeps the region sound. Its scheduler has
 -- what it had.
-use Rattle.std.proofs.Common.{◌≡◌, ◌≢◌, ◌<◌, ◌≤◌, ◌+◌, ◌-◌, ◌^◌, ℕ, zero, suc, Ok, List, [], ◌∷◌, ◌++◌, map, length, set, drop, Some, refl, sym, ap, ap₂, subst, ◌∙◌, inl, inr, arith}
+use Rattle.std.proofs.Common.{◌≡◌, ◌<◌, ◌≤◌, ◌+◌, ◌-◌, ℕ, Ok, List, [], ◌∷◌, ◌++◌, map, length, set, drop, Some, refl, sym, ap, ap₂, subst, ◌∙◌, inl, inr, arith}
 use Rattle.std.specs.Prelude.{slice_index}
-use Rattle.std.proofs.lemmas.List.{length-set, length-map, length-drop, get_or-set_same, get_or-set_other, set-get_or, map-append, take-append-drop, length-append}
+use Rattle.std.proofs.lemmas.List.{length-set, length-map, length-drop, get_or-set_other, map-append, take-append-drop, length-append}
 use Rattle.dt_lists.specs.Lists.{AllIn, Has, Distinct}
 use Rattle.dt_lists.proofs.Callers.{all_map, all_append, all_append_right, all_get, all_put, all_image, all_of_image, each_append_right}
 use Rattle.dt_access.specs.declared.Part.{Part}
@@ -10,9 +10,7 @@ use Rattle.dt_sched.specs.Views.{View, log_at, ids_of}
 use Rattle.dt_sched.specs.Decide.{IsSound}
 use Rattle.dt_sched.specs.Sched.{Sched}
 use Rattle.dt_sched.proofs.Callers.{put_log}
-use Rattle.dt_log.specs.Logs.{Takes}
-use Rattle.dt_log.specs.declared.Taken.{Taken}
-use Rattle.dt_log.specs.declared.Taken.TheVariants.{New, Old, Gap}
+use Rattle.dt_log.specs.declared.Taken.TheVariants.{New}
 use Rattle.dt_events.specs.declared.Stamped.{Stamped}
 use Rattle.dt_events.specs.declared.Event.TheVariants.{Deliver}
 use Rattle.dt_txn.specs.declared.txn.Txn.{Txn}
@@ -26,7 +24,6 @@ use Rattle.dt_region.specs.RegionInner.{AreWell}
 use Rattle.dt_region.proofs.ViewOfRegion.{IsSeenAs, kept_under, under}
 use Rattle.dt_region.proofs.HeldTransactions.{hold_all_keeps, hold_all_holds, hold_all_foreign, hold_all_homes}
 use Rattle.dt_txn.proofs.Callers.{fronts_grown}
-use Rattle.dt_region.proofs.Logs.{log_few}
 
 pub all_drop : {A : Type 0} (P : A → Type 0) (n : ℕ) (xs : List A) → AllIn P xs → AllIn P (drop n xs)
 all_drop {A} P n xs all = all_append_right P _ (drop n xs) (subst (λ (l : List A). AllIn P l) (sym (take-append-drop n xs)) all)
@@ -133,30 +130,6 @@ module _ (s : RegionState) (sound : IsSoundRegion s) (home first : ℕ) (entries
   pub deliver_well : (seen : Sched) → seen ≡ sched_of s.logs s.here → AreWell after seen
   deliver_well seen e = (deliver_sound, e ∙ ap (λ v. record (sched_of s.logs s.here) { logs = v }) (sym same_fronts))
 
-drop_map : {A B : Type 0} (f : A → B) (n : ℕ) (xs : List A) → drop n (map f xs) ≡ map f (drop n xs)
-drop_map f zero xs = refl
-drop_map f (suc n) [] = refl
-drop_map f (suc n) (x ∷ xs) = drop_map f n xs
-
--- the last n of some items are those past the end of what there was
-last_are : {A B : Type 0} (f : A → B) (entries : List A) (log first n : ℕ) → first ≤ log → log + n ≡ first + length entries → drop (length (map f entries) - n) (map f entries) ≡ map f (drop (log - first) entries)
-last_are f entries log first n le e =
-    let l = length-map entries f in
-    let m : length (map f entries) - n ≡ log - first = omega (arith, l, le, e) in
-    ap (λ k. drop k (map f entries)) m ∙ drop_map f (log - first) entries
-
--- where there is no gap, there is a place for the delivered entries
-deliver_places : (s : RegionState) (home first : ℕ) (entries : List Entry) → home < length s.logs → CanDeliver s home first entries → first ≤ length (log_at s.logs home) → first + length entries < 2 ^ 32
-deliver_places s home first entries known can reach =
-    let news : List Part = map (λ e. e.part) (past_end (log_at s.logs home) first entries) in
-    let a : length (log_at (set s.logs home (log_at s.logs home ++ news)) home) ≡ length (log_at s.logs home) + length news =
-    ap length (get_or-set_same s.logs home (log_at s.logs home ++ news) [] known) ∙ length-append (log_at s.logs home) news in
-    let b = log_few (set s.logs home (log_at s.logs home ++ news)) home in
-    let c = can.few reach in
-    let d = length-map (past_end (log_at s.logs home) first entries) (λ (e : Entry). e.part) in
-    let f = length-drop (length (log_at s.logs home) - first) entries in
-    omega (arith, a, b, c, d, f)
-
 -- The region has the state s and these events, and contracts see it as r: what the call makes of its fields is what the
 -- rule says.
 module _ (r : RegionView) (s : RegionState) (events : List Stamped) (heard room : ℕ) (seen : Sched) (stands : IsSeenAs s events heard room seen r)
@@ -173,83 +146,41 @@ module _ (r : RegionView) (s : RegionState) (events : List Stamped) (heard room 
   abbrev made : List Txn → View → RegionState
   made foreign logs = record s { foreign = foreign; logs = logs }
 
-  -- whatever the call took apart of the entries: their parts, their transactions and how many there are
-  module _ (parts : List Part) (txns : List Txn) (count : ℕ) (p : parts ≡ map (λ e. e.part) entries) (t : txns ≡ map (λ e. e.txn) entries) (n : count ≡ length txns) where
-    count_is : count ≡ length entries
-    count_is = n ∙ ap length t ∙ length-map entries (λ (e : Entry). e.txn)
+  -- The parts and the transactions of the entries past the log's end, where there is no gap before the entries and some are new.
+  module _ (parts : List Part) (txns : List Txn) (end : ℕ) (ends : end ≡ length (log_at r.state.logs home)) (reach : first ≤ end) (past : end < first + length entries)
+      (p : parts ≡ map (λ e. e.part) (drop (end - first) entries)) (t : txns ≡ map (λ e. e.txn) (drop (end - first) entries)) where
+    ends_here : end ≡ length log_here
+    ends_here = ends ∙ ap (λ (x : RegionView). length (log_at x.state.logs home)) (sym stands.view)
 
-    parts_are : length parts ≡ length entries
-    parts_are = ap length p ∙ length-map entries (λ (e : Entry). e.part)
+    reach_here : first ≤ length log_here
+    reach_here = subst (λ m. first ≤ m) ends_here reach
 
-    pub deliver_room : first ≤ length log_here → first + count < 2 ^ 32
-    deliver_room reach = subst (λ m. first + m < 2 ^ 32) (sym count_is) (deliver_places s home first entries (subst (λ m. home < m) (sym stands.well.0.logs) known_here) can_here reach)
-
-    pub deliver_room_of_parts : first ≤ length log_here → first + length parts < 2 ^ 32
-    deliver_room_of_parts reach = subst (λ m. first + m < 2 ^ 32) (count_is ∙ sym parts_are) (deliver_room reach)
+    news_here : drop (end - first) entries ≡ past_end log_here first entries
+    news_here = ap (λ m. drop (m - first) entries) ends_here
 
     -- what the region itself submitted of them it has
-    own : (m : ℕ) → AllIn (λ txn. txn.id.region ≡ s.number → Has s.submitted txn) (drop m txns)
-    own m = all_drop _ m txns (subst (AllIn (λ txn. txn.id.region ≡ s.number → Has s.submitted txn)) (sym t) (all_image _ (λ (e : Entry). e.txn) entries (all_map _ _ entries (λ e agrees. agrees.own) can_here.agree)))
+    own : AllIn (λ txn. txn.id.region ≡ s.number → Has s.submitted txn) txns
+    own =
+        let agree = all_drop _ (end - first) entries can_here.agree in
+        subst (AllIn (λ txn. txn.id.region ≡ s.number → Has s.submitted txn)) (sym t)
+        (all_image _ (λ (e : Entry). e.txn) (drop (end - first) entries) (all_map _ _ (drop (end - first) entries) (λ e agrees. agrees.own) agree))
 
-    -- where some of them are new
-    module _ (new : ℕ) (foreign : List Txn) (logs : View) (taken : Taken) (is : taken ≡ New new) (takes : Takes log_here first parts (Ok taken) (log_at logs home)) (others : logs ≡ set s.logs home (log_at logs home))
-        (keeps : (submitted : List Txn) → AreCounted s.number 1 submitted → AllIn (λ txn. txn.id.region ≡ s.number → Has submitted txn) (drop (count - new) txns)
-        → foreign ≡ keep_all submitted s.foreign (drop (count - new) txns)) where
-      took : Takes log_here first parts (Ok (New new)) (log_at logs home)
-      took = subst (λ x. Takes log_here first parts (Ok x) (log_at logs home)) is takes
-
-      past : length log_here < first + length entries
-      past = subst (λ m. length log_here < first + m) parts_are took.1
-
-      reached : length log_here + new ≡ first + length entries
-      reached = subst (λ m. length log_here + new ≡ first + m) parts_are took.2
-
+    module _ (foreign : List Txn) (logs : View) (grown : logs ≡ set s.logs home (log_here ++ parts))
+        (keeps : (submitted : List Txn) → AreCounted s.number 1 submitted → AllIn (λ txn. txn.id.region ≡ s.number → Has submitted txn) txns → foreign ≡ keep_all submitted s.foreign txns) where
       deliver_is : made foreign logs ≡ after_deliver s home first entries
-      deliver_is =
-          let new_txns : drop (count - new) txns ≡ map (λ e. e.txn) (past_end log_here first entries) =
-          ap₂ (λ m l. drop (m - new) l) (n ∙ ap length t) t ∙ last_are (λ (e : Entry). e.txn) entries (length log_here) first new took.0 reached in
-          let new_parts : drop (length parts - new) parts ≡ map (λ e. e.part) (past_end log_here first entries) = ap (λ l. drop (length l - new) l) p
-          ∙ last_are (λ (e : Entry). e.part) entries (length log_here) first new took.0 reached in
-          let held_is : foreign ≡ keep_all s.submitted s.foreign (map (λ e. e.txn) (past_end log_here first entries)) = keeps s.submitted stands.well.0.counted (own (count - new)) ∙ ap (keep_all s.submitted s.foreign) new_txns in
-          let grown : logs ≡ set s.logs home (with_entries log_here first entries) = others ∙ ap (set s.logs home) (took.3 ∙ ap (λ x. log_here ++ x) new_parts) in
-          ap₂ made held_is grown
+      deliver_is = ap₂ made (keeps s.submitted stands.well.0.counted own ∙ ap (keep_all s.submitted s.foreign) (t ∙ ap (λ (l : List Entry). map (λ e. e.txn) l) news_here))
+          (grown ∙ ap (λ x. set s.logs home (log_here ++ x)) (p ∙ ap (λ (l : List Entry). map (λ e. e.part) l) news_here))
 
-      pub new_keeps : AreWell (made foreign logs) seen
-      new_keeps = subst (λ x. AreWell x seen) (sym deliver_is) (deliver_well s stands.well.0 home first entries known_here can_here took.0 seen stands.well.1)
+      pub deliver_keeps : AreWell (made foreign logs) seen
+      deliver_keeps = subst (λ x. AreWell x seen) (sym deliver_is) (deliver_well s stands.well.0 home first entries known_here can_here reach_here seen stands.well.1)
 
-      pub new_made : (begin : ℕ) (stamp : ℕ) (is_next : stamp ≡ latest_stamp r + 1) (after : List Stamped) → after ≡ events ++ under stamp (Deliver s.number home begin (first + count)) ∷ []
+      pub deliver_made : (new : ℕ) → new ≡ length txns → (begin : ℕ) (stamp : ℕ) (is_next : stamp ≡ latest_stamp r + 1) (after : List Stamped)
+          → after ≡ events ++ under stamp (Deliver s.number home begin (end + new)) ∷ []
           → MakesDelivery r home begin first entries (Ok (New new)) (record { state = made foreign logs; events = after; heard = heard; room = room })
-      new_made begin stamp is_next after kept =
-          let renamed : after ≡ events ++ under stamp (Deliver s.number home begin (first + length entries)) ∷ [] = kept ∙ ap (λ m. events ++ under stamp (Deliver s.number home begin (first + m)) ∷ []) count_is in
+      deliver_made new n begin stamp is_next after kept =
+          let count : new ≡ length entries - (end - first) = n ∙ ap length t ∙ length-map (drop (end - first) entries) (λ (e : Entry). e.txn) ∙ length-drop (end - first) entries in
+          let last : end + new ≡ first + length entries = omega (arith, count, reach, past) in
+          let renamed : after ≡ events ++ under stamp (Deliver s.number home begin (first + length entries)) ∷ [] = kept ∙ ap (λ m. events ++ under stamp (Deliver s.number home begin m) ∷ []) last in
           let event = kept_under stands (Deliver s.number home begin (first + length entries)) stamp after is_next renamed in
           subst (λ x. MakesDelivery x home begin first entries (Ok (New new)) (record { state = made foreign logs; events = after; heard = heard; room = room })) stands.view
-          (took.0, past, reached, λ j. record { state = deliver_is j; events = event j; heard = heard; room = room })
-
-    -- where none is, or where there is a gap before them, nothing changes
-    module _ (foreign : List Txn) (logs : View) (taken : Taken) (none : (m : ℕ) → taken ≢ New m) (takes : Takes log_here first parts (Ok taken) (log_at logs home))
-        (others : logs ≡ set s.logs home (log_at logs home)) (f : foreign ≡ s.foreign) where
-      stays : (x : Taken) → ((m : ℕ) → x ≢ New m) → Takes log_here first parts (Ok x) (log_at logs home) → log_at logs home ≡ log_here
-      stays (New m) other h = absurd (other m refl)
-      stays Old other h = h.2
-      stays Gap other h = h.1
-
-      old_is : made foreign logs ≡ s
-      old_is = ap₂ made f (others ∙ ap (set s.logs home) (stays taken none takes) ∙ set-get_or s.logs home [])
-
-      pub old_keeps : AreWell (made foreign logs) seen
-      old_keeps = subst (λ x. AreWell x seen) (sym old_is) stands.well
-
-      pub old_made : (begin : ℕ) (after : List Stamped) → after ≡ events → MakesDelivery r home begin first entries (Ok taken) (record { state = made foreign logs; events = after; heard = heard; room = room })
-      old_made begin after kept = by taken none takes
-        where
-          whole : record { state = made foreign logs; events = after; heard = heard; room = room } ≡ r
-          whole = (λ j. record { state = old_is j; events = kept j; heard = heard; room = room }) ∙ stands.view
-
-          by : (x : Taken) → ((m : ℕ) → x ≢ New m) → Takes log_here first parts (Ok x) (log_at logs home)
-              → MakesDelivery r home begin first entries (Ok x) (record { state = made foreign logs; events = after; heard = heard; room = room })
-          by (New m) other h = absurd (other m refl)
-          by Old other h =
-              let reach : first ≤ length (log_at r.state.logs home) = subst (λ x. first ≤ length (log_at x.state.logs home)) stands.view h.0 in
-              let within : first + length entries ≤ length (log_at r.state.logs home) = subst (λ x. first + length entries ≤ length (log_at x.state.logs home)) stands.view (subst (λ m. first + m ≤ length log_here) parts_are h.1) in
-              (reach, within, whole)
-          by Gap other h = (subst (λ x. length (log_at x.state.logs home) < first) stands.view h.0, whole)
+          (reach_here, subst (λ m. m < first + length entries) ends_here past, subst (λ m. m + new ≡ first + length entries) ends_here last, λ j. record { state = deliver_is j; events = event j; heard = heard; room = room })

@@ -1,5 +1,4 @@
-ghost use Rattle.std.specs.Prelude.{◌≡◌, ◌+◌, ◌-◌, ◌<◌, ◌≤◌, ◌^◌, List, drop, length, map, set, vec_len, IfOk, OnOk, OnErr};
-ghost use Rattle.dt_log.specs.Logs.{AgreeOnOverlap, Takes};
+ghost use Rattle.std.specs.Prelude.{◌≡◌, ◌+◌, ◌++◌, ◌<◌, ◌≤◌, ◌^◌, List, length, map, set, vec_len, IfOk, OnOk, OnErr};
 ghost use Rattle.dt_lists.specs.Lists.{AllIn, Has};
 ghost use Rattle.dt_sched.specs.Views.{log_at};
 ghost use Rattle.dt_sched.specs.Sched.{with_part};
@@ -9,7 +8,7 @@ ghost use Rattle.dt_region.specs.Sound.{AreCounted};
 
 use crate::foreign::Foreign;
 use dt_access::Part;
-use dt_log::{Log, Taken};
+use dt_log::Log;
 use dt_text::{Common, NoMemory};
 use dt_txn::{Entry, Txn};
 use std::alloc::Global;
@@ -43,33 +42,25 @@ pub fn place(logs: &mut Vec<Log>, part: Common<Part>) -> Result<(), NoMemory>
     log.push(part)
 }
 
-/// Takes a delivery into a home's log, as `Log::take`; the other logs stay.
-pub fn take(
-    logs: &mut Vec<Log>,
-    home: u8,
-    first: u32,
-    parts: Vec<Common<Part>>,
-) -> Result<Taken, NoMemory>
+/// Adds parts at the end of a home's log; after `NoMemory` the logs are as before.
+pub fn add(logs: &mut Vec<Log>, home: u8, parts: Vec<Common<Part>>) -> Result<(), NoMemory>
     requires home { home < vec_len logs.old }
-    requires overlap { AgreeOnOverlap (log_at logs.old.items home) first parts.items }
-    requires place { first ≤ length (log_at logs.old.items home) → first + vec_len parts < 2 ^ 32 }
-    ensures takes { Takes (log_at logs.old.items home) first parts.items result (log_at logs.new.items home) }
-    ensures others { logs.new.items ≡ set logs.old.items home (log_at logs.new.items home) }
+    requires room { length (log_at logs.old.items home) + vec_len parts < 2 ^ 32 }
+    ensures ok { OnOk result (logs.new.items ≡ set logs.old.items home (log_at logs.old.items home ++ parts.items)) }
+    ensures err { OnErr result (logs.new.items ≡ logs.old.items) }
 {
     let log = &mut logs[home as usize];
-    log.take(first, parts)
+    let end = log.len();
+    log.take(end, parts)?;
+    Ok(())
 }
 
-/// Keeps the last `count` of some transactions, unless there is one of their id; what is of region `number` itself, that
-/// region submitted and holds. Takes no memory where there is room.
-pub fn keep_last(number: u8, foreign: &mut Foreign, mut txns: Vec<Common<Txn>>, count: usize)
-    requires count { count ≤ vec_len txns }
+/// Keeps transactions, each unless there is one of its id; what is of region `number` itself, that region submitted and
+/// holds. Takes no memory where there is room.
+pub fn keep_all(number: u8, foreign: &mut Foreign, txns: Vec<Common<Txn>>)
     requires room { vec_len txns ≤ foreign.old.spare }
-    ensures { (submitted : List Txn) → AreCounted number 1 submitted → AllIn (λ txn. txn.id.region ≡ number → Has submitted txn) (drop (vec_len txns - count) txns.items) →
-        foreign.new.txns ≡ keep_all submitted foreign.old.txns (drop (vec_len txns - count) txns.items) }
+    ensures { (submitted : List Txn) → AreCounted number 1 submitted → AllIn (λ txn. txn.id.region ≡ number → Has submitted txn) txns.items → foreign.new.txns ≡ keep_all submitted foreign.old.txns txns.items }
 {
-    let first = txns.len() - count;
-    txns.drain(..first);
     for txn in txns {
         foreign.keep(number, txn);
     }

@@ -55,9 +55,6 @@ impl Kept {
         ensures kept { self.new.events ≡ self.old.events ++ record { stamp = stamp; event = event } ∷ [] }
         ensures spare { self.old.spare ≤ self.new.spare + 1 }
     {
-        match self.events.push(Stamped { stamp, event }) {
-            Ok(()) => (),
-            Err(_) => unreachable!(),
-        }
+        self.events.push_reserved(Stamped { stamp, event });
     }
 }

@@ -16,7 +16,7 @@ ghost use Rattle.dt_region.specs.Conditions.{IsTableFor, CanAppend, CanDeliver, 
 ghost use Rattle.dt_region.specs.Sound.{IsSoundRegion};
 
 use crate::ascent::are_ascending;
-use crate::entries::{keep_last, parts_and_txns, place, take};
+use crate::entries::{add, keep_all, parts_and_txns, place};
 use crate::execution::note_outcome;
 use crate::foreign::Foreign;
 use crate::kept::Kept;
@@ -330,7 +330,7 @@ impl<S: Scheduler> Region<S> {
         home: u8,
         begin: u32,
         first: u32,
-        entries: Vec<Entry>,
+        mut entries: Vec<Entry>,
     ) -> Result<Taken, NoMemory>
         requires stamp { HasStamp self.old }
         requires home { home < self.old.state.regions }
@@ -339,27 +339,31 @@ impl<S: Scheduler> Region<S> {
         ensures makes { MakesDelivery self.old home begin first entries.items result self.new }
         ensures sound { IsSoundRegion self.new.state }
     {
+        let end = self.log(home).len();
+        if end < first {
+            return Ok(Taken::Gap);
+        }
+        let known = (end - first) as usize;
+        if entries.len() <= known {
+            return Ok(Taken::Old);
+        }
         let stamp = self.next_stamp();
         let region = self.number;
-        let (parts, txns) = parts_and_txns(alloc, entries)?;
-        let count = txns.len();
+        let (parts, txns) = parts_and_txns(alloc, entries.split_off(known)?)?;
+        let new = txns.len();
         self.events.reserve(self.room as usize + 1)?;
-        self.foreign.reserve(count)?;
-        let taken = take(&mut self.logs, home, first, parts)?;
-        if let Taken::New(new) = taken {
-            keep_last(region, &mut self.foreign, txns, new as usize);
-            let last = first + count as u32;
-            self.events.keep(
-                stamp,
-                Event::Deliver {
-                    region,
-                    home,
-                    first: begin,
-                    last,
-                },
-            );
-        }
-        Ok(taken)
+        self.foreign.reserve(new)?;
+        add(&mut self.logs, home, parts)?;
+        keep_all(region, &mut self.foreign, txns);
+        let new = new as u32;
+        let event = Event::Deliver {
+            region,
+            home,
+            first: begin,
+            last: end + new,
+        };
+        self.events.keep(stamp, event);
+        Ok(Taken::New(new))
     }
 
     /// Inserts the next part of a home's log into the region's view, and keeps the event. False exactly where all that is
@@ -476,7 +480,8 @@ impl<S: Scheduler> Region<S> {
     }
 
     /// Makes room for n executions: each unit of it is enough for any one execution that is finished. Nothing else
-    /// changes, and after `NoMemory` the region is as before.
+    /// changes, and after `NoMemory` the region is as before. The changes of 252,645,136 executions are too many for a table to
+    /// count by 32 bits: so many get `NoMemory` whatever memory there is.
     pub fn reserve(&mut self, alloc: Global, runs: u32) -> Result<(), NoMemory>
         ensures ok { OnOk result (self.new ≡ record self.old { room = max self.old.room runs }) }
         ensures err { OnErr result (self.new ≡ self.old) }
