@@ -9,7 +9,7 @@ use Rattle.dt_lists.proofs.Callers.{either_nat}
 use Rattle.dt_access.specs.declared.TxnId.{TxnId}
 use Rattle.dt_cluster.specs.declared.Cluster.{Cluster}
 use Rattle.dt_workload.specs.declared.Workload.{Workload}
-use Rattle.dt_session.specs.World.{World, Node, node_at, log_of, logs_of, received_of, view_at}
+use Rattle.dt_session.specs.World.{World, Node, node_at, log_of, received_of, view_at}
 use Rattle.dt_session.specs.Step.{received, next}
 use Rattle.dt_events.specs.declared.Event.TheVariants.{Deliver}
 use Rattle.dt_agreement.specs.Invariant.{AreInOrder, Inv}

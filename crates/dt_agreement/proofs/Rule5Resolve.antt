@@ -9,7 +9,7 @@ use Rattle.dt_events.specs.declared.Event.TheVariants.{Resolve}
 use Rattle.dt_txn.specs.Replica.{MayStep, done_ids}
 use Rattle.dt_cluster.specs.declared.Cluster.{Cluster}
 use Rattle.dt_workload.specs.declared.Workload.{Workload}
-use Rattle.dt_session.specs.World.{World, Node, node_at, logs_of, received_logs, view_at}
+use Rattle.dt_session.specs.World.{World, Node, node_at, received_logs, view_at}
 use Rattle.dt_session.specs.Step.{moved_on}
 use Rattle.dt_agreement.specs.Invariant.{Inv}
 use Rattle.dt_agreement.proofs.InvariantParts.{Sound, lengths_kept, view_kept, tables_kept, ordered_kept}

@@ -1,5 +1,5 @@
 -- An execution keeps the invariant; one of an id that no region has executed puts it at the end of the order.
-use Rattle.std.proofs.Common.{◌≡◌, ◌≢◌, ◌<◌, ◌⊎◌, ℕ, List, [], ◌∷◌, ◌++◌, Some, refl, sym, ap, ap₂, subst, ◌∙◌, inl, inr}
+use Rattle.std.proofs.Common.{◌≡◌, ◌<◌, ◌⊎◌, ℕ, List, [], ◌∷◌, ◌++◌, Some, refl, sym, ap, ap₂, subst, ◌∙◌, inl, inr}
 use Rattle.std.specs.Prelude.{Option, filter_map}
 use Rattle.std.proofs.lemmas.List.{map_push}
 use Rattle.std.proofs.lemmas.List.Elements.{filter_map-append}
@@ -26,7 +26,7 @@ use Rattle.dt_session.specs.Run.{txns_of}
 use Rattle.dt_agreement.specs.Invariant.{IsRunOf, IsExecutedAt, IsOrder, Inv}
 use Rattle.dt_agreement.proofs.InvariantParts.{Sound, Tables, lengths_kept, view_kept}
 use Rattle.dt_agreement.proofs.OneRegion.{Leaves, change_keeps, leaves}
-use Rattle.dt_agreement.proofs.Submissions.{Keeps, WasSubmitted, txn_id}
+use Rattle.dt_agreement.proofs.Submissions.{WasSubmitted, txn_id}
 use Rattle.dt_agreement.proofs.RegionViews.{closed_full, closed_known, precedes_full}
 
 -- the transaction of an id at the end
