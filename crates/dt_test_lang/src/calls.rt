@@ -84,7 +84,7 @@ fn put_finish(alloc: Global, out: &mut Vec<u8>, finish: &Finish) -> Result<(), N
             }
             Ok(())
         }
-        Finish::Aborted(cause) => put_cause(out, &cause.copy(alloc)?),
+        Finish::Aborted(cause) => put_cause(out, &cause.copy()?),
     }
 }
 
@@ -93,7 +93,7 @@ fn put_cause(out: &mut Vec<u8>, cause: &Cause) -> Result<(), NoMemory> {
     match cause {
         Cause::Word(word) => {
             out.extend_from_slice(b"word ")?;
-            out.extend_from_slice(word.bytes())?;
+            out.extend_from_slice(word.get().bytes())?;
         }
         Cause::Overflow => out.extend_from_slice(b"overflow")?,
         Cause::Zero => out.extend_from_slice(b"zero")?,

@@ -3,7 +3,7 @@ use dt_access::TxnId;
 use dt_eval::{Cause, Values};
 use dt_report::{EventList, Ran, Rans, Replies, Reply, Report, Tables, print};
 use dt_table::{Shown, ShownList};
-use dt_text::{Key, Name, Str, Value};
+use dt_text::{Common, Key, Name, Str, Value};
 use dt_txn::Outcome;
 use std::alloc::Global;
 use std::test::Fail;
@@ -27,13 +27,16 @@ fn outcome_of(alloc: Global, what: What) -> Result<Outcome, Fail> {
     match what {
         What::Gave => Ok(Outcome::Gave(some_values(alloc)?)),
         What::GaveNothing => Ok(Outcome::Gave(Values::new(alloc))),
-        What::Funds => Ok(Outcome::Aborted(Cause::Word(Str::read(alloc, b"funds")?))),
+        What::Funds => Ok(Outcome::Aborted(Cause::Word(Common::new(
+            alloc,
+            Str::read(alloc, b"funds")?,
+        )?))),
         What::Overflow => Ok(Outcome::Aborted(Cause::Overflow)),
         What::Zero => Ok(Outcome::Aborted(Cause::Zero)),
         What::Kind => Ok(Outcome::Aborted(Cause::Kind)),
         What::Long => Ok(Outcome::Aborted(Cause::Long)),
         What::Stale => Ok(Outcome::Stale {
-            key: Key::read(alloc, b"b")?,
+            key: Common::new(alloc, Key::read(alloc, b"b")?)?,
             had: 0,
             by: TxnId { seq: 1, region: 5 },
         }),

@@ -132,7 +132,7 @@ fn put_outcome(
         Outcome::Aborted(_) => out.extend_from_slice(b"aborted")?,
         Outcome::Stale { key, had, by } => {
             out.extend_from_slice(b"stale ")?;
-            out.extend_from_slice(key.bytes())?;
+            out.extend_from_slice(key.get().bytes())?;
             out.push(b' ')?;
             put_u64(alloc, out, u64::from(*had))?;
             out.push(b' ')?;
