@@ -1,11 +1,10 @@
 -- Events followed one after another: what sessions wait for, how much regions have submitted, and the replies.
 use Rattle.std.proofs.Common.{◌≡◌, ◌<◌, ◌≤◌, ◌+◌, ℕ, Bool, true, false, cond, eqb, ltb, leb, ◌&&◌, List, [], ◌∷◌, ◌++◌, length, map, get_or, set, slice_get}
-use Rattle.std.proofs.Common.{Some, None, refl, sym, ap, ap₂, subst, ◌∙◌, append_assoc, append-nil, arith}
+use Rattle.std.proofs.Common.{Some, None, refl, sym, ap, ap₂, subst, ◌∙◌, ◌⊎◌, inl, inr, append_assoc, append-nil, arith}
 use Rattle.std.specs.Prelude.{Option, option_map, option_and_then, option_to_list}
 use Rattle.std.specs.List.{position}
 use Rattle.std.proofs.lemmas.List.{length_push, length-map, map-set, get_or-set_same}
 use Rattle.std.proofs.lemmas.List.Quantifiers.{position-Some}
-use Rattle.std.proofs.lemmas.Option.{some_pair_parts}
 use Rattle.dt_lists.specs.Lists.{Has, IsFront}
 use Rattle.dt_lists.proofs.Callers.{any_of_image, any_image, any_front, get_of_map, map_of_set, front_length}
 use Rattle.dt_access.specs.Clash.{Bytes}
@@ -91,6 +90,18 @@ module _ (cluster : Cluster) (ok : IsValidCluster cluster) (workload : Workload)
   pub now_places : length (world_after cluster workload xs).places ≡ length workload.sessions
   now_places = sym (places_parallel cluster workload (world_after cluster workload xs) (order_of xs) now_inv)
 
+  -- the session that it submits for or answers is one of the workload
+  pub now_listed : (region : ℕ) (name : Bytes) → (event ≡ Submit region name) ⊎ (event ≡ Answer region name) → ¬ (position (is_session region name) workload.sessions ≡ None)
+  now_listed region name (inl is) none = subst (MaySubmit cluster (world_after cluster workload xs) region)
+      (no_session_of_none region name workload.sessions (world_after cluster workload xs).places none) (subst (IsLegal cluster workload (world_after cluster workload xs)) is now_legal).allowed
+  now_listed region name (inr is) none = subst (MayAnswer cluster (world_after cluster workload xs) region)
+      (no_session_of_none region name workload.sessions (world_after cluster workload xs).places none) (subst (IsLegal cluster workload (world_after cluster workload xs)) is now_legal).allowed
+
+  -- and what a session of the workload waits for has the session's place
+  pub now_followed : (region : ℕ) (name : Bytes) (place : ℕ) → position (is_session region name) workload.sessions ≡ Some place → place < length (replay_of (world_after cluster workload xs)).waits
+  now_followed region name place found = subst (λ n. place < n) (sym (length-map (world_after cluster workload xs).places (λ p. p.waits) ∙ now_places))
+      (position-Some (is_session region name) workload.sessions place no_session found).0
+
   pub end_inv : Inv cluster workload (world_after cluster workload (xs ++ event ∷ ys)) (order_of (xs ++ event ∷ ys))
   end_inv = legal_keeps cluster ok workload fits (xs ++ event ∷ ys) legal
 
@@ -101,31 +112,14 @@ module _ (cluster : Cluster) (ok : IsValidCluster cluster) (workload : Workload)
 
 module _ (cluster : Cluster) (ok : IsValidCluster cluster) (workload : Workload) (fits : IsValidWorkload cluster workload) (xs ys : List Event) (region : ℕ) (name : Bytes)
     (legal : AreLegal cluster workload (xs ++ Submit region name ∷ ys)) where
-  pub submit_somewhere : ¬ (position (is_session region name) workload.sessions ≡ None)
-  submit_somewhere none = subst (MaySubmit cluster (world_after cluster workload xs) region) (no_session_of_none region name workload.sessions (world_after cluster workload xs).places none)
-      (now_legal cluster ok workload fits xs ys (Submit region name) legal).allowed
-
   module _ (place : ℕ) (found : position (is_session region name) workload.sessions ≡ Some place) where
-    pub submit_place : place < length (replay_of (world_after cluster workload xs)).waits
-    submit_place = subst (λ n. place < n) (sym (length-map (world_after cluster workload xs).places (λ p. p.waits) ∙ now_places cluster ok workload fits xs ys (Submit region name) legal))
-        (position-Some (is_session region name) workload.sessions place no_session found).0
-
-    pub submit_within : region < cluster.regions
-    submit_within = (now_legal cluster ok workload fits xs ys (Submit region name) legal).regions
-
     pub submit_region : region < length (replay_of (world_after cluster workload xs)).submitted
     submit_region = subst (λ n. region < n) (sym (length-map (world_after cluster workload xs).nodes (λ n. length n.submitted) ∙ (now_inv cluster ok workload fits xs ys (Submit region name) legal).nodes))
-        submit_within
+        (now_legal cluster ok workload fits xs ys (Submit region name) legal).regions
 
     r : Submits cluster workload (world_after cluster workload xs) region name
     r = submits cluster ok workload (world_after cluster workload xs) (order_of xs) region name (now_legal cluster ok workload fits xs ys (Submit region name) legal).allowed
         (now_inv cluster ok workload fits xs ys (Submit region name) legal)
-
-    place_is : r.place ≡ get_or (world_after cluster workload xs).places place idle_place
-    place_is =
-        let both : Some (r.session, r.place) ≡ Some (get_or workload.sessions place no_session, get_or (world_after cluster workload xs).places place idle_place) = sym r.found
-        ∙ session_of_place region name workload.sessions (world_after cluster workload xs).places (now_places cluster ok workload fits xs ys (Submit region name) legal) place no_session idle_place found in
-        (some_pair_parts r.session (get_or workload.sessions place no_session) r.place (get_or (world_after cluster workload xs).places place idle_place) both).1
 
     found_own : position (is_session region r.session.name) workload.sessions ≡ Some place
     found_own = subst (λ n. position (is_session region n) workload.sessions ≡ Some place) (sym r.named) found
@@ -164,17 +158,9 @@ module _ (cluster : Cluster) (ok : IsValidCluster cluster) (workload : Workload)
 
 module _ (cluster : Cluster) (ok : IsValidCluster cluster) (workload : Workload) (fits : IsValidWorkload cluster workload) (xs ys : List Event) (region : ℕ) (name : Bytes)
     (legal : AreLegal cluster workload (xs ++ Answer region name ∷ ys)) where
-  pub answer_somewhere : ¬ (position (is_session region name) workload.sessions ≡ None)
-  answer_somewhere none = subst (MayAnswer cluster (world_after cluster workload xs) region) (no_session_of_none region name workload.sessions (world_after cluster workload xs).places none)
-      (now_legal cluster ok workload fits xs ys (Answer region name) legal).allowed
-
   module _ (place : ℕ) (found : position (is_session region name) workload.sessions ≡ Some place) where
     pub answer_region : region < cluster.regions
     answer_region = (now_legal cluster ok workload fits xs ys (Answer region name) legal).regions
-
-    pub answer_place : place < length (replay_of (world_after cluster workload xs)).waits
-    answer_place = subst (λ n. place < n) (sym (length-map (world_after cluster workload xs).places (λ p. p.waits) ∙ now_places cluster ok workload fits xs ys (Answer region name) legal))
-        (position-Some (is_session region name) workload.sessions place no_session found).0
 
     at_session : session_at workload.sessions (world_after cluster workload xs).places region name ≡ Some (get_or workload.sessions place no_session, get_or (world_after cluster workload xs).places place idle_place)
     at_session = session_of_place region name workload.sessions (world_after cluster workload xs).places (now_places cluster ok workload fits xs ys (Answer region name) legal) place no_session idle_place found

@@ -1,6 +1,6 @@
 -- What the parts of a report are, step by step.
 use Rattle.std.proofs.Common.{◌≡◌, ◌≢◌, ◌<◌, ◌≤◌, ◌+◌, ℕ, zero, suc, Bool, Bor, true, false, cond, not, List, [], ◌∷◌, ◌++◌, length, map, get_or, replicate, take}
-use Rattle.std.proofs.Common.{drop, slice_get, Some, None, Ok, Err, refl, sym, ap, ap₂, subst, subst₂, ◌∙◌, append_assoc, append-nil, arith}
+use Rattle.std.proofs.Common.{drop, slice_get, Some, None, Ok, Err, refl, sym, ap, ap₂, subst, subst₂, ◌∙◌, ◌⊎◌, inl, inr, append_assoc, append-nil, arith}
 use Rattle.std.specs.Prelude.{Option, Result, IfOk, OnOk, option_map, option_and_then, option_to_list, filter_map}
 use Rattle.std.specs.List.{position, range_with_len}
 use Rattle.std.proofs.Math.Seq.{take-length}
@@ -38,9 +38,8 @@ use Rattle.dt_world.specs.WorldInner.{IsLawful, site_at, view_in, world_of}
 use Rattle.dt_world.specs.WorldSessions.{WorldSessions, places_in}
 use Rattle.dt_world.specs.WorldReport.{IsOutcomeOf, IsReplyOf, answered_name, answered_session, ran, ran_of, rans_of, replies_from, replies_of, reply_for, report_of, tables_of}
 use Rattle.dt_world.proofs.Executions.{executed_at, order_again, order_new, order_other, outcomes_kept, rans_more}
-use Rattle.dt_world.proofs.Replay.{answer_executed, answer_follows, answer_kept, answer_own, answer_place, answer_region, answer_replies, answer_somewhere}
-use Rattle.dt_world.proofs.Replay.{answer_waits, append_same, deliver_same, execute_same, insert_same, replies_more, resolve_same, submit_few, submit_follows}
-use Rattle.dt_world.proofs.Replay.{submit_place, submit_region, submit_somewhere, submit_within}
+use Rattle.dt_world.proofs.Replay.{answer_executed, answer_follows, answer_kept, answer_own, answer_region, answer_replies, answer_waits, now_followed, now_legal, now_listed}
+use Rattle.dt_world.proofs.Replay.{append_same, deliver_same, execute_same, insert_same, replies_more, resolve_same, submit_few, submit_follows, submit_region}
 use Rattle.dt_world.proofs.SitesTold.{reached}
 use Rattle.dt_world.proofs.Growth.{split_at}
 use Rattle.dt_site.proofs.Callers.{many_here}
@@ -172,17 +171,20 @@ module _ {told : TellingView} (led : LedTo told) where
   plain_event at (Execute region id) item a b = (plain_course at (Execute region id) item (λ w. execute_same told.cluster told.workload w region id), plain_replies at (Execute region id) item refl)
   plain_event at (Answer region name) item a b = absurd (b region name refl)
 
+  -- an event of a session
+
+  module _ (at : ℕ) (event : Event) (item : slice_get told.events at ≡ Some event) (region : ℕ) (name : Bytes) where
+    pub session_listed : (event ≡ Submit region name) ⊎ (event ≡ Answer region name) → ¬ (position (is_session region name) told.workload.sessions ≡ None)
+    session_listed = now_listed told.cluster led.valid told.workload led.fits (take at told.events) (drop (at + 1) told.events) event (legal_split at event item) region name
+
+    place_followed : (place : ℕ) → position (is_session region name) told.workload.sessions ≡ Some place → (course : SessionReplayView) → course ≡ replay_at told at → place < length course.waits
+    place_followed place found course is = subst (λ (c : SessionReplayView). place < length c.waits) (sym is)
+        (now_followed told.cluster led.valid told.workload led.fits (take at told.events) (drop (at + 1) told.events) event (legal_split at event item) region name place found)
+
   -- a submission
 
   module _ (at : ℕ) (region : ℕ) (name : Bytes) (item : slice_get told.events at ≡ Some (Submit region name)) where
-    pub follow_somewhere : ¬ (position (is_session region name) told.workload.sessions ≡ None)
-    follow_somewhere = submit_somewhere told.cluster led.valid told.workload led.fits (take at told.events) (drop (at + 1) told.events) region name (legal_split at (Submit region name) item)
-
     module _ (place : ℕ) (found : position (is_session region name) told.workload.sessions ≡ Some place) (course : SessionReplayView) (is : course ≡ replay_at told at) where
-      follow_place : place < length course.waits
-      follow_place = subst (λ (c : SessionReplayView). place < length c.waits) (sym is)
-          (submit_place told.cluster led.valid told.workload led.fits (take at told.events) (drop (at + 1) told.events) region name (legal_split at (Submit region name) item) place found)
-
       follow_region : region < length course.submitted
       follow_region = subst (λ (c : SessionReplayView). region < length c.submitted) (sym is)
           (submit_region told.cluster led.valid told.workload led.fits (take at told.events) (drop (at + 1) told.events) region name (legal_split at (Submit region name) item) place found)
@@ -195,7 +197,7 @@ module _ {told : TellingView} (led : LedTo told) where
       follow_counted : count_at course region + 1 < 4294967296
       follow_counted =
           let lr : region < told.cluster.regions =
-          submit_within told.cluster led.valid told.workload led.fits (take at told.events) (drop (at + 1) told.events) region name (legal_split at (Submit region name) item) place found in
+          (now_legal told.cluster led.valid told.workload led.fits (take at told.events) (drop (at + 1) told.events) (Submit region name) (legal_split at (Submit region name) item)).regions in
           let many : length (node_at (world_told told) region).submitted ≡ length (get_or told.sites region no_site).region.state.submitted = many_here (reached led) (led.stands region lr) in
           let few = led.few region lr in
           let more = follow_few in
@@ -208,7 +210,7 @@ module _ {told : TellingView} (led : LedTo told) where
 
       pub follows_submission : FollowsSubmission told at region place course
       follows_submission = record {
-        place_there = follow_place;
+        place_there = place_followed at (Submit region name) item region name place found course is;
         region_there = follow_region;
         few = follow_counted;
         replay = follow_submitted;
@@ -218,16 +220,9 @@ module _ {told : TellingView} (led : LedTo told) where
   -- an answer
 
   module _ (at : ℕ) (region : ℕ) (name : Bytes) (item : slice_get told.events at ≡ Some (Answer region name)) where
-    pub reply_somewhere : ¬ (position (is_session region name) told.workload.sessions ≡ None)
-    reply_somewhere = answer_somewhere told.cluster led.valid told.workload led.fits (take at told.events) (drop (at + 1) told.events) region name (legal_split at (Answer region name) item)
-
     module _ (place : ℕ) (found : position (is_session region name) told.workload.sessions ≡ Some place) (course : SessionReplayView) (is : course ≡ replay_at told at) where
       reply_region : region < told.cluster.regions
       reply_region = answer_region told.cluster led.valid told.workload led.fits (take at told.events) (drop (at + 1) told.events) region name (legal_split at (Answer region name) item) place found
-
-      reply_place : place < length course.waits
-      reply_place = subst (λ (c : SessionReplayView). place < length c.waits) (sym is)
-          (answer_place told.cluster led.valid told.workload led.fits (take at told.events) (drop (at + 1) told.events) region name (legal_split at (Answer region name) item) place found)
 
       reply_waits : ¬ (wait_at course place ≡ None)
       reply_waits e = answer_waits told.cluster led.valid told.workload led.fits (take at told.events) (drop (at + 1) told.events) region name (legal_split at (Answer region name) item) place found
@@ -239,7 +234,7 @@ module _ {told : TellingView} (led : LedTo told) where
           ∙ ap (λ l. replay_of (world_after told.cluster told.workload l)) (sym (split_at told.events at (Answer region name) item).1)
 
       pub follows_answer : FollowsAnswer told at region place course
-      follows_answer = record { place_there = reply_place; region_there = reply_region; waited = reply_waits; replay = reply_followed }
+      follows_answer = record { place_there = place_followed at (Answer region name) item region name place found course is; region_there = reply_region; waited = reply_waits; replay = reply_followed }
 
       module _ (id : TxnId) (waits : wait_at course place ≡ Some id) where
         waits_then : wait_at (replay_at told at) place ≡ Some id
@@ -300,7 +295,7 @@ module _ (cluster : Cluster) (ok : IsValidCluster cluster) (workload : Workload)
       by : (o : Option ℕ) → position (is_session region name) workload.sessions ≡ o
           → AllIn (IsReplyOf cluster.regions (world_after cluster workload (xs ++ Answer region name ∷ ys)))
           (option_to_list (reply_for cluster workload (xs ++ Answer region name ∷ ys) (answered_session workload (world_after cluster workload xs) (Answer region name))))
-      by None f = absurd (answer_somewhere cluster ok workload fits xs ys region name l f)
+      by None f = absurd (now_listed cluster ok workload fits xs ys (Answer region name) l region name (inr refl) f)
       by (Some place) f = waiting place f (wait_at (replay_of (world_after cluster workload xs)) place) refl
 
   pub replies_kept : AllIn (IsReplyOf cluster.regions (world_after cluster workload events)) (replies_of cluster workload events)

@@ -118,10 +118,6 @@ module _ {cluster : Cluster} {sessions : WorldSessions} {sites : List SiteView} 
               wanted : (c : Ranked) × (slice_get session.calls place.answered ≡ Some c)
               wanted = at_place session.calls place.answered left
 
-      -- the call is one of the session's
-      pub from_one : 1 ≤ call
-      from_one = let c : call ≡ found.place.answered + 1 = found.call_is in omega (arith, c)
-
       wanted_here : wanted_of here name call ≡ Some found.wanted
       wanted_here =
           ap (option_and_then (λ (x : Seat). slice_get x.calls (call - 1))) (kept_here (k.attended region lr) name found.found)

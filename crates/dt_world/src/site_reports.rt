@@ -295,8 +295,7 @@ fn tables<S: Scheduler + Drop>(alloc: Global, sites: &[&Site<S>]) -> Result<Tabl
     ensures { IfOk result (λ tables. tables ≡ map (λ site. shown site.now.region.state.here.table) sites.now) }
 {
     let mut tables = Tables::new(alloc);
-    for region in 0..sites.len() {
-        let site = sites[region];
+    for site in sites {
         tables.push(site.region.table().shown(alloc)?)?;
     }
     Ok(tables)
@@ -310,8 +309,7 @@ fn tables_lent<'a, S: Scheduler + Drop>(
     ensures { IfOk result (λ tables. all_shown tables.items ≡ map (λ site. shown site.now.region.state.here.table) sites.now) }
 {
     let mut tables = Vec::with_capacity(alloc, sites.len())?;
-    for region in 0..sites.len() {
-        let site = sites[region];
+    for site in sites {
         tables.push(site.region.table())?;
     }
     Ok(tables)

@@ -1,13 +1,13 @@
-use Rattle.std.proofs.Common.{◌≡◌, ◌+◌, [], ◌∷◌, ◌++◌, refl, sym, ap, ◌∙◌}
+use Rattle.std.proofs.Common.{◌≡◌, ◌+◌, [], ◌∷◌, ◌++◌, refl, sym, ap, ◌∙◌, inl, inr}
 use Rattle.dt_events.specs.declared.Event.TheVariants.{Submit, Answer}
 use Rattle.dt_world.specs.SessionReplay.{replay_at, replies_at}
-use Rattle.dt_world.proofs.Reports.{follow_somewhere, follows_answer, follows_reply, follows_submission, event_at, on_ok, on_ok_map, plain_event, reply_somewhere}
+use Rattle.dt_world.proofs.Reports.{follows_answer, follows_reply, follows_submission, event_at, on_ok, on_ok_map, plain_event, session_listed}
 use Rattle.dt_world.proofs.site_reports.Telling.follow.Goals as goal
 
 pub unreachable-requires : goal.unreachable-requires
 unreachable-requires g c =
     let event = event_at c.args.self.now c.requires.events c.args.at c.index-events-at.result (Submit c.in-Submit.region c.in-Submit.session) c.requires.at c.index-events-at.is c.in-Submit.is in
-    follow_somewhere c.requires.led c.args.at c.in-Submit.region c.in-Submit.session event (sym c.find.ensures ∙ c.in_default-find.is)
+    session_listed c.requires.led c.args.at (Submit c.in-Submit.region c.in-Submit.session) event c.in-Submit.region c.in-Submit.session (inl refl) (sym c.find.ensures ∙ c.in_default-find.is)
 
 pub submit-requires-clause-place : goal.submit-requires-clause-place
 submit-requires-clause-place g c =
@@ -30,7 +30,7 @@ submit-requires-clause-few g c =
 pub unreachable-requires-in_default-find-2 : goal.unreachable-requires-in_default-find-2
 unreachable-requires-in_default-find-2 g c =
     let event = event_at c.args.self.now c.requires.events c.args.at c.index-events-at.result (Answer c.in-Answer.region c.in-Answer.session) c.requires.at c.index-events-at.is c.in-Answer.is in
-    reply_somewhere c.requires.led c.args.at c.in-Answer.region c.in-Answer.session event (sym c.find-in-Answer.ensures ∙ c.in_default-find-2.is)
+    session_listed c.requires.led c.args.at (Answer c.in-Answer.region c.in-Answer.session) event c.in-Answer.region c.in-Answer.session (inr refl) (sym c.find-in-Answer.ensures ∙ c.in_default-find-2.is)
 
 pub waits-requires : goal.waits-requires
 waits-requires g c =
