@@ -1,6 +1,7 @@
 -- Which cells clash, shown by the lanes that they have their marks in.
 use Rattle.std.proofs.Common.{◌≡◌, ◌⊎◌, ℕ, true, false}
 use Rattle.std.proofs.Common.{Some, refl, ap, sym, subst, inl, inr, ◌∙◌}
+use Rattle.std.proofs.lemmas.Option.{same_Some}
 use Rattle.slab.specs.Slab.{get}
 use Rattle.dt_lists.specs.Lists.{AnyIn, Has}
 use Rattle.dt_lists.proofs.Callers.{any_get, any_put}
@@ -15,9 +16,6 @@ use Rattle.dt_queue.specs.Kept.{CellsClash, IsInLane, AreQueuesKept, lane, mark_
 use Rattle.dt_queue.specs.Lanes.{AreApart}
 use Rattle.dt_queue.specs.InUse.{rows_at}
 use Rattle.dt_queue.specs.Rows.{granule_at}
-
-some_same : (c d : Cell) → Some c ≡ Some d → c ≡ d
-some_same c d e = cc
 
 -- a mark that has its cell
 pub record IsMarkOf (k : Kept) (m : Mark) (c : Cell) : Type 0 where
@@ -46,7 +44,7 @@ pub in_lane : (k : Kept) → AreQueuesKept k → (m : Mark) (c : Cell) → IsMar
 in_lane k kept m c a mode p b = ((kept.lanes mode p).members m).1 (c, a.there, b, a.is)
 
 pub same_cell : (k : Kept) (m : Mark) (c d : Cell) → IsMarkOf k m c → IsMarkOf k m d → c ≡ d
-same_cell k m c d a b = some_same c d (sym a.there ∙ b.there)
+same_cell k m c d a b = same_Some c d (sym a.there ∙ b.there)
 
 -- the cell of a mark of a lane is of its mode and place
 pub lane_tells : (k : Kept) → AreQueuesKept k → (mode : Mode) (p : ℕ) (m : Mark) (c : Cell) → IsMarkOf k m c → Has (lane k mode p) m → IsInLane k.rows mode p c
@@ -56,7 +54,7 @@ lane_tells k kept mode p m c a h = let r = cell_of k kept mode p m h in subst (I
 pub one_cell : (k : Kept) → AreQueuesKept k → (m n : Mark) (c d : Cell) → IsMarkOf k m c → IsMarkOf k n d → m.number ≡ n.number → c ≡ d
 one_cell k kept m n c d a b e =
     let slots : m.slot ≡ n.slot = kept.alone m.slot n.slot c d a.there b.there (sym (number_of_mark k m c a) ∙ e ∙ number_of_mark k n d b) in
-    some_same c d (sym a.there ∙ ap (get k.cells) slots ∙ b.there)
+    same_Some c d (sym a.there ∙ ap (get k.cells) slots ∙ b.there)
 
 read_write : Read ≡ Write → ⊥
 read_write e = cc

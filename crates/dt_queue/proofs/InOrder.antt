@@ -1,6 +1,7 @@
 -- The entries that cells keep, in the order of their numbers: what the list has, and how it changes with the cells.
 use Rattle.std.proofs.Common.{◌≡◌, ◌≢◌, ◌⊎◌, ◌↔◌, ℕ, zero, suc, ◌+◌, ◌<◌, Bool, true, false, cond, not, ◌==◌, nat_lt, List, [], ◌∷◌, ◌++◌, slice_index_or}
 use Rattle.std.proofs.Common.{Option, Some, None, refl, ap, sym, subst, inl, inr, arith, ◌∙◌}
+use Rattle.std.proofs.lemmas.Option.{none-some}
 use Rattle.std.specs.List.{filter}
 use Rattle.slab.specs.Slab.{Slab, Updates, get, entries, entries_from}
 use Rattle.dt_lists.specs.Lists.{AllIn, EachThen, Has}
@@ -141,9 +142,6 @@ same_list a b K L k l same =
     ascending_same Rise (λ p lt. omega (arith, lt)) (λ p q r lt le. omega (arith, lt, le)) K L k.numbered l.numbered
     (λ p h. (l.members p).1 (sym (same p.0) ∙ (k.members p).0 h)) (λ p h. (k.members p).1 (same p.0 ∙ (l.members p).0 h))
 
-none_some : (c : Cell) → None ≡ Some c → ⊥
-none_some c e = cc
-
 -- a cell was put behind all others
 pub listed_more : (a b : Slab Cell) (K : List (ℕ × Cell)) (slot : ℕ) (c : Cell) → IsListed a K → Updates a b slot (Some c) → get a slot ≡ None → ((p : ℕ × Cell) → Has K p → p.1.number < c.number)
     → IsListed b (K ++ (slot, c) ∷ [])
@@ -162,7 +160,7 @@ listed_more a b K slot c k up vacant last = record {
 }
   where
     other : (p : ℕ × Cell) → get a p.0 ≡ Some p.1 → p.0 ≢ slot
-    other p e s = none_some p.1 (sym vacant ∙ sym (ap (λ n. get a n) s) ∙ e)
+    other p e s = none-some p.1 (sym vacant ∙ sym (ap (λ n. get a n) s) ∙ e)
 
     value : (d : Cell) → Some c ≡ Some d → c ≡ d
     value d e = cc
@@ -177,7 +175,7 @@ listed_less a b K slot k up = record {
   members = λ p. (
     λ h. let both = has_of_filtered (λ (q : ℕ × Cell). not (q.0 == slot)) K p h in up.others p.0 (differs p both.1) ∙ (k.members p).0 both.0,
     λ e. elim (either_nat p.0 slot) [
-      | inl s ↦ absurd (none_some p.1 (sym up.changed ∙ ap (λ n. get b n) (sym s) ∙ e))
+      | inl s ↦ absurd (none-some p.1 (sym up.changed ∙ ap (λ n. get b n) (sym s) ∙ e))
       | inr ne ↦ has_filter (λ (q : ℕ × Cell). not (q.0 == slot)) K p ((k.members p).1 (sym (up.others p.0 ne) ∙ e)) (passes p ne)
     ],
   );

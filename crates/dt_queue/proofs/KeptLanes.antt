@@ -1,6 +1,7 @@
 -- How lanes follow the cells: a mark is added where a cell is, and taken out where it is taken out.
 use Rattle.std.proofs.Common.{◌≡◌, ◌≢◌, ◌⊎◌, ◌↔◌, ℕ, ◌+◌, ◌<◌, ◌^◌, Bool, true, false, not, ◌==◌, List, [], ◌∷◌, ◌++◌, map}
-use Rattle.std.proofs.Common.{length, get_or, slice_index_or, Some, None, Result, Ok, Err, OnOk, OnErr, refl, ap, sym, subst, inl, inr, arith, ◌∙◌}
+use Rattle.std.proofs.Common.{length, get_or, slice_index_or, Some, None, Result, Ok, Err, OnErr, refl, ap, sym, subst, inl, inr, arith, ◌∙◌}
+use Rattle.std.proofs.lemmas.Option.{none-some, same_Some}
 use Rattle.std.specs.List.{filter}
 use Rattle.slab.specs.Slab.{Slab, Updates, get}
 use Rattle.dt_lists.specs.Lists.{AllIn, Has}
@@ -16,12 +17,6 @@ use Rattle.dt_queue.specs.Lanes.{ChangesLane, SameLanes}
 use Rattle.dt_queue.specs.Rows.{AreRowsLinked, KeepsRows, granule_at}
 use Rattle.dt_queue.proofs.Marks.{numbered_more}
 use Rattle.dt_queue.proofs.InOrder.{AreAlone}
-
-none_some : (c : Cell) → None ≡ Some c → ⊥
-none_some c e = cc
-
-some_same : (c d : Cell) → Some c ≡ Some d → c ≡ d
-some_same c d e = cc
 
 -- what a lane has depends on P at the cells that there are
 pub lane_map : (cells : Slab Cell) (P Q : Cell → Type 0) (ms : List Mark) → ((s : ℕ) (c : Cell) → get cells s ≡ Some c → P c ↔ Q c) → IsLane cells P ms → IsLane cells Q ms
@@ -50,7 +45,7 @@ lane_more a b P ms slot c l up vacant p all = record {
   numbered = numbered_more ms (mark_of slot c) l.numbered all;
   members = λ m. (
     λ h. elim (any_append _ ms (mark_of slot c ∷ []) h) [
-      | inl g ↦ let r = (l.members m).0 g in (r.0, up.others m.slot (λ s. none_some r.0 (sym vacant ∙ ap (get a) (sym s) ∙ r.1)) ∙ r.1, r.2, r.3)
+      | inl g ↦ let r = (l.members m).0 g in (r.0, up.others m.slot (λ s. none-some r.0 (sym vacant ∙ ap (get a) (sym s) ∙ r.1)) ∙ r.1, r.2, r.3)
       | inr g ↦ elim g [ inl e ↦ subst (λ (k : Mark). (d : Cell) × (get b k.slot ≡ Some d) × P d × (k ≡ mark_of k.slot d)) e (c, up.changed, p, refl) | inr f ↦ absurd f ]
     ],
     λ r. elim (either_nat m.slot slot) [
@@ -61,16 +56,16 @@ lane_more a b P ms slot c l up vacant p all = record {
 }
   where
     here : (m : Mark) (d : Cell) → m.slot ≡ slot → get b m.slot ≡ Some d → m ≡ mark_of m.slot d → mark_of slot c ≡ m
-    here m d s e is = let v : c ≡ d = some_same c d (sym up.changed ∙ ap (get b) (sym s) ∙ e) in (λ i. mark_of (sym s i) (v i)) ∙ sym is
+    here m d s e is = let v : c ≡ d = same_Some c d (sym up.changed ∙ ap (get b) (sym s) ∙ e) in (λ i. mark_of (sym s i) (v i)) ∙ sym is
 
 -- a cell of another lane was put
 pub lane_same : (a b : Slab Cell) (P : Cell → Type 0) (ms : List Mark) (slot : ℕ) (c : Cell) → IsLane a P ms → Updates a b slot (Some c) → get a slot ≡ None → ¬ (P c) → IsLane b P ms
 lane_same a b P ms slot c l up vacant other = record {
   numbered = l.numbered;
   members = λ m. (
-    λ h. let r = (l.members m).0 h in (r.0, up.others m.slot (λ s. none_some r.0 (sym vacant ∙ ap (get a) (sym s) ∙ r.1)) ∙ r.1, r.2, r.3),
+    λ h. let r = (l.members m).0 h in (r.0, up.others m.slot (λ s. none-some r.0 (sym vacant ∙ ap (get a) (sym s) ∙ r.1)) ∙ r.1, r.2, r.3),
     λ r. elim (either_nat m.slot slot) [
-      | inl s ↦ absurd (other (subst P (sym (some_same c r.0 (sym up.changed ∙ ap (get b) (sym s) ∙ r.1))) r.2))
+      | inl s ↦ absurd (other (subst P (sym (same_Some c r.0 (sym up.changed ∙ ap (get b) (sym s) ∙ r.1))) r.2))
       | inr ne ↦ (l.members m).1 (r.0, sym (up.others m.slot ne) ∙ r.1, r.2, r.3)
     ],
   );
@@ -97,10 +92,10 @@ lane_less a b P ms slot c l alone there up = record {
     passes m ne = grind (arith, ne)
 
     number : (m : Mark) (d : Cell) → m.slot ≡ slot → get a m.slot ≡ Some d → m ≡ mark_of m.slot d → m.number ≡ c.number
-    number m d s e is = ap (λ (k : Mark). k.number) is ∙ ap (λ (x : Cell). x.number) (some_same d c (sym e ∙ ap (get a) s ∙ there))
+    number m d s e is = ap (λ (k : Mark). k.number) is ∙ ap (λ (x : Cell). x.number) (same_Some d c (sym e ∙ ap (get a) s ∙ there))
 
     apart : (m : Mark) (d : Cell) → get b m.slot ≡ Some d → m.slot ≢ slot
-    apart m d e s = none_some d (sym up.changed ∙ ap (get b) (sym s) ∙ e)
+    apart m d e s = none-some d (sym up.changed ∙ ap (get b) (sym s) ∙ e)
 
     old : (m : Mark) (d : Cell) → get b m.slot ≡ Some d → get a m.slot ≡ Some d
     old m d e = sym (up.others m.slot (apart m d e)) ∙ e
@@ -110,8 +105,8 @@ pub lane_kept : (a b : Slab Cell) (P : Cell → Type 0) (ms : List Mark) (slot :
 lane_kept a b P ms slot c l there other up = record {
   numbered = l.numbered;
   members = λ m. (
-    λ h. let r = (l.members m).0 h in (r.0, up.others m.slot (λ s. other (subst P (some_same r.0 c (sym r.1 ∙ ap (get a) s ∙ there)) r.2)) ∙ r.1, r.2, r.3),
-    λ r. (l.members m).1 (r.0, sym (up.others m.slot (λ s. none_some r.0 (sym up.changed ∙ ap (get b) (sym s) ∙ r.1))) ∙ r.1, r.2, r.3),
+    λ h. let r = (l.members m).0 h in (r.0, up.others m.slot (λ s. other (subst P (same_Some r.0 c (sym r.1 ∙ ap (get a) s ∙ there)) r.2)) ∙ r.1, r.2, r.3),
+    λ r. (l.members m).1 (r.0, sym (up.others m.slot (λ s. none-some r.0 (sym up.changed ∙ ap (get b) (sym s) ∙ r.1))) ∙ r.1, r.2, r.3),
   );
 }
 
@@ -184,7 +179,7 @@ kept_pushed k n slot c kept linked keeps up vacant number next within row change
 }
   where
     is_new : (s : ℕ) (d : Cell) → s ≡ slot → get n.cells s ≡ Some d → d ≡ c
-    is_new s d e f = some_same d c (sym f ∙ ap (get n.cells) e ∙ up.changed)
+    is_new s d e f = same_Some d c (sym f ∙ ap (get n.cells) e ∙ up.changed)
 
     is_old : (s : ℕ) (d : Cell) → s ≢ slot → get n.cells s ≡ Some d → get k.cells s ≡ Some d
     is_old s d ne f = sym (up.others s ne) ∙ f
@@ -243,7 +238,7 @@ kept_removed k n slot c kept rows there up next changed others used = record {
 }
   where
     old : (s : ℕ) (d : Cell) → get n.cells s ≡ Some d → get k.cells s ≡ Some d
-    old s d e = sym (up.others s (λ f. none_some d (sym up.changed ∙ ap (get n.cells) (sym f) ∙ e))) ∙ e
+    old s d e = sym (up.others s (λ f. none-some d (sym up.changed ∙ ap (get n.cells) (sym f) ∙ e))) ∙ e
 
     lanes : (m : Mode) (p : ℕ) → ((m ≡ c.mode) × (p ≡ place_at k.rows c.mode c.row)) ⊎ ¬ ((m ≡ c.mode) × (p ≡ place_at k.rows c.mode c.row)) → IsLane n.cells (IsInLane k.rows m p) (lane n m p)
     lanes m p (inr ne) = subst (IsLane n.cells (IsInLane k.rows m p)) (sym (others m p ne))
@@ -274,7 +269,7 @@ none_kept k linked slots reads writes wholes used first last = record {
 }
   where
     none : (s : ℕ) (c : Cell) → get k.cells s ≡ Some c → ⊥
-    none s c e = none_some c (subst (λ l. slice_index_or l s None ≡ Some c) slots e)
+    none s c e = none-some c (subst (λ l. slice_index_or l s None ≡ Some c) slots e)
 
     empty : (m : Mode) (p : ℕ) → lane k m p ≡ []
     empty Read p = ap (λ l. get_or l p []) reads
@@ -339,14 +334,6 @@ keeps_lanes old new reads writes wholes rows used cells number = record { lanes 
 
 pub same_self : (lanes : List (List Mark)) → SameLanes lanes lanes
 same_self lanes place = refl
-
-pub on_ok : {A E P Q : Type 0} (r : Result A E) → (P → Q) → OnOk r P → OnOk r Q
-on_ok (Ok x) f o = f o
-on_ok (Err x) f o = o
-
-pub on_err : {A E P Q : Type 0} (r : Result A E) → (P → Q) → OnErr r P → OnErr r Q
-on_err (Ok x) f o = o
-on_err (Err x) f o = f o
 
 pub empty_of : {A : Type 0} (xs : List A) (n : ℕ) (t : Bool) → n ≡ length xs → t ≡ (n == 0) → t ≡ true → xs ≡ []
 empty_of [] n t a b c = refl

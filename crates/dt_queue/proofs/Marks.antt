@@ -29,6 +29,32 @@ ends_below n (x ∷ xs) (suc p) ends le =
     let first : nat_lt x.number n ≡ true = ends.0 0 x (omega arith) (omega arith) in
     record { within = le; lesser = (grind (arith, first), rest.lesser); others = rest.others }
 
+-- where all marks have lesser numbers, the search ends at the end
+pub ends_at_end : (n : ℕ) (ms : List Mark) (p : ℕ) → AllIn (λ m. m.number < n) ms → p ≡ length ms → EndsBelow n ms p
+ends_at_end n [] p all same = record { within = omega (arith, same); lesser = by p same; others = by' p same }
+  where
+    by : (p : ℕ) → p ≡ 0 → AllIn (λ (m : Mark). m.number < n) (take p [])
+    by zero e = tt
+    by (suc p) e = cc
+
+    by' : (p : ℕ) → p ≡ 0 → AllIn (λ (m : Mark). n ≤ m.number) (drop p [])
+    by' zero e = tt
+    by' (suc p) e = cc
+ends_at_end n (x ∷ xs) zero all same = absurd (omega (arith, same))
+ends_at_end n (x ∷ xs) (suc p) all same =
+    let rest : EndsBelow n xs p = ends_at_end n xs p all.1 (omega (arith, same)) in
+    record { within = omega (arith, same); lesser = (all.0, rest.lesser); others = rest.others }
+
+-- they have, if the last one has
+pub below_by_last : (n : ℕ) (ms : List Mark) (p : ℕ) (m : Mark) → HasRisingNumbers ms → p + 1 ≡ length ms → m ≡ slice_index_or ms p m → m.number < n → AllIn (λ k. k.number < n) ms
+below_by_last n [] p m num end is lt = tt
+below_by_last n (x ∷ []) zero m num end is lt = (subst (λ (k : Mark). k.number < n) is lt, tt)
+below_by_last n (x ∷ []) (suc p) m num end is lt = absurd (omega (arith, end))
+below_by_last n (x ∷ y ∷ ys) zero m num end is lt = absurd (omega (arith, end))
+below_by_last n (x ∷ y ∷ ys) (suc p) m num end is lt =
+    let rest = below_by_last n (y ∷ ys) p m num.1 (omega (arith, end)) is lt in
+    (omega (arith, num.0.0, rest.0), rest)
+
 -- ---- at the place where the search ended
 
 -- whether a mark has another number

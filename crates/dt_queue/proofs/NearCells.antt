@@ -2,6 +2,7 @@
 use Rattle.std.proofs.Common.{◌≡◌, ◌⊎◌, ℕ, ◌<◌, ◌≤◌, true, false, List, []}
 use Rattle.std.proofs.Common.{◌∷◌, Option, Some, None, option_to_list, refl, ap, sym, subst, inl, inr, arith, ◌∙◌}
 use Rattle.std.specs.List.{filter}
+use Rattle.std.specs.Option.{option_or}
 use Rattle.slab.specs.Slab.{get}
 use Rattle.dt_lists.specs.Lists.{Has}
 use Rattle.dt_lists.proofs.Callers.{all_get, any_get, any_put}
@@ -11,8 +12,8 @@ use Rattle.dt_access.specs.declared.access.Mode.TheVariants.{Read, Write, Whole}
 use Rattle.dt_queue.specs.declared.cell.Cell.{Cell}
 use Rattle.dt_queue.specs.declared.mark.Mark.{Mark}
 use Rattle.dt_queue.specs.declared.kept.Kept.{Kept}
-use Rattle.dt_queue.specs.Kept.{CellsClash, AreQueuesKept, IsNearInMode, IsNearMark, IsNearOf, lane, mark_of}
-use Rattle.dt_queue.specs.Lanes.{AreMarks, HasRisingNumbers, IsBetween, IsLastBetween, IsNearInRow, is_between, number_or}
+use Rattle.dt_queue.specs.Kept.{CellsClash, AreQueuesKept, HasOneNear, IsNearInMode, IsNearMark, IsNearOf, lane, mark_of}
+use Rattle.dt_queue.specs.Lanes.{AreMarks, HasRisingNumbers, IsBetween, IsLastBetween, IsLastIn, IsNearInRow, is_between, number_or}
 use Rattle.dt_queue.specs.InUse.{rows_at}
 use Rattle.dt_queue.specs.Rows.{granule_at}
 use Rattle.dt_queue.proofs.NearMarks.{AreLanesOfRow, either_between, in_between, near_reads, near_write, row_of, same_mark, trichotomy}
@@ -329,3 +330,26 @@ module _ (k : Kept) (kept : AreQueuesKept k) (x : Cell) (o : Option Mark) (last 
 
               below : (d : Cell) → IsMarkOf k w d → d.number < x.number
               below d b = omega (arith, l.1.1, number_of_mark k w d b)
+
+-- ---- where one mark at most is near
+
+-- of a lane that is not read the last mark between two numbers is near
+last_in_row : (reads writes ms : List Mark) (low high : ℕ) → reads ≡ [] → AreMarks (IsLastIn writes low high) ms → AreMarks (IsNearInRow reads writes low high) ms
+last_in_row reads writes ms low high none last = record {
+  numbered = last.numbered;
+  members = λ m. (
+    λ h. let l = (last.members m).0 h in (l.1, inr (l.0, l.2, λ j g b. subst (λ rs. Has rs j) none g)),
+    λ n. (last.members m).1 (elim n.1 [ inl r ↦ absurd (subst (λ rs. Has rs m) none r.0) | inr w ↦ (w.0, n.0, w.1) ]),
+  );
+}
+
+pub one_in_mode : (k : Kept) (x : Cell) (low : ℕ) (ms : List Mark) → HasOneNear k x → AreMarks (IsLastIn (lane k Write x.row) low x.number) ms → AreMarks (IsNearInMode k x low) ms
+one_in_mode k x low ms (inl read) last = subst (λ mode. AreMarks (IsNearOf mode k x.row low x.number) ms) (sym read) last
+one_in_mode k x low ms (inr write) last =
+    subst (λ mode. AreMarks (IsNearOf mode k x.row low x.number) ms) (sym write.0) (last_in_row (lane k Read x.row) (lane k Write x.row) ms low x.number write.1 last)
+
+-- it is the one that is found, or else the last that takes the granule as a whole
+pub near_or_taker : (k : Kept) → AreQueuesKept k → (x : Cell) (o : Option Mark) → IsLastBetween 0 x.number (lane k Whole (granule_at k.rows x.row)) o
+    → (w : Option Mark) → AreMarks (IsNearInMode k x (number_or o 0)) (option_to_list w) → AreMarks (IsNearMark k x) (option_to_list (option_or w o))
+near_or_taker k kept x o last None marks = near_taker k kept x o last marks
+near_or_taker k kept x o last (Some w) marks = near_marks k kept x o last (w ∷ []) w (inl refl) marks

@@ -2,6 +2,7 @@
 -- and the same entries are shown.
 use Rattle.std.proofs.Common.{◌≡◌, ◌≢◌, ◌⊎◌, ℕ, zero, suc, ◌+◌, ◌<◌, ◌≤◌, ◌^◌, Bool, true, false, cond, ◌==◌, List, [], ◌∷◌, map, length, is_some, nat_lt, Option}
 use Rattle.std.proofs.Common.{slice_index_or, slice_set, Some, None, refl, ap, ap₂, sym, subst, inl, inr, arith, ◌∙◌}
+use Rattle.std.proofs.lemmas.Option.{none-some, same_Some}
 use Rattle.std.proofs.lemmas.List.Recursion.{is_count_by}
 use Rattle.std.proofs.lemmas.Simd.{map-map}
 use Rattle.std.proofs.lemmas.List.{length-map}
@@ -22,12 +23,6 @@ use Rattle.dt_queue.proofs.InOrder.{AreAlone, IsListed, Rise, listed, same_list}
 use Rattle.dt_queue.proofs.KeptLanes.{either_place, kept_same, rows_refl, same_lanes}
 use Rattle.dt_queue.proofs.RowsUsed.{rows_same, used_mapped}
 use Rattle.dt_queue.proofs.ShownCells.{shown_same}
-
-none_some : (c : Cell) → None ≡ Some c → ⊥
-none_some c e = cc
-
-some_same : (c d : Cell) → Some c ≡ Some d → c ≡ d
-some_same c d e = cc
 
 -- ---- numbers
 
@@ -134,7 +129,7 @@ module _ (a b : Slab Cell) (slot : ℕ) (c : Cell) (i : ℕ) (there : get a slot
       down : (m k : Mark) → renumbered c.number i k ≡ m → ((d : Cell) × (get a k.slot ≡ Some d) × P d × (k ≡ mark_of k.slot d)) → (k.slot ≡ slot) ⊎ (k.slot ≢ slot)
           → (d : Cell) × (get b m.slot ≡ Some d) × P d × (m ≡ mark_of m.slot d)
       down m k e r (inl s) =
-          let v : r.0 ≡ c = some_same r.0 c (sym r.1 ∙ ap (get a) s ∙ there) in
+          let v : r.0 ≡ c = same_Some r.0 c (sym r.1 ∙ ap (get a) s ∙ there) in
           let is : k ≡ mark_of slot c = r.3 ∙ (λ j. mark_of (s j) (v j)) in
           let own : mark_of slot (record c { number = i }) ≡ m = sym (mark_at c.number i k (ap (λ (x : Mark). x.number) is) ∙ ap (λ (x : Mark). record x { number = i }) is) ∙ e in
           subst (λ (x : Mark). (d : Cell) × (get b x.slot ≡ Some d) × P d × (x ≡ mark_of x.slot d)) own (record c { number = i }, up.changed, new, refl)
@@ -144,7 +139,7 @@ module _ (a b : Slab Cell) (slot : ℕ) (c : Cell) (i : ℕ) (there : get a slot
 
       back : (m : Mark) (d : Cell) → get b m.slot ≡ Some d → P d → m ≡ mark_of m.slot d → (m.slot ≡ slot) ⊎ (m.slot ≢ slot) → Has (map (renumbered c.number i) ms) m
       back m d e p is (inl s) =
-          let v : d ≡ record c { number = i } = some_same d (record c { number = i }) (sym e ∙ ap (get b) s ∙ up.changed) in
+          let v : d ≡ record c { number = i } = same_Some d (record c { number = i }) (sym e ∙ ap (get b) s ∙ up.changed) in
           let own : Has ms (mark_of slot c) = (l.members (mark_of slot c)).1 (c, there, old, refl) in
           subst (Has (map (renumbered c.number i) ms)) (mark_at c.number i (mark_of slot c) refl ∙ sym (is ∙ (λ j. mark_of (s j) (v j)))) (has_map (renumbered c.number i) ms (mark_of slot c) own)
       back m d e p is (inr ne) =
@@ -156,8 +151,8 @@ module _ (a b : Slab Cell) (slot : ℕ) (c : Cell) (i : ℕ) (there : get a slot
   lane_beside P ms l new old = record {
     numbered = l.numbered;
     members = λ m. (
-      λ h. let r = (l.members m).0 h in (r.0, up.others m.slot (λ s. old (subst P (some_same r.0 c (sym r.1 ∙ ap (get a) s ∙ there)) r.2)) ∙ r.1, r.2, r.3),
-      λ r. (l.members m).1 (r.0, sym (up.others m.slot (λ s. new (subst P (some_same r.0 (record c { number = i }) (sym r.1 ∙ ap (get b) s ∙ up.changed)) r.2))) ∙ r.1, r.2, r.3),
+      λ h. let r = (l.members m).0 h in (r.0, up.others m.slot (λ s. old (subst P (same_Some r.0 c (sym r.1 ∙ ap (get a) s ∙ there)) r.2)) ∙ r.1, r.2, r.3),
+      λ r. (l.members m).1 (r.0, sym (up.others m.slot (λ s. new (subst P (same_Some r.0 (record c { number = i }) (sym r.1 ∙ ap (get b) s ∙ up.changed)) r.2))) ∙ r.1, r.2, r.3),
     );
   }
 
@@ -183,7 +178,7 @@ module _ (a b : Slab Cell) (slot : ℕ) (c : Cell) (i : ℕ) (there : get a slot
     where
       down : (q p : ℕ × Cell) → moved p ≡ q → get a p.0 ≡ Some p.1 → (p.0 ≡ slot) ⊎ (p.0 ≢ slot) → get b q.0 ≡ Some q.1
       down q p e g (inl s) =
-          let v : p.1 ≡ c = some_same p.1 c (sym g ∙ ap (get a) s ∙ there) in
+          let v : p.1 ≡ c = same_Some p.1 c (sym g ∙ ap (get a) s ∙ there) in
           let own : (slot, record c { number = i }) ≡ q = sym (moved_at p (ap (λ (x : Cell). x.number) v) ∙ (λ j. (s j, record (v j) { number = i }))) ∙ e in
           subst (λ (x : ℕ × Cell). get b x.0 ≡ Some x.1) own up.changed
       down q p e g (inr ne) =
@@ -192,7 +187,7 @@ module _ (a b : Slab Cell) (slot : ℕ) (c : Cell) (i : ℕ) (there : get a slot
 
       back : (q : ℕ × Cell) → get b q.0 ≡ Some q.1 → (q.0 ≡ slot) ⊎ (q.0 ≢ slot) → Has (map moved K) q
       back q e (inl s) =
-          let v : q.1 ≡ record c { number = i } = some_same q.1 (record c { number = i }) (sym e ∙ ap (get b) s ∙ up.changed) in
+          let v : q.1 ≡ record c { number = i } = same_Some q.1 (record c { number = i }) (sym e ∙ ap (get b) s ∙ up.changed) in
           subst (Has (map moved K)) (moved_at (slot, c) refl ∙ sym (λ j. (s j, v j))) (has_map moved K (slot, c) ((l.members (slot, c)).1 there))
       back q e (inr ne) =
           let was : get a q.0 ≡ Some q.1 = sym (up.others q.0 ne) ∙ e in
@@ -221,7 +216,7 @@ module _ (k n : Kept) (slot : ℕ) (c : Cell) (i : ℕ) (kept : AreQueuesKept k)
   }
     where
       is_new : (s : ℕ) (d : Cell) → s ≡ slot → get n.cells s ≡ Some d → d ≡ record c { number = i }
-      is_new s d e f = some_same d (record c { number = i }) (sym f ∙ ap (get n.cells) e ∙ up.changed)
+      is_new s d e f = same_Some d (record c { number = i }) (sym f ∙ ap (get n.cells) e ∙ up.changed)
 
       is_old : (s : ℕ) (d : Cell) → s ≢ slot → get n.cells s ≡ Some d → get k.cells s ≡ Some d
       is_old s d ne f = sym (up.others s ne) ∙ f
@@ -308,7 +303,7 @@ given_more a b slot c i there up le given = λ n low high. by n (either_nat n i)
         (r.0, r.1, up.others r.0 (λ s. other n r.0 r.1 r.2 r.3 s (omega (arith, high, ne))) ∙ r.2, r.3)
       where
         other : (n s : ℕ) (d : Cell) → get a s ≡ Some d → d.number ≡ n → s ≡ slot → n < i → ⊥
-        other n s d e f g lt = let v : d.number ≡ c.number = ap (λ (x : Cell). x.number) (some_same d c (sym e ∙ ap (get a) g ∙ there)) in omega (arith, v, f, lt, le)
+        other n s d e f g lt = let v : d.number ≡ c.number = ap (λ (x : Cell). x.number) (same_Some d c (sym e ∙ ap (get a) g ∙ there)) in omega (arith, v, f, lt, le)
 
 -- ---- how many wait
 
@@ -344,10 +339,10 @@ shown_length k =
 -- of the cell that is first what is said of it
 pub first_is : (cells : Slab Cell) (slot number : ℕ) (c : Cell) → get cells slot ≡ Some c → IsFirstFrom cells number (Some slot)
     → (number ≤ c.number) × ((s : ℕ) (d : Cell) → get cells s ≡ Some d → IsBeside c.number number d.number)
-first_is cells slot number c e f = subst (λ (x : Cell). (number ≤ x.number) × ((s : ℕ) (d : Cell) → get cells s ≡ Some d → IsBeside x.number number d.number)) (some_same f.0 c (sym f.1 ∙ e)) (f.2, f.3)
+first_is cells slot number c e f = subst (λ (x : Cell). (number ≤ x.number) × ((s : ℕ) (d : Cell) → get cells s ≡ Some d → IsBeside x.number number d.number)) (same_Some f.0 c (sym f.1 ∙ e)) (f.2, f.3)
 
 slot_within : (slots : List (Option Cell)) (s : ℕ) (c : Cell) → slice_index_or slots s None ≡ Some c → s < length slots
-slot_within [] s c e = absurd (none_some c e)
+slot_within [] s c e = absurd (none-some c e)
 slot_within (x ∷ xs) zero c e = omega arith
 slot_within (x ∷ xs) (suc s) c e = omega (arith, slot_within xs s c e)
 

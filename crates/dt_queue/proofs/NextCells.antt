@@ -3,7 +3,7 @@ use Rattle.std.proofs.Common.{◌≡◌, ◌⊎◌, ◌↔◌, ℕ, ◌<◌, ◌
 use Rattle.std.proofs.Common.{◌∷◌, Option, Some, None, is_some, refl, ap, sym, subst, inl, inr, arith, ◌∙◌}
 use Rattle.slab.specs.Slab.{get}
 use Rattle.dt_lists.specs.Lists.{Has}
-use Rattle.dt_lists.proofs.Callers.{all_get, any_get, any_put}
+use Rattle.dt_lists.proofs.Callers.{all_get, any_get, any_put, either_le}
 use Rattle.dt_access.specs.Clash.{is_whole}
 use Rattle.dt_access.specs.declared.access.Mode.{Mode}
 use Rattle.dt_access.specs.declared.access.Mode.TheVariants.{Read, Write, Whole}
@@ -11,7 +11,7 @@ use Rattle.dt_queue.specs.declared.cell.Cell.{Cell}
 use Rattle.dt_queue.specs.declared.mark.Mark.{Mark}
 use Rattle.dt_queue.specs.declared.kept.Kept.{Kept}
 use Rattle.dt_queue.specs.declared.next.Next.{Next}
-use Rattle.dt_queue.specs.Kept.{CellsClash, AreQueuesKept, IsNextInMode, IsNextMark, IsNextOfMode, lane, mark_of}
+use Rattle.dt_queue.specs.Kept.{CellsClash, AreQueuesKept, HidesFrom, IsNextInMode, IsNextMark, IsNextOfMode, lane, mark_of}
 use Rattle.dt_queue.specs.Lanes.{HasRisingNumbers, IsBetween, IsFirstBetween, IsNextInRow, later_than, number_or}
 use Rattle.dt_queue.specs.Next.{IsFirstAfter, IsKnownNext}
 use Rattle.dt_queue.specs.InUse.{rows_at}
@@ -320,3 +320,20 @@ module _ (k : Kept) (kept : AreQueuesKept k) (x : Cell) (top : ℕ) (within : k.
   pub first_of_none : (after : ℕ) (n one : Next) → IsKnownNext (IsNextInMode k x (number_or o top)) after n
       → n.any ≡ false → one.any ≡ is_some o → one.first ≡ later_than after o → IsFirstAfter (IsNextMark k x) after one.first
   first_of_none after n one known any some is = (next_of_one (IsNextMark k x) o after one (next_taker (known.none any)) some is).first
+
+-- no cell after one that hides it is next
+pub none_hidden : (k : Kept) (x y : Cell) (place : ℕ) → get k.cells place ≡ Some y → HidesFrom x y → IsFirstAfter (IsNextMark k x) y.number None
+none_hidden k x y place e h m n = elim (either_le m.number y.number) [ inl le ↦ le | inr more ↦ absurd (n.5 place y e h.later (before more) here (clash n.4)) ]
+  where
+    before : ¬ (m.number ≤ y.number) → y.number < n.0.number
+    before more = omega (arith, more, number_of_mark k m n.0 (record { there = n.1; is = n.2 }))
+
+    here : CellsClash k.rows x y
+    here = clash_turned k.rows y x (write_clashes k.rows y x h.writes (sym h.row))
+
+    no_part : false ≡ true → ⊥
+    no_part e = cc
+
+    clash : CellsClash k.rows x n.0 → CellsClash k.rows y n.0
+    clash (inl b) = write_clashes k.rows y n.0 h.writes (sym h.row ∙ b.0)
+    clash (inr b) = inr (ap (granule_at k.rows) (sym h.row) ∙ b.0, elim b.1 [ inl f ↦ absurd (no_part (sym h.narrow ∙ f)) | inr f ↦ inr f ])

@@ -1,6 +1,6 @@
 -- Sets of rows in a list: what one of them has after a row was put in or taken out, and that the others are as before.
 use Rattle.std.proofs.Common.{◌≡◌, ◌≢◌, ◌⊎◌, ◌↔◌, ℕ, zero, suc, ◌<◌, ◌≤◌, Bool, true, false, cond, nat_eq, List, []}
-use Rattle.std.proofs.Common.{◌∷◌, ◌++◌, map, length, get_or, set, slice_index_or, Result, Ok, Err, IfOk, IsOk, refl, ap, sym, subst, inl, inr, arith, ◌∙◌}
+use Rattle.std.proofs.Common.{◌∷◌, ◌++◌, map, length, get_or, set, slice_index_or, refl, ap, sym, subst, inl, inr, arith, ◌∙◌}
 use Rattle.std.specs.List.{IsDistinct, list_any}
 use Rattle.std.proofs.lemmas.List.{get_or_read, get_or-set_other, get_or-set_same, length-map, map-set}
 use Rattle.dt_lists.specs.Lists.{AllIn, Distinct, Has}
@@ -86,11 +86,6 @@ differ (x ∷ xs) d = (each xs d.0, differ xs d.1)
         other e = cc
 
 -- ---- a set in a list of sets
-
--- what goes for each answer goes where there is one
-pub settled : {A E P : Type 0} (r : Result A E) → IsOk r → IfOk r (λ _. P) → P
-settled (Ok a) o h = h
-settled (Err e) o h = cc
 
 module _ {A : Type 0} (f : A → List ℕ) (xs : List A) (i row : ℕ) (old new : A) (lt : i < length xs) (there : old ≡ slice_index_or xs i old) where
   now_is : get_or (map f (set xs i new)) i [] ≡ f new

@@ -3,7 +3,7 @@ use Rattle.std.proofs.Common.{◌≡◌, ◌⊎◌, ℕ, ◌<◌, ◌≤◌, Boo
 use Rattle.std.proofs.Common.{[], ◌∷◌, ◌++◌, map, length, slice_get, Option, Some, None, option_map, refl, ap, ap₂, sym, subst, inl, inr, arith, ◌∙◌}
 use Rattle.std.specs.List.{filter}
 use Rattle.std.proofs.lemmas.Simd.{map-map}
-use Rattle.std.proofs.lemmas.Option.{slice_get-get_or}
+use Rattle.std.proofs.lemmas.Option.{same_Some, slice_get-get_or}
 use Rattle.slab.specs.Slab.{Updates, get, entries, entries_from}
 use Rattle.dt_lists.specs.Lists.{AnyIn, EachThen, Has, IsFront}
 use Rattle.dt_lists.proofs.Callers.{all_get, any_get, any_image, any_of_image, any_of_test, any_put, ascending_same, each_image, filter_each, has_filter, has_map, has_of_filtered, one_place}
@@ -23,9 +23,6 @@ use Rattle.dt_queue.specs.Queues.{IsQueued, Waiting, follower_of, followers_afte
 use Rattle.dt_queue.specs.Rows.{granule_at, granule_name, name_at}
 use Rattle.dt_queue.proofs.InOrder.{IsListed, Rise, listed, listed_less, listed_more, same_list}
 use Rattle.dt_queue.proofs.ShownLists.{Slots, after_is, before_is, entry_is, greater, lesser, meets, near_in, near_rises, nearest_is, of_near, slots_of_list, to_near, without_is}
-
-some_same : {A : Type 0} (a b : A) → Some a ≡ Some b → a ≡ b
-some_same a b e = cc
 
 or_one : (s t : Bool) → (s ≡ true) ⊎ (t ≡ true) → (s || t) ≡ true
 or_one true t e = refl
@@ -62,7 +59,7 @@ module _ (k : Kept) (kept : AreQueuesKept k) where
 
   same_name : (i j : ℕ) → i < length k.rows.names.keys → j < length k.rows.names.keys → granule_at k.rows i ≡ granule_at k.rows j
       → granule_name (name_at k.rows.names.keys i) ≡ granule_name (name_at k.rows.names.keys j)
-  same_name i j a b e = some_same _ _ (sym (kept.linked.granule i a) ∙ ap (slice_get k.rows.granules.keys) e ∙ kept.linked.granule j b)
+  same_name i j a b e = same_Some _ _ (sym (kept.linked.granule i a) ∙ ap (slice_get k.rows.granules.keys) e ∙ kept.linked.granule j b)
 
   meets_of : (p q : ℕ × Cell) → p.1.row < length k.rows.names.keys → q.1.row < length k.rows.names.keys → CellsClash k.rows p.1 q.1 → meets k.rows.names.keys p q ≡ true
   meets_of p q a b (inl c) =
@@ -185,7 +182,7 @@ module _ (k : Kept) (kept : AreQueuesKept k) where
       let found : AnyIn (λ w. is_at slot w ≡ true) (map (entry k.rows.names.keys) (near_cells q)) = subst (AnyIn (λ w. is_at slot w ≡ true)) (neighbours_shown q own) (any_of_test (is_at slot) (neighbours (waiting_of k) q.0) t) in
       let r = any_get (λ (p : ℕ × Cell). (p.0 == slot) ≡ true) (near_cells q) (any_of_image (λ w. is_at slot w ≡ true) (entry k.rows.names.keys) (near_cells q) found) in
       let n = of_near_cells q r.0 own r.1 in
-      let one : r.0.1 ≡ x = some_same r.0.1 x (sym (cell_there r.0 n.there) ∙ ap (get k.cells) (eqb-true r.0.0 slot r.2) ∙ e) in (
+      let one : r.0.1 ≡ x = same_Some r.0.1 x (sym (cell_there r.0 n.there) ∙ ap (get k.cells) (eqb-true r.0.0 slot r.2) ∙ e) in (
         q.1,
         cell_there q own,
         refl,
@@ -196,7 +193,7 @@ module _ (k : Kept) (kept : AreQueuesKept k) where
 
   to_next : (slot : ℕ) (x : Cell) → get k.cells slot ≡ Some x → (q : ℕ × Cell) → Has (in_order (entries k.cells)) q → IsNextMark k x (mark_of q.0 q.1) → is_neighbour (waiting_of k) slot q.0 ≡ true
   to_next slot x e q own n =
-      let one : n.0 ≡ q.1 = some_same n.0 q.1 (sym n.1 ∙ cell_there q own) in
+      let one : n.0 ≡ q.1 = same_Some n.0 q.1 (sym n.1 ∙ cell_there q own) in
       let near : IsNear q (slot, x) = subst (λ (c : Cell). IsNear (q.0, c) (slot, x)) one (record { there = in_list slot x e; before = n.3; clash = n.4; free = n.5 }) in
       test_of_any (is_at slot) (neighbours (waiting_of k) q.0)
       (subst (AnyIn (λ w. is_at slot w ≡ true)) (sym (neighbours_shown q own))

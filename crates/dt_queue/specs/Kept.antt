@@ -1,7 +1,7 @@
 -- Scaffolding: how the queues are kept. Each entry has a cell at its slot, with its row, its mode and the number of its push;
 -- and it has a mark in the lane of its mode, that of its row, or for the mode Whole that of its granule. `waiting_of` is the
 -- list of entries that is kept so, and `AreQueuesKept` what all queues keep.
-use Rattle.std.specs.Prelude.{◌≡◌, ℕ, ◌<◌, ◌↔◌, ◌⊎◌, ◌^◌, nat_lt, true, List, [], ◌∷◌, map, get_or, length, if◌then◌else◌, None, Some}
+use Rattle.std.specs.Prelude.{◌≡◌, ℕ, ◌<◌, ◌↔◌, ◌⊎◌, ◌^◌, nat_lt, true, false, List, [], ◌∷◌, map, get_or, length, if◌then◌else◌, None, Some}
 use Rattle.slab.specs.Slab.{Slab, Updates, get, entries}
 use Rattle.dt_lists.specs.Lists.{AnyIn, Has}
 use Rattle.dt_access.specs.Clash.{Bytes, is_whole, may_change}
@@ -128,10 +128,21 @@ IsNextOfMode Whole k row low high m = AnyIn (λ r. IsNextInRow (lane k Read r) (
 abbrev pub IsNextInMode : Kept → Cell → ℕ → Mark → Type 0
 IsNextInMode k x high m = IsNextOfMode x.mode k x.row x.number high m
 
+-- at most one of the marks of reads and writes is near to a cell: it reads its row, or it writes it, and nothing waits to read it
+abbrev pub HasOneNear : Kept → Cell → Type 0
+HasOneNear k x = (x.mode ≡ Read) ⊎ (x.mode ≡ Write) × (lane k Read x.row ≡ [])
+
 -- two cells clash: they are of one row, which one of them does more than read, or of one granule, which one takes as a whole
 abbrev pub CellsClash : Rows → Cell → Cell → Type 0
 CellsClash r c d = ((c.row ≡ d.row) × ((may_change c.mode ≡ true) ⊎ (may_change d.mode ≡ true)))
     ⊎ ((granule_at r c.row ≡ granule_at r d.row) × ((is_whole c.mode ≡ true) ⊎ (is_whole d.mode ≡ true)))
+
+-- a later cell hides all after it from a cell that reads or writes one row: it writes that row
+pub record HidesFrom (c d : Cell) : Type 0 where
+  pub narrow : is_whole c.mode ≡ false
+  pub writes : d.mode ≡ Write
+  pub row : c.row ≡ d.row
+  pub later : c.number < d.number
 
 -- it is the mark of one of the nearest cells before a cell that clash with it
 abbrev pub IsNearMark : Kept → Cell → Mark → Type 0

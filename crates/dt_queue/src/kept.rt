@@ -1,4 +1,4 @@
-ghost use Rattle.std.specs.Prelude.{◌≡◌, ◌<◌, ◌↔◌, ◌==◌, ◌-◌, ◌^◌, [], ◌∷◌, ◌++◌, length, not, IsTrue, None, IfOk, OnOk, OnErr};
+ghost use Rattle.std.specs.Prelude.{◌≡◌, ◌<◌, ◌↔◌, ◌==◌, ◌-◌, ◌^◌, [], ◌∷◌, ◌++◌, length, not, option_to_list, IsTrue, None, IfOk, OnOk, OnErr};
 ghost use Rattle.std.specs.List.{filter};
 ghost use Rattle.slab.specs.Slab.{ContainsKey, Updates};
 ghost use Rattle.dt_lists.specs.Lists.{AllIn, IsFront};
@@ -32,7 +32,7 @@ pub struct Kept {
 }
 
 impl Kept {
-    ghost use Rattle.dt_queue.specs.Kept.{AddsCell, ChangesLaneOf, AreQueuesKept, IsNearInMode, IsNearMark, IsNextInMode, IsInUse, IsNextMark, KeepsLanes, LeavesRow, lane, place_at};
+    ghost use Rattle.dt_queue.specs.Kept.{AddsCell, ChangesLaneOf, AreQueuesKept, HasOneNear, IsNearInMode, IsNearMark, IsNextInMode, IsInUse, IsNextMark, KeepsLanes, LeavesRow, lane, place_at};
 
     /// No entry waits. Takes no memory.
     pub fn new(alloc: Global) -> Self
@@ -120,6 +120,32 @@ impl Kept {
             return only(alloc, whole);
         }
         Ok(marks)
+    }
+
+    /// Whether it is seen at once that an entry has one neighbour at most: it reads a row, or it writes one that nothing else waits
+    /// to read.
+    pub fn has_one_near(&self, cell: Cell) -> bool
+        ensures { IsTrue result → HasOneNear self.now cell }
+    {
+        match cell.mode {
+            Mode::Read => true,
+            Mode::Write => is_empty(self.reads.as_slice(), cell.row),
+            Mode::Whole => false,
+        }
+    }
+
+    /// The mark of the neighbour of such an entry, if it has one. Takes no memory.
+    pub fn near_one(&self, cell: Cell) -> Option<Mark>
+        requires kept { AreQueuesKept self.now }
+        requires row_in { cell.row < length self.now.rows.names.keys }
+        requires one { HasOneNear self.now cell }
+        ensures { AreMarks (IsNearMark self.now cell) (option_to_list result) }
+    {
+        let granule = self.rows.granule_of(cell.row);
+        let whole = last_between(self.wholes.as_slice(), granule, 0, cell.number);
+        let low = number_or(whole, 0);
+        let write = last_between(self.writes.as_slice(), cell.row, low, cell.number);
+        write.or(whole)
     }
 
     /// The mark of the first follower of an entry after a number.

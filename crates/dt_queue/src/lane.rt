@@ -141,10 +141,24 @@ impl Lane {
         Ok(())
     }
 
-    /// The place of the first mark that has not a lesser number, or the number of marks.
+    /// The place of the first mark that has not a lesser number, or the number of marks. The last mark is tried first, since an
+    /// entry that was just pushed stands behind all others.
     fn below(&self, number: u64) -> usize
         ensures { EndsBelow number self.now result }
     {
+        if self.are_below(number) {
+            return self.marks.len();
+        }
         self.marks.partition_point(|mark| mark.number < number)
+    }
+
+    /// Whether all marks have lesser numbers, as is seen by the last one.
+    fn are_below(&self, number: u64) -> bool
+        ensures { IsTrue result → AllIn (λ m. m.number < number) self.now }
+    {
+        match self.marks.back() {
+            Some(last) => last.number < number,
+            None => true,
+        }
     }
 }

@@ -57,6 +57,7 @@ pub fn renumber_mark(lanes: &mut Vec<Lane>, place: usize, number: u64, new: u64)
 }
 
 /// The last mark of the lane at a place with a number between the two.
+#[inline(always)]
 pub fn last_between(lanes: &[Lane], place: usize, low: u64, high: u64) -> Option<Mark>
     ensures { IsLastBetween low high (get_or lanes.now place []) result }
 {
@@ -64,6 +65,7 @@ pub fn last_between(lanes: &[Lane], place: usize, low: u64, high: u64) -> Option
 }
 
 /// The first mark of the lane at a place with a number between the two.
+#[inline(always)]
 pub fn first_between(lanes: &[Lane], place: usize, low: u64, high: u64) -> Option<Mark>
     ensures { IsFirstBetween low high (get_or lanes.now place []) result }
 {

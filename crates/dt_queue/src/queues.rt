@@ -1,4 +1,4 @@
-ghost use Rattle.std.specs.Prelude.{◌≡◌, ◌==◌, ◌<◌, ◌^◌, [], ◌∷◌, ◌++◌, count_by, length, map, not, slice_get, IfOk, OnErr};
+ghost use Rattle.std.specs.Prelude.{◌≡◌, ◌==◌, ◌<◌, ◌^◌, [], ◌∷◌, ◌++◌, count_by, length, map, not, option_to_list, slice_get, IfOk, OnErr};
 ghost use Rattle.dt_queue.specs.Queues.{IsQueued, follower_of, followers_after, neighbours, taken_out};
 
 use crate::follower::Follower;
@@ -75,7 +75,11 @@ impl Queues {
         requires { IsQueued self.now slot }
         ensures { IfOk result (λ count. count ≡ count_by (λ n. not (n == vertex)) (map (λ w. w.vertex) (neighbours self.now slot))) }
     {
-        let marks = self.kept.near(alloc, self.kept.cells[slot])?;
+        let cell = self.kept.cells[slot];
+        if self.kept.has_one_near(cell) {
+            return Ok(other(self.kept.near_one(cell), vertex));
+        }
+        let marks = self.kept.near(alloc, cell)?;
         Ok(others(marks.as_slice(), vertex))
     }
 
@@ -86,8 +90,12 @@ impl Queues {
         requires place { IsQueued self.now place }
         ensures { result ≡ slice_get (map follower_of (followers_after self.now slot place)) 0 }
     {
-        let after = self.kept.cells[place].number;
-        let mark = self.kept.next(self.kept.cells[slot], after)?;
+        let entry = self.kept.cells[slot];
+        let last = self.kept.cells[place];
+        if last.hides_from(&entry) {
+            return None;
+        }
+        let mark = self.kept.next(entry, last.number)?;
         Some(Follower {
             slot: mark.slot,
             vertex: mark.vertex,
@@ -112,6 +120,16 @@ fn vertices(alloc: Global, marks: &[Mark]) -> Result<Vec<u32>, NoMemory>
         vertices.push(mark.vertex)?;
     }
     Ok(vertices)
+}
+
+/// How many marks there are of another vertex than this one, where there is one mark at most.
+fn other(mark: Option<Mark>, vertex: u32) -> usize
+    ensures { result ≡ count_by (λ m. not (m.vertex == vertex)) (option_to_list mark) }
+{
+    match mark {
+        Some(mark) => others(&[mark], vertex),
+        None => 0,
+    }
 }
 
 /// How many marks are of other vertices than this one.

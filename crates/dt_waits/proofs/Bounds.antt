@@ -9,8 +9,8 @@ use Rattle.dt_lists.specs.Lists.{AllIn}
 use Rattle.dt_lists.proofs.Callers.{all_map}
 use Rattle.dt_queue.specs.Queues.{Waiting, entries_clash, entry_at, nearest, neighbours, pushed_before}
 use Rattle.dt_waits.specs.Waits.{degree, others}
-use Rattle.dt_waits.proofs.Free.{zero_sum}
-use Rattle.dt_waits.proofs.Nearest.{slot_other}
+use Rattle.dt_waits.proofs.DegreeZero.{zero_sum}
+use Rattle.dt_waits.proofs.NeighbourChains.{slot_other}
 
 -- at most as many are nearest as there are
 nearest_few : (x : Waiting) (ws : List Waiting) → length (nearest x ws) ≤ length ws

@@ -17,10 +17,10 @@ use Rattle.dt_waits.specs.Left.{IsLeft, IsFree, IsOrderly}
 use Rattle.dt_waits.specs.Waits.{id_at, HoldsUp}
 use Rattle.dt_waits.specs.Graph.{GraphView, KeepsGraph, IsStuck}
 use Rattle.dt_waits.specs.Among.{HasNeighbour, IsAmong, WaitsOutside}
-use Rattle.dt_waits.proofs.Left.{done_left, left_after, left_decided, out_of_not_left, resolvable_apart, resolvable_left, undone_before}
-use Rattle.dt_waits.proofs.Waiting.{edge_of_waits, free_by_queues, reach_by_queues}
-use Rattle.dt_waits.proofs.Free.{place_has, same_place}
-use Rattle.dt_waits.proofs.Nearest.{neighbour_waits}
+use Rattle.dt_waits.proofs.IsLeft.{done_left, left_after, left_decided, out_of_not_left, resolvable_apart, resolvable_left, undone_before}
+use Rattle.dt_waits.proofs.HoldsUp.{edge_of_waits, free_by_queues, reach_by_queues}
+use Rattle.dt_waits.proofs.DegreeZero.{place_has, same_place}
+use Rattle.dt_waits.proofs.NeighbourChains.{neighbour_waits}
 
 module _ (view : View) (resolved : List (List TxnId)) (done : List TxnId) (k : IsOrderly view resolved done) (g : GraphView) (is : KeepsGraph view resolved done g) where
   -- a neighbour is another vertex with an edge, or the same vertex

@@ -11,9 +11,9 @@ use Rattle.dt_waits.specs.Left.{IsLeft}
 use Rattle.dt_waits.specs.Waits.{id_at, degree, lowered_by, others}
 use Rattle.dt_waits.specs.Graph.{GraphView, KeepsGraph}
 use Rattle.dt_waits.specs.Steps.{MayLeave}
-use Rattle.dt_waits.proofs.Left.{left_decided}
+use Rattle.dt_waits.proofs.IsLeft.{left_decided}
 use Rattle.dt_waits.proofs.Degrees.{lowered_fits}
-use Rattle.dt_waits.proofs.Free.{zero_sum}
+use Rattle.dt_waits.proofs.DegreeZero.{zero_sum}
 
 module _ (view : View) (resolved : List (List TxnId)) (done : List TxnId) (g : GraphView) (is : KeepsGraph view resolved done g) where
   -- what isn't left has no entry

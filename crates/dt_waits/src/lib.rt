@@ -6,7 +6,7 @@
 //! entries (`specs/Waits.antt`); its degree counts them. What is kept of them is `GraphView`, and that it is right at each
 //! moment is `KeepsGraph` (`specs/Graph.antt`); what each call makes of it stands in `specs/Steps.antt`.
 //!
-//! Read next: `laws.rt` for why it is enough, `proofs/Keeping.antt` for how each call keeps the graph.
+//! Read next: `laws.rt` for why it is enough, `proofs/KeepsGraph.antt` for how each call keeps the graph.
 #![tactic(auto)]
 
 mod laws;

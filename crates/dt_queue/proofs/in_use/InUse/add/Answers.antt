@@ -1,7 +1,8 @@
 use Rattle.std.proofs.Common.{◌<◌, length, map, sym, subst}
 use Rattle.std.proofs.lemmas.List.{length-map}
 use Rattle.indexmap.specs.IndexSet.{keys, spare}
-use Rattle.dt_queue.proofs.RowSets.{row_put, settled, told_at, within_room}
+use Rattle.dt_queue.proofs.Callers.{settled}
+use Rattle.dt_queue.proofs.RowSets.{row_put, told_at, within_room}
 use Rattle.dt_queue.proofs.in_use.InUse.add.Goals as goal
 
 pub returns : goal.returns

@@ -1,5 +1,6 @@
 use Rattle.std.proofs.Common.{◌++◌, ◌∷◌, [], refl, arith}
-use Rattle.dt_queue.proofs.KeptLanes.{changed_read, changed_whole, changed_write, keeps_lanes, on_err, on_ok, same_self}
+use Rattle.std.proofs.lemmas.Result.{on_err_weaker, on_ok_weaker}
+use Rattle.dt_queue.proofs.KeptLanes.{changed_read, changed_whole, changed_write, keeps_lanes, same_self}
 use Rattle.dt_queue.proofs.kept.Kept.add_mark.Goals as goal
 
 pub granule_of-requires : goal.granule_of-requires
@@ -16,19 +17,19 @@ push_mark-requires-in-Whole c = rw c.granule_of.ensures (rw c.in-Whole.is at c.r
 
 pub returns-in-Read : goal.returns-in-Read
 returns-in-Read c = record {
-  added = on_ok c.push_mark.result (λ change. changed_read c.args.self.now _ (λ l. l ++ c.args.mark ∷ []) c.args.mode c.args.row c.in-Read.is change refl refl refl refl refl refl) c.push_mark.ensures.added;
-  same = on_err c.push_mark.result (λ same. keeps_lanes c.args.self.now _ same (same_self _) (same_self _) refl refl refl refl) c.push_mark.ensures.same;
+  added = on_ok_weaker c.push_mark.result (λ change. changed_read c.args.self.now _ (λ l. l ++ c.args.mark ∷ []) c.args.mode c.args.row c.in-Read.is change refl refl refl refl refl refl) c.push_mark.ensures.added;
+  same = on_err_weaker c.push_mark.result (λ same. keeps_lanes c.args.self.now _ same (same_self _) (same_self _) refl refl refl refl) c.push_mark.ensures.same;
 }
 
 pub returns-in-Write : goal.returns-in-Write
 returns-in-Write c = record {
-  added = on_ok c.push_mark-in-Write.result (λ change. changed_write c.args.self.now _ (λ l. l ++ c.args.mark ∷ []) c.args.mode c.args.row c.in-Write.is change refl refl refl refl refl refl) c.push_mark-in-Write.ensures.added;
-  same = on_err c.push_mark-in-Write.result (λ same. keeps_lanes c.args.self.now _ (same_self _) same (same_self _) refl refl refl refl) c.push_mark-in-Write.ensures.same;
+  added = on_ok_weaker c.push_mark-in-Write.result (λ change. changed_write c.args.self.now _ (λ l. l ++ c.args.mark ∷ []) c.args.mode c.args.row c.in-Write.is change refl refl refl refl refl refl) c.push_mark-in-Write.ensures.added;
+  same = on_err_weaker c.push_mark-in-Write.result (λ same. keeps_lanes c.args.self.now _ (same_self _) same (same_self _) refl refl refl refl) c.push_mark-in-Write.ensures.same;
 }
 
 pub returns-in-Whole : goal.returns-in-Whole
 returns-in-Whole c = record {
-  added = on_ok c.push_mark-in-Whole.result (λ change. changed_whole c.args.self.now _
+  added = on_ok_weaker c.push_mark-in-Whole.result (λ change. changed_whole c.args.self.now _
       (λ l. l ++ c.args.mark ∷ []) c.args.mode c.args.row c.granule_of.result c.in-Whole.is c.granule_of.ensures change refl refl refl refl refl refl) c.push_mark-in-Whole.ensures.added;
-  same = on_err c.push_mark-in-Whole.result (λ same. keeps_lanes c.args.self.now _ (same_self _) (same_self _) same refl refl refl refl) c.push_mark-in-Whole.ensures.same;
+  same = on_err_weaker c.push_mark-in-Whole.result (λ same. keeps_lanes c.args.self.now _ (same_self _) (same_self _) same refl refl refl refl) c.push_mark-in-Whole.ensures.same;
 }

@@ -1,7 +1,6 @@
 use Rattle.std.proofs.Common.{[], ◌∷◌, ◌++◌, ap, arith, subst, ◌∙◌}
-use Rattle.std.proofs.lemmas.Result.{IfOk-weaker}
+use Rattle.std.proofs.lemmas.Result.{IfOk-weaker, on_err_weaker}
 use Rattle.dt_queue.specs.Queues.{IsQueued}
-use Rattle.dt_queue.proofs.KeptLanes.{on_err}
 use Rattle.dt_queue.proofs.NewNumbers.{shown_length}
 use Rattle.dt_queue.proofs.ShownCells.{shown_fresh, shown_push, shown_same}
 use Rattle.dt_queue.proofs.queues.Queues.push.Goals as goal
@@ -26,7 +25,7 @@ pub returns-clause-same : goal.returns-clause-same
 returns-clause-same c =
     let k = c.make_number.new.self in
     let same = c.in_ok-make_number.ensures.same in
-    rw (← c.self.view_is) (on_err c.push-pushed.result (λ e. shown_same k c.push-pushed.new.self same.kept c.push-pushed.ensures.rows e ∙ same.shown) c.push-pushed.ensures.same)
+    rw (← c.self.view_is) (on_err_weaker c.push-pushed.result (λ e. shown_same k c.push-pushed.new.self same.kept c.push-pushed.ensures.rows e ∙ same.shown) c.push-pushed.ensures.same)
 
 pub returns-clause-few : goal.returns-clause-few
 returns-clause-few c = IfOk-weaker c.push-pushed.result _ _ (λ slot a. omega (arith, shown_length c.push-pushed.new.self, c.len-entries.ensures, c.len-entries.type_inv)) c.push-pushed.ensures.added

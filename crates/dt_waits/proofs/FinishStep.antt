@@ -19,14 +19,14 @@ use Rattle.dt_waits.specs.Left.{IsLeft, IsOut, IsFree, IsInResolved, IsOrderly}
 use Rattle.dt_waits.specs.Waits.{id_at, AreUses, IsFollowed, degree, is_leaving}
 use Rattle.dt_waits.specs.Graph.{GraphView, KeepsGraph, IsOpened, IsStuck}
 use Rattle.dt_waits.specs.Steps.{FinishesAlone, FinishesBefore, FinishesLast, Leaves, one_done, with_one_done}
-use Rattle.dt_waits.proofs.Left.{executable_left, class_of_resolved}
-use Rattle.dt_waits.proofs.Leaving.{leaves_alone, leaves_with_class, nothing_leaves}
-use Rattle.dt_waits.proofs.Orderly.{orderly_finish}
-use Rattle.dt_waits.proofs.Test.{executable_in_resolved, executable_of_free, free_of_executable}
-use Rattle.dt_waits.proofs.Free.{free_by_degree, same_place}
-use Rattle.dt_waits.proofs.Inserted.{in_resolved_decided, pairwise_map}
-use Rattle.dt_waits.proofs.Together.{degrees_together, followed_of_lowered, free_together, leaving_has, left_vertex, slots_together, uses_together}
-use Rattle.dt_waits.proofs.Rows.{front_longer, next_of_soonest, pairwise_get, pairwise_set, rest_shorter, sooner_of_next, waits_of_next}
+use Rattle.dt_waits.proofs.IsLeft.{executable_left, class_of_resolved}
+use Rattle.dt_waits.proofs.WhatLeaves.{leaves_alone, leaves_with_class, nothing_leaves}
+use Rattle.dt_waits.proofs.IsOrderly.{orderly_finish}
+use Rattle.dt_waits.proofs.ExecutableTest.{executable_in_resolved, executable_of_free, free_of_executable}
+use Rattle.dt_waits.proofs.DegreeZero.{free_by_degree, same_place}
+use Rattle.dt_waits.proofs.InsertStep.{in_resolved_decided, pairwise_map}
+use Rattle.dt_waits.proofs.EntriesThatStay.{degrees_together, followed_of_lowered, free_together, leaving_has, left_vertex, slots_together, uses_together}
+use Rattle.dt_waits.proofs.RunInOrder.{front_longer, next_of_soonest, pairwise_get, pairwise_set, rest_shorter, sooner_of_next, waits_of_next}
 
 -- a front as long as the list is the list
 pub take_all : {A : Type 0} (n : ℕ) (xs : List A) → length xs ≤ n → take n xs ≡ xs

@@ -17,8 +17,8 @@ use Rattle.dt_sched.proofs.Callers.{clash_of_uses, uses_of_clash, edge_at_home, 
 use Rattle.dt_waits.specs.Left.{IsLeft, LeftEdge, IsFree}
 use Rattle.dt_queue.specs.Queues.{Waiting, entries_clash, neighbours}
 use Rattle.dt_waits.specs.Waits.{id_at, IsUseOf, WaitsWith, FollowsLog, AreUses, HoldsUp}
-use Rattle.dt_waits.proofs.Left.{left_chain}
-use Rattle.dt_waits.proofs.Nearest.{neighbour_waits, neighbours_split, nearest_clash, IsNeighbour, chain_of_clash}
+use Rattle.dt_waits.proofs.IsLeft.{left_chain}
+use Rattle.dt_waits.proofs.NeighbourChains.{neighbour_waits, neighbours_split, nearest_clash, IsNeighbour, chain_of_clash}
 
 -- of two parts that clash in a log, the ids stand in their order
 ids_stand : (log : List Part) (u t : TxnId) → SomeThen (AreClashing u t) log → StandsBefore (ids_of log) u t

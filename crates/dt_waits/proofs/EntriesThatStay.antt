@@ -12,13 +12,13 @@ use Rattle.dt_sched.specs.Views.{View, Edge, IsWellFormed}
 use Rattle.dt_queue.specs.Queues.{Waiting, entries_clash, followers}
 use Rattle.dt_waits.specs.Left.{IsLeft, IsOut, IsFree}
 use Rattle.dt_waits.specs.Waits.{id_at, AreUses, IsFollowed, degree, is_leaving, is_of, lowered, lowered_by, slots_of}
-use Rattle.dt_waits.proofs.Left.{out_before}
-use Rattle.dt_waits.proofs.Fewer.{KeepsLater}
+use Rattle.dt_waits.proofs.IsLeft.{out_before}
+use Rattle.dt_waits.proofs.NeighboursOfTheRest.{KeepsLater}
 use Rattle.dt_waits.proofs.Sums.{filter_both, filter_same}
 use Rattle.dt_waits.proofs.Degrees.{degree_leaving}
-use Rattle.dt_waits.proofs.Waiting.{edge_of_clash}
+use Rattle.dt_waits.proofs.HoldsUp.{edge_of_clash}
 use Rattle.dt_waits.proofs.Uses.{uses_left}
-use Rattle.dt_waits.proofs.Free.{either_first, free_by_degree, same_place, zero_sum}
+use Rattle.dt_waits.proofs.DegreeZero.{either_first, free_by_degree, same_place, zero_sum}
 
 -- what holds of each two items by their places holds of each and each later one
 pub each_of_splits : {A : Type 0} (R : A → A → Type 0) (before xs : List A) → ((front between rest : List A) (v w : A) → before ++ xs ≡ front ++ v ∷ (between ++ w ∷ rest) → R v w) → EachThen R xs

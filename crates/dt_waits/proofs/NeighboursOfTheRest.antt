@@ -9,7 +9,7 @@ use Rattle.std.proofs.lemmas.List.Elements.{filter-append}
 use Rattle.dt_lists.specs.Lists.{AllIn, Has, EachThen}
 use Rattle.dt_lists.proofs.Callers.{filter_each, each_append_left, Spot, spot}
 use Rattle.dt_queue.specs.Queues.{Waiting, HasDistinctSlots, entries_clash, nearest, neighbours}
-use Rattle.dt_waits.proofs.Nearest.{is_parted, is_near, neighbours_split}
+use Rattle.dt_waits.proofs.NeighbourChains.{is_parted, is_near, neighbours_split}
 
 -- what stands after an entry that is kept, and clashes with it, is kept too
 abbrev pub KeepsLater : (Waiting → Bool) → List Waiting → Type 0

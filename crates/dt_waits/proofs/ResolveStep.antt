@@ -13,12 +13,12 @@ use Rattle.dt_waits.specs.Left.{IsInResolved, IsOrderly}
 use Rattle.dt_waits.specs.Waits.{id_at}
 use Rattle.dt_waits.specs.Graph.{GraphView, KeepsGraph, IsOpened, IsPlaceOfClass, IsStuck, IsVertexOf, vertex_at}
 use Rattle.dt_waits.specs.Steps.{Resolves}
-use Rattle.dt_waits.proofs.Left.{resolvable_waits}
-use Rattle.dt_waits.proofs.Orderly.{orderly_resolve}
-use Rattle.dt_waits.proofs.Test.{executable_in_resolved}
-use Rattle.dt_waits.proofs.Free.{same_place}
-use Rattle.dt_waits.proofs.Inserted.{in_resolved_decided}
-use Rattle.dt_waits.proofs.Rows.{next_of_soonest, sooner_of_next}
+use Rattle.dt_waits.proofs.IsLeft.{resolvable_waits}
+use Rattle.dt_waits.proofs.IsOrderly.{orderly_resolve}
+use Rattle.dt_waits.proofs.ExecutableTest.{executable_in_resolved}
+use Rattle.dt_waits.proofs.DegreeZero.{same_place}
+use Rattle.dt_waits.proofs.InsertStep.{in_resolved_decided}
+use Rattle.dt_waits.proofs.RunInOrder.{next_of_soonest, sooner_of_next}
 
 module _ (view : View) (resolved : List (List TxnId)) (done ids : List TxnId) (k : IsOrderly view resolved done) (x : IsResolvable view resolved done ids) where
   abbrev More : List (List TxnId)

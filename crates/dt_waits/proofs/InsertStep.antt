@@ -19,14 +19,14 @@ use Rattle.dt_waits.specs.Left.{IsLeft, IsFree, IsInResolved, IsOrderly}
 use Rattle.dt_waits.specs.Waits.{id_at, AreUses, degree, is_of, others, slots_of}
 use Rattle.dt_waits.specs.Graph.{GraphView, KeepsGraph, IsOpened, IsPlaceOfClass, IsStuck, IsVertexOf, lacking, vertex_at}
 use Rattle.dt_waits.specs.Steps.{Inserts}
-use Rattle.dt_waits.proofs.Left.{executable_left, out_back, out_stays}
-use Rattle.dt_waits.proofs.Orderly.{orderly_insert}
-use Rattle.dt_waits.proofs.Test.{executable_in_resolved, executable_of_free, free_of_executable}
+use Rattle.dt_waits.proofs.IsLeft.{executable_left, out_back, out_stays}
+use Rattle.dt_waits.proofs.IsOrderly.{orderly_insert}
+use Rattle.dt_waits.proofs.ExecutableTest.{executable_in_resolved, executable_of_free, free_of_executable}
 use Rattle.dt_waits.proofs.Uses.{part_there, uses_inserted}
-use Rattle.dt_waits.proofs.Nearest.{slot_other}
+use Rattle.dt_waits.proofs.NeighbourChains.{slot_other}
 use Rattle.dt_waits.proofs.Degrees.{degree_pushed}
-use Rattle.dt_waits.proofs.Free.{free_by_degree, id_has, same_place}
-use Rattle.dt_waits.proofs.Complete.{all_lacking, complete_of_none, lacking_beside, lacking_less, none_lacking}
+use Rattle.dt_waits.proofs.DegreeZero.{free_by_degree, id_has, same_place}
+use Rattle.dt_waits.proofs.MissingParts.{all_lacking, complete_of_none, lacking_beside, lacking_less, none_lacking}
 
 -- whether t is in a resolved class
 pub in_resolved_decided : (resolved : List (List TxnId)) (t : TxnId) → Either (IsInResolved resolved t)

@@ -2,7 +2,7 @@
 -- what its calls read off it is what may be executed.
 use Rattle.std.proofs.Common.{◌≡◌, ◌<◌, ◌+◌, ◌↔◌, ◌∙◌, ℕ, List, [], ◌∷◌, ◌++◌, length, map, replicate, set, slice_get, Option, None, Some, MatchOption}
 use Rattle.std.proofs.Common.{◌-◌, refl, sym, ap, subst, inl, inr, arith}
-use Rattle.std.proofs.lemmas.List.{length-append, set-get_or}
+use Rattle.std.proofs.lemmas.List.{length-append}
 use Rattle.std.proofs.lemmas.Option.{get_or_from_slice_get, slice_get-get_or}
 use Rattle.dt_lists.specs.Lists.{AllIn, Has, EachThen}
 use Rattle.dt_lists.proofs.Callers.{any_at, any_from_at, any_get, pairwise_length, place_within, last_place}
@@ -15,11 +15,11 @@ use Rattle.dt_sched.proofs.Callers.{complete_of_closed, present_of_complete, ran
 use Rattle.dt_waits.specs.Waits.{id_at}
 use Rattle.dt_waits.specs.Graph.{GraphView, IsKeeping, IsPlaceOfClass, KeepsGraph, nothing_kept, vertex_at}
 use Rattle.dt_waits.specs.Steps.{FinishesId, InsertsPart, Resolves, ResolvesClass, RunsBefore, alone, before, last}
-use Rattle.dt_waits.proofs.Orderly.{orderly_at_first, orderly_finish, orderly_insert, orderly_resolve}
-use Rattle.dt_waits.proofs.Free.{id_has, place_has}
-use Rattle.dt_waits.proofs.Inserted.{inserted}
-use Rattle.dt_waits.proofs.Resolved.{resolved_more}
-use Rattle.dt_waits.proofs.Finished.{finished_alone, finished_before, finished_last}
+use Rattle.dt_waits.proofs.IsOrderly.{orderly_at_first, orderly_finish, orderly_insert, orderly_resolve}
+use Rattle.dt_waits.proofs.DegreeZero.{id_has, place_has}
+use Rattle.dt_waits.proofs.InsertStep.{inserted}
+use Rattle.dt_waits.proofs.ResolveStep.{resolved_more}
+use Rattle.dt_waits.proofs.FinishStep.{finished_alone, finished_before, finished_last}
 
 pub keeping_first : (regions : ℕ) → IsKeeping (nothing_yet regions) nothing_kept
 keeping_first regions = record {
@@ -74,11 +74,6 @@ module _ (s : Sched) (old : GraphView) (k : IsKeeping s old) where
     orderly = orderly_insert s.logs s.resolved s.done part can k.orderly;
     graph = inserted s.logs s.resolved s.done part k.orderly can ascending i.0 i.1 old new k.graph i.2;
   }
-
-  -- the log was put back at its place
-  pub keeping_back : (part : Part) (log : List Part) (new : GraphView) → log ≡ log_at s.logs part.home → new ≡ old → IsKeeping (record s { logs = set s.logs part.home log }) new
-  keeping_back part log new e same = subst (IsKeeping (record s { logs = set s.logs part.home log })) (sym same)
-      (subst (λ l. IsKeeping (record s { logs = l }) old) (sym (ap (set s.logs part.home) e ∙ set-get_or s.logs part.home [])) k)
 
   -- the part at the back of its log was inserted
   pub keeping_pushed : (part back : Part) (log : List Part) (new : GraphView) → log ≡ log_at s.logs part.home ++ part ∷ [] → Some back ≡ slice_get log (length log - 1)
