@@ -1,5 +1,5 @@
 -- Each step under the lock keeps what holds whenever the lock is free.
-use Rattle.std.proofs.Common.{◌≡◌, ◌≢◌, ◌<◌, ◌≤◌, ◌+◌, ◌-◌, ℕ, Bool, true, false, List, [], ◌∷◌, ◌++◌, length, map, max, Option, Some, None}
+use Rattle.std.proofs.Common.{◌≡◌, ◌≢◌, ◌≤◌, ◌+◌, ◌-◌, ℕ, Bool, true, false, List, [], ◌∷◌, ◌++◌, length, map, max, Option, Some, None}
 use Rattle.std.proofs.Common.{Result, Ok, Err, refl, sym, ap, ap₂, subst, ◌∙◌, arith}
 use Rattle.std.proofs.lemmas.Bool.{false_from_ne_true}
 use Rattle.std.proofs.lemmas.List.{length-append, length-map}
@@ -13,7 +13,7 @@ use Rattle.dt_access.specs.declared.TxnId.{TxnId}
 use Rattle.dt_events.specs.declared.Event.{Event}
 use Rattle.dt_events.specs.declared.Event.TheVariants.{Insert, Resolve, Execute}
 use Rattle.dt_events.specs.Events.{region_of}
-use Rattle.dt_sched.specs.Sched.{CanExecute, CanResolve}
+use Rattle.dt_sched.specs.Sched.{CanExecute}
 use Rattle.dt_serial.proofs.Callers.{seen_apart}
 use Rattle.dt_proc.specs.Tree.{ProcTree}
 use Rattle.dt_txn.specs.declared.txn.Txn.{Txn}
@@ -32,7 +32,7 @@ use Rattle.dt_round.proofs.Callers.{at_first, one_more, whatever_room}
 use Rattle.dt_lock.specs.declared.running.Running.{Running}
 use Rattle.dt_lock.specs.Claims.{ClaimView, FinishedView, IsClaim, IsWorked}
 use Rattle.dt_lock.specs.Held.{AreDisjoint, IdsClash, HeldView, IsBusy, IsClaimed, IsHeld, as_running, sight_in, uses_held, without_claim}
-use Rattle.dt_lock.proofs.Touching.{apart_more, fewer_left, left_without, one_less_left, touch_not}
+use Rattle.dt_lock.proofs.RunningClaims.{apart_more, fewer_left, left_without, one_less_left, touch_not}
 
 -- a region that comes behind its lock
 pub held_at_first : (procs : List ProcTree) (before : RegionView) → CanRound procs before → IsSoundRegion before.state → IsHeld procs before (record { region = before; running = [] })
@@ -171,10 +171,6 @@ module _ (procs : List ProcTree) (before : RegionView) (v : HeldView) (h : IsHel
       room = let less = one_less_left r.id v.running r there refl in let room = h.room in omega (arith, less, room);
     })
 
-    -- there is room for it
-    pub has_room : 0 < v.region.room
-    has_room = let less = one_less_left r.id v.running r there refl in let room = h.room in omega (arith, less, room)
-
   -- what is finished of a claim that is running is what its transaction comes to now
   module _ (f : FinishedView) (there : Has v.running (as_running f.claim)) (claim : IsClaim procs before.state f.claim) (finished : IsWorked procs f) where
     sees_now : f.claim.seen ≡ see f.claim.txn v.region.state.here.table
@@ -196,9 +192,3 @@ pub found_running : (running given : List Running) (id : TxnId) (seen : List See
     → Has given (record { id = id; seen = seen }) → Has running (as_running claim)
 found_running running given id seen claim e i s there =
     subst (λ l. Has l (as_running claim)) e (subst (λ x. Has given (record { id = x; seen = claim.seen })) i (subst (λ x. Has given (record { id = id; seen = x })) s there))
-
--- a class that the region was given is resolved
-pub resolves_some : (r later : RegionView) (ids given : List TxnId) (on : Bool) → CanResolve (sched_of r.state.logs r.state.here) ids → given ≡ ids
-    → MakesStep [] r (Resolve r.state.number given) (Ok on) later → MakesStep [] r (Resolve r.state.number ids) (Ok true) later
-resolves_some r later ids given true can same makes = subst (λ l. MakesStep [] r (Resolve r.state.number l) (Ok true) later) same makes
-resolves_some r later ids given false can same makes = absurd (makes.0 (subst (λ l. CanResolve (sched_of r.state.logs r.state.here) l) (sym same) can))

@@ -1,8 +1,8 @@
-pub mod Touching
+pub mod RunningClaims
 pub mod HeldSteps
-pub mod Free
-pub mod Few
-pub mod Empty
+pub mod NextFree
+pub mod FewClaims
+pub mod EmptyRegion
 pub mod Captures
-pub mod Counting
+pub mod LongProcedures
 pub mod Callers

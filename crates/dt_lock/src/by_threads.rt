@@ -6,10 +6,11 @@ use crate::gate::Gate;
 use crate::held::Held;
 use crate::jobs::{Job, jobs};
 use crate::named::Named;
+use crate::statements::some_is_long;
 use crate::work::act;
 use dt_proc::Procs;
 use dt_region::Region;
-use dt_round::finish;
+use dt_round::{Alone, Rounds, finish};
 use dt_sched::Scheduler;
 use dt_table::Table;
 use dt_text::NoMemory;
@@ -35,6 +36,9 @@ pub fn round<R: Threads + Wait + Sync, S: Scheduler + Drop + Send, G: Gate>(
     ensures continues { Continues procs.now region.old region.new }
     ensures drained { OnOk result (IsDrained region.new.state.logs region.new.state.here) }
 {
+    if !gate.holds() && (workers < 2 || !some_is_long(procs)) {
+        return Alone.round(alloc, region, procs);
+    }
     let empty = empty_region(alloc)?;
     let whole = mem::replace(region, empty);
     let (after, result) = round_named::<Brand, R, S, G>(rt, alloc, whole, procs, workers, gate);

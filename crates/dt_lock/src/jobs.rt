@@ -4,7 +4,6 @@ use crate::claim::Claim;
 use crate::gate::Gate;
 use crate::held::Held;
 use crate::named::Named;
-use crate::statements::some_is_long;
 use dt_proc::Procs;
 use dt_sched::Scheduler;
 use dt_text::NoMemory;
@@ -24,10 +23,10 @@ pub enum Job<N: Named> {
 // The calling thread inserts this many parts of each log at a time, and resolves this many classes.
 const FEW: u32 = 64;
 
-/// The jobs that there are for threads, for at most `workers` workers: none where every call is short. Otherwise the calling
-/// thread inserts and resolves, a few at a time, until there are several long claims at once. Then there is a worker for each
-/// of them, and beside these one job for each log of which more is missing, and one to resolve, if there is more. Where it
-/// comes to the end before that, there is at most one job, which takes no thread beside the calling one.
+/// The jobs that there are for threads, for at most `workers` workers. The calling thread inserts and resolves, a few at a
+/// time, until there are several long claims at once. Then there is a worker for each of them, and beside these one job for
+/// each log of which more is missing, and one to resolve, if there is more. Where it comes to the end before that, there is at
+/// most one job, which takes no thread beside the calling one.
 pub fn jobs<S: Scheduler, N: Named, G: Gate>(
     alloc: Global,
     held: &mut Held<S, N>,
@@ -35,9 +34,6 @@ pub fn jobs<S: Scheduler, N: Named, G: Gate>(
     workers: u32,
     gate: &G,
 ) -> Result<Vec<Job<N>>, NoMemory> {
-    if !gate.holds() && (workers < 2 || !some_is_long(procs)) {
-        return Ok(Vec::new(alloc));
-    }
     for _batch in 0..held.most_steps() {
         insert_few(alloc, held)?;
         let resolved = resolve_few(alloc, held)?;

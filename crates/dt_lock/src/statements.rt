@@ -5,20 +5,14 @@ ghost use Rattle.dt_lock.specs.Long.{IsLong, IsLongIn};
 use dt_proc::Procs;
 
 /// Whether some procedure is long. It looks at no statement.
-#[tactic(auto, using(crate::proofs::Counting::long_at, crate::proofs::Counting::long_behind))]
 pub fn some_is_long(procs: &Procs) -> bool
     ensures { IsTrue result ↔ AnyIn IsLong procs.now }
 {
-    for number in 0..procs.len() {
-        if is_long(procs, number) {
-            return true;
-        }
-    }
-    false
+    (0..procs.len()).any(|number| is_long(procs, number))
 }
 
 /// Whether there is a procedure of this number, counted from 0, and it is long. It looks at no statement.
-#[tactic(auto, using(crate::proofs::Counting::outermost_of))]
+#[tactic(auto, using(crate::proofs::LongProcedures::outermost_of))]
 pub fn is_long(procs: &Procs, number: u32) -> bool
     ensures { IsTrue result ↔ IsLongIn (slice_get procs.now number) }
 {

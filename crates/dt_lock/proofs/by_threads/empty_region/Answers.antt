@@ -1,6 +1,6 @@
 use Rattle.std.proofs.Common.{sym, subst}
 use Rattle.dt_region.specs.Conditions.{IsTableFor}
-use Rattle.dt_lock.proofs.Empty.{no_rows_fit}
+use Rattle.dt_lock.proofs.EmptyRegion.{no_rows_fit}
 use Rattle.dt_lock.proofs.by_threads.empty_region.Goals as goal
 
 pub new-requires-2-clause-table : goal.new-requires-2-clause-table

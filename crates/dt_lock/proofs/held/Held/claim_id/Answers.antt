@@ -4,7 +4,7 @@ use Rattle.dt_txn.specs.Execution.{see}
 use Rattle.dt_region.specs.Region.{sched_of}
 use Rattle.dt_region.proofs.Callers.{held_id}
 use Rattle.dt_lock.specs.Held.{HeldView, IsBusy, IsClaimed}
-use Rattle.dt_lock.proofs.Few.{one_more_fits}
+use Rattle.dt_lock.proofs.FewClaims.{one_more_fits}
 use Rattle.dt_lock.proofs.HeldSteps.{claim_noted, is_claim, is_claimed}
 use Rattle.dt_lock.proofs.held.Held.claim_id.Goals as goal
 

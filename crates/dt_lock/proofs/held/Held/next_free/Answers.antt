@@ -1,5 +1,5 @@
 use Rattle.std.proofs.Common.{◌<◌, None, Some, sym, subst}
-use Rattle.dt_lock.proofs.Free.{ArePassed, ids_left, one_left_less, one_passed, passed_all, ready_there}
+use Rattle.dt_lock.proofs.NextFree.{ArePassed, ids_left, one_left_less, one_passed, passed_all, ready_there}
 use Rattle.dt_lock.proofs.held.Held.next_free.Goals as goal
 
 pub returns-in_default : goal.returns-in_default

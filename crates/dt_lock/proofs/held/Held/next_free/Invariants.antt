@@ -1,4 +1,4 @@
-use Rattle.dt_lock.proofs.Free.{ArePassed, ids_left}
+use Rattle.dt_lock.proofs.NextFree.{ArePassed, ids_left}
 use Rattle.dt_lock.proofs.held.Held.next_free.Given as goal
 
 abbrev pub invariant-ids : goal.invariant-ids

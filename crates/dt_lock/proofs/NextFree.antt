@@ -25,9 +25,6 @@ ready_there v h same ids given e found answer f ready =
 abbrev pub ids_left : HeldView → List TxnId → ℕ
 ids_left h ids = length (ids_in (sched_of h.region.state.logs h.region.state.here).logs) - length ids
 
-pub none_passed : (before : RegionState) (h : HeldView) → ArePassed before h []
-none_passed before h = record { each = tt; once = tt }
-
 module _ (before : RegionState) (h : HeldView) (ids : List TxnId) (passed : ArePassed before h ids) where
   abbrev sched : Sched
   sched = sched_of h.region.state.logs h.region.state.here
