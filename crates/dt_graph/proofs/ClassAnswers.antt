@@ -19,7 +19,7 @@ use Rattle.dt_waits.specs.Among.{IsAmong, WaitsOutside}
 use Rattle.dt_graph.specs.SmallSteps.{AreIdsAt}
 use Rattle.dt_waits.specs.Steps.{HaveSlots}
 use Rattle.dt_waits.proofs.Callers.{each_leads, member_stuck, none_blocked, not_all_blocked, one_place, place_has, place_leads, same_place, source_resolvable}
-use Rattle.dt_graph.proofs.Full.{full_has, full_length}
+use Rattle.dt_graph.proofs.AscendingNumbers.{full_has, full_length}
 use Rattle.dt_graph.proofs.Subsets.{few_below}
 
 -- stuck vertices have the slots of their entries

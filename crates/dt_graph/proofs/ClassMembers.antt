@@ -10,7 +10,7 @@ use Rattle.dt_waits.specs.declared.open.Open.{Open}
 use Rattle.dt_waits.specs.Graph.{vertex_at}
 use Rattle.dt_graph.specs.Subset.{PutsIn, Removes, SubsetView}
 use Rattle.dt_waits.specs.Steps.{IsPut, Resolves}
-use Rattle.dt_graph.proofs.Along.{passed_at}
+use Rattle.dt_graph.proofs.WalkByPlaces.{passed_at}
 
 -- the vertices in front were put into the class
 pub record IsPutting (class : ℕ) (front : List ℕ) (old now : List Vertex) (stuck stuck_now : SubsetView) : Type 0 where

@@ -11,7 +11,7 @@ use Rattle.dt_queue.specs.Queues.{HasDistinctSlots, IsQueued, Waiting, follower_
 use Rattle.dt_waits.specs.Waits.{lowered, slots_of}
 use Rattle.dt_graph.specs.SmallSteps.{AreLowered, falls}
 use Rattle.dt_waits.proofs.Callers.{slot_same, slot_other}
-use Rattle.dt_graph.proofs.Along.{left_at}
+use Rattle.dt_graph.proofs.WalkByPlaces.{left_at}
 use Rattle.dt_graph.proofs.Followers.{first_told, followers_begin, followers_onward, lowered_one, none_told, to_lower}
 
 -- at this place of the walk over the followers of a slot of the vertex u

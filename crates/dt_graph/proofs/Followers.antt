@@ -28,17 +28,6 @@ split_first p (y ∷ ys) x more e = by (λ f. split_first p ys x more f) (cases_
     by later (inr t) = let r : (front : List _) × (rest : List _) × (ys ≡ front ++ x ∷ rest) × (filter p rest ≡ more) = later (rw t at e) in (y ∷ r.0, r.1, ap (λ l. y ∷ l) r.2, r.3)
 
 module _ (waiting : List Waiting) (distinct : HasDistinctSlots waiting) where
-  -- an entry by its slot
-  one_entry : (v w : Waiting) → Has waiting v → Has waiting w → v.slot ≡ w.slot → v ≡ w
-  one_entry v w hv hw e = in_list waiting distinct hv hw
-    where
-      in_list : (ws : List Waiting) → HasDistinctSlots ws → Has ws v → Has ws w → v ≡ w
-      in_list [] d a b = absurd a
-      in_list (x ∷ xs) d (inl a) (inl b) = sym a ∙ b
-      in_list (x ∷ xs) d (inl a) (inr b) = absurd (all_get _ xs d.0 w b (ap (λ u. u.slot) a ∙ e))
-      in_list (x ∷ xs) d (inr a) (inl b) = absurd (all_get _ xs d.0 v a (ap (λ u. u.slot) b ∙ sym e))
-      in_list (x ∷ xs) d (inr a) (inr b) = in_list xs d.1 a b
-
   -- a neighbour stands before what follows it
   neighbour_before : (front : List Waiting) (w : Waiting) (rest : List Waiting) (slot : ℕ) → waiting ≡ front ++ w ∷ rest → is_neighbour waiting slot w.slot ≡ true → AnyIn (λ n. n.slot ≡ slot) front
   neighbour_before front w rest slot is t =

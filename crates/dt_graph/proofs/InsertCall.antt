@@ -28,10 +28,6 @@ pub kept_as : {T E : Type 0} (r : Result T E) (ids now : List TxnId) (new old : 
 kept_as (Ok x) ids now new old classes e same = tt
 kept_as (Err x) ids now new old classes e same = ap (λ l. kept_of l new classes) e ∙ same
 
-pub on_ok : {T E P Q : Type 0} (r : Result T E) → (P → Q) → OnOk r P → OnOk r Q
-on_ok (Ok x) f p = f p
-on_ok (Err x) f p = tt
-
 pub result_cases : {T E P Q R : Type 0} (r : Result T E) → OnOk r P → OnErr r Q → (P → R) → (Q → R) → R
 result_cases (Ok x) p q f g = f p
 result_cases (Err x) p q f g = g q

@@ -3,7 +3,7 @@ pub mod Bounds
 pub mod FinishCall
 pub mod InsertCall
 pub mod SortResults
-pub mod InOrder
+pub mod RunOrder
 pub mod ResolveCall
 pub mod Entries
 pub mod Followers
@@ -15,11 +15,11 @@ pub mod ClassAnswers
 pub mod Removals
 pub mod Wakes
 pub mod ReadyFollowers
-pub mod Along
+pub mod WalkByPlaces
 pub mod ClassMembers
 pub mod PartsOfVertices
-pub mod Full
+pub mod AscendingNumbers
 pub mod Search
-pub mod ReadyOrStuck
+pub mod Sorts
 pub mod LastItem
 pub mod NoFields

@@ -62,10 +62,6 @@ module _ (slots : List ℕ) (old : List Waiting) where
         stays = filter_both _ _ now ∙ filter_same _ _ now (λ w h. ap (λ b. not (is_among_slots more w.slot) && not b) (turned w.slot slot) ∙ neither more slot w.slot) ∙ t.stays;
       }
 
-  -- the next of the slots is one at which an entry waits
-  pub next_waits : (rest : List ℕ) (now : List Waiting) → IsTakingOut slots rest old now → (slot : ℕ) (more : List ℕ) → rest ≡ slot ∷ more → IsQueued now slot
-  next_waits rest now t slot more next = (subst (AllIn (IsQueued now)) next t.wait).0
-
   pub taking_ends : (rest : List ℕ) (now : List Waiting) → IsTakingOut slots rest old now → rest ≡ [] → now ≡ without_slots slots old
   taking_ends rest now t none = sym (all_stay now) ∙ ap (λ l. without_slots l now) (sym none) ∙ t.stays
     where

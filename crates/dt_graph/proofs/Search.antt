@@ -1,6 +1,6 @@
 -- Where a search in a list of different items finds one, and what the list is after a new one was put to it, for any test that
 -- says whether two items are the same.
-use Rattle.std.proofs.Common.{◌≡◌, ℕ, suc, ◌+◌, nat_eq, ◌<◌, Bool, true, false, cond, List, [], ◌∷◌, ◌++◌, drop, get_or, length, slice_get, take, Some, None}
+use Rattle.std.proofs.Common.{◌≡◌, ℕ, suc, ◌+◌, nat_eq, ◌<◌, Bool, true, false, true≢false, cond, List, [], ◌∷◌, ◌++◌, drop, get_or, length, slice_get, take, Some, None}
 use Rattle.std.proofs.Common.{Result, Ok, Err, IfOk, IsOk, refl, ap, sym, subst, inl, inr, arith, ◌∙◌}
 use Rattle.std.specs.List.{list_any, position, position_from}
 use Rattle.std.proofs.lemmas.Iterator.Adapters.{position_from-zero}
@@ -14,10 +14,6 @@ use Rattle.dt_access.proofs.Callers.{id_of_test, test_of_id}
 pub record Tells {A : Type 0} (same : A → A → Bool) : Type 0 where
   pub of_test : (x y : A) → same x y ≡ true → x ≡ y
   pub of_self : (x : A) → same x x ≡ true
-
--- no test says both
-clash : {t : Bool} → t ≡ true → t ≡ false → ⊥
-clash e f = cc
 
 -- the place that a search gives
 found_from : {A : Type 0} (same : A → A → Bool) → Tells same → (x : A) (xs : List A) (start i : ℕ) → Some i ≡ position_from (same x) start xs → (j : ℕ) × (i ≡ start + j) × (slice_get xs j ≡ Some x)
@@ -42,7 +38,7 @@ missed_from same t x (y ∷ xs) start e h = by (same x y) refl e (λ f. missed_f
   where
     by : (b : Bool) → same x y ≡ b → None ≡ cond b (Some start) (position_from (same x) (start + 1) xs) → (None ≡ position_from (same x) (start + 1) xs → ¬ (Has xs x)) → ⊥
     by true s f rest = cc
-    by false s f rest = elim h [ inl e ↦ clash (subst (λ z. same x z ≡ true) (sym e) (t.of_self x)) s | inr g ↦ rest f g ]
+    by false s f rest = elim h [ inl e ↦ true≢false (sym (subst (λ z. same x z ≡ true) (sym e) (t.of_self x)) ∙ s) | inr g ↦ rest f g ]
 
 pub missed : {A : Type 0} (same : A → A → Bool) → Tells same → (x : A) (xs : List A) → None ≡ position (same x) xs → ¬ (Has xs x)
 missed same t x xs e = missed_from same t x xs 0 (e ∙ position_from-zero (same x) xs)

@@ -1,6 +1,6 @@
 use Rattle.std.proofs.Common.{◌∙◌, ap}
 use Rattle.std.proofs.Math.ListN.{drop_of_length-le}
-use Rattle.dt_graph.proofs.Along.{left_at, next_in}
+use Rattle.dt_graph.proofs.WalkByPlaces.{left_at, next_in}
 use Rattle.dt_graph.proofs.Removals.{emptying_ends, emptying_on, leaving_once, leaving_wait, read_slots, without_slots}
 use Rattle.dt_graph.proofs.leave.remove_all.Goals as goal
 

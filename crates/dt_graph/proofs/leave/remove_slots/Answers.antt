@@ -1,6 +1,6 @@
 use Rattle.std.proofs.Common.{◌+◌, drop, subst, sym}
 use Rattle.std.proofs.Math.ListN.{drop_of_length-le}
-use Rattle.dt_graph.proofs.Along.{left_at}
+use Rattle.dt_graph.proofs.WalkByPlaces.{left_at}
 use Rattle.dt_graph.proofs.Removals.{IsTakingOut, taking_ends, taking_on}
 use Rattle.dt_graph.proofs.leave.remove_slots.Goals as goal
 

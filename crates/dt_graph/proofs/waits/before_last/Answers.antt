@@ -1,6 +1,6 @@
 use Rattle.std.proofs.Common.{◌≤◌, ◌+◌, ◌-◌, ℕ, length, arith}
 use Rattle.dt_lists.proofs.Callers.{all_put}
-use Rattle.dt_graph.proofs.Full.{place_below}
+use Rattle.dt_graph.proofs.AscendingNumbers.{place_below}
 use Rattle.dt_graph.proofs.waits.before_last.Goals as goal
 
 pub overflow_cast-result : goal.overflow_cast-result

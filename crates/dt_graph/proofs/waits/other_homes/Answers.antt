@@ -1,5 +1,5 @@
 use Rattle.std.proofs.Common.{◌≤◌, ◌<◌, ◌-◌, ℕ, length, sym, subst, arith}
-use Rattle.dt_graph.proofs.Full.{place_taken}
+use Rattle.dt_graph.proofs.AscendingNumbers.{place_taken}
 use Rattle.dt_graph.proofs.waits.other_homes.Goals as goal
 
 pub returns-in-None : goal.returns-in-None

@@ -1,6 +1,6 @@
 use Rattle.std.proofs.Common.{◌≡◌, ◌++◌, map, take}
 use Rattle.std.specs.Vec.Iter.{into_iter_items}
-use Rattle.dt_graph.proofs.InOrder.{AreMembers}
+use Rattle.dt_graph.proofs.RunOrder.{AreMembers}
 use Rattle.dt_graph.proofs.graph.Graph.in_order.Given as goal
 
 abbrev pub invariant-loop-id : goal.invariant-loop-id

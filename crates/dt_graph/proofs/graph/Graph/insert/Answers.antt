@@ -1,11 +1,12 @@
 use Rattle.std.proofs.Common.{◌≡◌, ◌∙◌, ◌<◌, ◌≤◌, ◌+◌, ◌^◌, ◌∷◌, ◌++◌, [], length, refl, sym, ap, subst, arith}
 use Rattle.std.proofs.lemmas.List.{length-append}
+use Rattle.std.proofs.lemmas.Result.{on_ok_weaker}
 use Rattle.dt_lists.proofs.Callers.{place_within}
 use Rattle.dt_waits.specs.Graph.{GraphView}
 use Rattle.dt_graph.specs.Held.{kept_of}
 use Rattle.dt_graph.proofs.Bounds.{fitted_inserted, fitted_same}
 use Rattle.dt_waits.proofs.Callers.{at_named, counted_before, missing_before}
-use Rattle.dt_graph.proofs.InsertCall.{MayInsert, few_more, kept_as, on_ok, result_cases}
+use Rattle.dt_graph.proofs.InsertCall.{MayInsert, few_more, kept_as, result_cases}
 use Rattle.dt_graph.proofs.graph.Graph.insert.Goals as goal
 
 pub extend-requires-clause-missing : goal.extend-requires-clause-missing
@@ -120,7 +121,7 @@ returns-in-Some-clause-inserted c =
     let ids = c.self.inside.names.ids in
     let classes = c.self.inside.classes.items in
     rw (← c.self.view_is)
-    (on_ok c.extend.result (λ e. let i = e ids classes (sym c.self.invariant.vertices) c.number_of.ensures.once (at_named ids c.in-Some.vertex c.args.part.now.id c.in-Some.ensures.number) in
+    (on_ok_weaker c.extend.result (λ e. let i = e ids classes (sym c.self.invariant.vertices) c.number_of.ensures.once (at_named ids c.in-Some.vertex c.args.part.now.id c.in-Some.ensures.number) in
     (c.in-Some.vertex, i.0, i.1)) c.extend.ensures.extended)
 
 pub returns-in_ok-add-in-None-clause-inserted : goal.returns-in_ok-add-in-None-clause-inserted

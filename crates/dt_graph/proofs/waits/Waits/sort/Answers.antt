@@ -1,7 +1,7 @@
 use Rattle.std.proofs.Common.{◌≡◌, ◌≢◌, None, [], ap, sym, get_or, ◌∙◌}
 use Rattle.std.proofs.lemmas.List.{get_or_read}
 use Rattle.dt_waits.specs.Graph.{vertex_at}
-use Rattle.dt_graph.proofs.ReadyOrStuck.{sorts_ready, sorts_stuck}
+use Rattle.dt_graph.proofs.Sorts.{sorts_ready, sorts_stuck}
 use Rattle.dt_graph.proofs.waits.Waits.sort.Goals as goal
 
 pub returns-then-index-eq0-2-clause-sorted : goal.returns-then-index-eq0-2-clause-sorted

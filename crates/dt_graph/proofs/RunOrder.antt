@@ -3,7 +3,7 @@ use Rattle.std.proofs.Common.{◌≡◌, ◌+◌, ◌<◌, ◌≤◌, ◌⊎◌,
 use Rattle.std.proofs.Common.{None, Some, IsPermutation, IsSorted, refl, sym, ap, ap₂, subst, inl, inr, eqb-true, eq-eqb, arith}
 use Rattle.std.proofs.lemmas.Bool.{and_from, and_parts}
 use Rattle.std.proofs.lemmas.Bool.Decides.{nat_tests}
-use Rattle.std.proofs.lemmas.List.{append-nil, map-append}
+use Rattle.std.proofs.lemmas.List.{append-nil, map-append, take_more}
 use Rattle.std.proofs.lemmas.List.Sorted.{IsPermutation-map}
 use Rattle.std.specs.Cmp.{nat_cmp_is}
 use Rattle.std.specs.Ordering.{nat_cmp, ordering_then, is_lt}
@@ -32,13 +32,6 @@ pub record AreMembers (g : GraphView) (ids : List TxnId) (members : List Member)
   pub are : AllIn (IsMemberOf g) members
 
 -- one member more is gathered
-
-take_more : (xs : List TxnId) (i : ℕ) (d : TxnId) → i < length xs → take (i + 1) xs ≡ take i xs ++ get_or xs i d ∷ []
-take_more [] i d lt = absurd (omega (arith, lt))
-take_more (x ∷ xs) zero d lt = refl
-take_more (x ∷ xs) (suc i) d lt =
-    let e : suc i + 1 ≡ suc (i + 1) = omega arith in
-    rw e (ap (λ l. x ∷ l) (take_more xs i d (omega (arith, lt))))
 
 pub members_more : (g : GraphView) (ids : List TxnId) (i : ℕ) (d : TxnId) (members : List Member) (rank vertex : ℕ) → i < length ids → AreMembers g (take i ids) members
     → slice_get g.ids vertex ≡ Some (get_or ids i d) → rank ≡ (vertex_at g.vertices vertex).rank → AreMembers g (take (i + 1) ids) (members ++ record { rank = rank; id = get_or ids i d; vertex = vertex } ∷ [])
