@@ -1,7 +1,7 @@
 -- Where a search in a list of different items finds one, and what the list is after a new one was put to it, for any test that
 -- says whether two items are the same.
 use Rattle.std.proofs.Common.{◌≡◌, ℕ, suc, ◌+◌, nat_eq, ◌<◌, Bool, true, false, true≢false, cond, List, [], ◌∷◌, ◌++◌, drop, get_or, length, slice_get, take, Some, None}
-use Rattle.std.proofs.Common.{Result, Ok, Err, IfOk, IsOk, refl, ap, sym, subst, inl, inr, arith, ◌∙◌}
+use Rattle.std.proofs.Common.{refl, ap, sym, subst, inl, inr, arith, ◌∙◌}
 use Rattle.std.specs.List.{list_any, position, position_from}
 use Rattle.std.proofs.lemmas.Iterator.Adapters.{position_from-zero}
 use Rattle.std.proofs.lemmas.List.{take_more, take-append-drop}
@@ -50,12 +50,6 @@ added_new same t x xs fresh = by (list_any (same x) xs) refl
     by : (b : Bool) → list_any (same x) xs ≡ b → cond b xs (xs ++ x ∷ []) ≡ xs ++ x ∷ []
     by true e = let r = any_get (λ y. same x y ≡ true) xs (any_of_test (same x) xs e) in absurd (fresh (subst (Has xs) (sym (t.of_test x r.0 r.2)) r.1))
     by false e = refl
-
--- what goes for each answer goes where there is one
-pub settled : {A E P : Type 0} (r : Result A E) → IsOk r → IfOk r (λ _. P) → P
-settled (Ok a) o h = h
-settled (Err e) o h = cc
-
 -- the tests of ids and of numbers tell them apart
 pub tells_id : Tells same_id
 tells_id = record { of_test = id_of_test; of_self = λ x. test_of_id x x refl }

@@ -4,7 +4,8 @@ use Rattle.indexmap.specs.IndexSet.{spare}
 use Rattle.dt_lists.specs.Lists.{Has}
 use Rattle.dt_lists.proofs.Callers.{distinct_push}
 use Rattle.dt_access.specs.Ids.{same_id}
-use Rattle.dt_graph.proofs.Search.{added_new, settled, tells_id}
+use Rattle.dt_queue.proofs.Callers.{settled}
+use Rattle.dt_graph.proofs.Search.{added_new, tells_id}
 use Rattle.dt_graph.proofs.names.Names.add.Goals as goal
 
 pub invariant_of-self : goal.invariant_of-self
