@@ -55,7 +55,11 @@ impl<S: Scheduler + Drop> Node<S> {
         let me = self.site.region.number();
         let mut packets = Vec::with_capacity(alloc, links)?;
         for link in 0..links {
-            let packet = self.packet(alloc, other_region(me, link as u8), packets.last())?;
+            let packet = self.packet(
+                alloc,
+                other_region(me, link as u8),
+                packets.as_slice().last(),
+            )?;
             packets.push(packet)?;
         }
         Ok(packets)

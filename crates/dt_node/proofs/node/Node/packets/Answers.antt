@@ -4,7 +4,7 @@ use Rattle.dt_node.proofs.PacketsPut.{made_before, made_more}
 use Rattle.dt_node.proofs.node.Node.packets.Goals as goal
 
 pub packet-requires-clause-made : goal.packet-requires-clause-made
-packet-requires-clause-made g c = made_before c.args.self.now c.loop-link.link c.loop-link.packets.items c.loop-link.invariant c.last.result c.last.ensures.value
+packet-requires-clause-made g c = made_before c.args.self.now c.loop-link.link c.as_slice.result.now (c.as_slice.ensures.value ∙ c.loop-link.invariant) c.last.result c.last.ensures.value
 
 pub loop-link-preserved : goal.loop-link-preserved
 loop-link-preserved g c =
