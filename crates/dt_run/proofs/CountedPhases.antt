@@ -16,7 +16,7 @@ use Rattle.dt_run.specs.NodesView.{NodesView, marks_at, node_in}
 use Rattle.dt_run.specs.Phase.{EndsInStep, IsPhase}
 use Rattle.dt_run.specs.Silence.{PhaseIsCounted, IsSilent, all_kept_after, all_kept_in, made_in, quiet_after, quiet_in}
 use Rattle.dt_run.proofs.Laws.{sum_below_added, sum_below_le, sum_below_same}
-use Rattle.dt_run.proofs.PlannedPackets.{marks_now, old_mark}
+use Rattle.dt_run.proofs.PlannedPackets.{keeps_all, marks_now, old_mark}
 
 -- where no summand falls and the sum stays, each stays
 sum_stays : (f g : ℕ → ℕ) (n : ℕ) → ((k : ℕ) → k < n → f k ≤ g k) → sum_below f n ≡ sum_below g n → (k : ℕ) → k < n → f k ≡ g k
@@ -137,21 +137,12 @@ module _ {before after : NodesView} (step : AreInStep before) (phase : IsPhase b
       let z : quiet_after after step.made ≡ quiet_in before = quiet_old step.made (omega arith) ∙ ap (quiet_after before) (sym made_is) in
       ap (quiet_after after) made_next ∙ (λ i. cond (eqb (x i) (kept_next i)) (z i + 1) 0)
 
-  -- no region loses what it kept
-
-  longer : (region : ℕ) → region < before.cluster.regions → length (kept_by_region before region) ≤ length (kept_by_region after region)
-  longer region lr =
-      let e : length (kept_by_region after region) ≡ length (kept_by_region before region ++ new_items (node_in before region) (node_in after region)) = ap length (phase.turns region lr).gone.grows in
-      let f : length (kept_by_region before region ++ new_items (node_in before region) (node_in after region)) ≡ length (kept_by_region before region) + length
-      (new_items (node_in before region) (node_in after region)) = length-append (kept_by_region before region) (new_items (node_in before region) (node_in after region)) in
-      omega (arith, e, f)
-
   kept_there : all_kept_in after ≡ sum_below (λ region. length (kept_by_region after region)) before.cluster.regions
   kept_there = ap (sum_below (λ region. length (kept_by_region after region))) regions_same
 
   pub kept_up : all_kept_in before ≤ all_kept_in after
   kept_up =
-      let a : all_kept_in before ≤ sum_below (λ region. length (kept_by_region after region)) before.cluster.regions = sum_below_le _ _ before.cluster.regions longer in
+      let a : all_kept_in before ≤ sum_below (λ region. length (kept_by_region after region)) before.cluster.regions = sum_below_le _ _ before.cluster.regions (keeps_all phase) in
       let e = kept_there in omega (arith, a, e)
 
   pub is_counted : PhaseIsCounted before after
@@ -168,7 +159,7 @@ module _ {before after : NodesView} (step : AreInStep before) (phase : IsPhase b
           grows = (phase.turns region lr).gone.grows
 
           long : length (kept_by_region before region) ≡ length (kept_by_region after region)
-          long = sum_stays (λ r. length (kept_by_region before r)) (λ r. length (kept_by_region after r)) before.cluster.regions longer (same ∙ kept_there) region lr
+          long = sum_stays (λ r. length (kept_by_region before r)) (λ r. length (kept_by_region after r)) before.cluster.regions (keeps_all phase) (same ∙ kept_there) region lr
 
           no_more : length (new_items (node_in before region) (node_in after region)) ≡ 0
           no_more =

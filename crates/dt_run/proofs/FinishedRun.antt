@@ -1,7 +1,6 @@
 -- All is done where all seats say so; and then the events of the nodes are a finished list.
 use Rattle.std.proofs.Common.{◌≡◌, ◌<◌, ◌≤◌, ◌+◌, ◌↔◌, ℕ, zero, suc, false, Bool, IsTrue, List, [], ◌∷◌, length, sym, subst, ◌∙◌, arith}
 use Rattle.std.proofs.lemmas.Bool.{false≢true}
-use Rattle.std.proofs.lemmas.List.{length-map}
 use Rattle.dt_lists.specs.Lists.{AllIn}
 use Rattle.dt_events.specs.Stamps.{events_of}
 use Rattle.dt_cluster.specs.declared.Cluster.{Cluster}
@@ -16,7 +15,7 @@ use Rattle.dt_run.specs.Done.{IsAllDone, HasDone}
 use Rattle.dt_run.specs.NodesView.{NodesView, node_in}
 use Rattle.dt_run.specs.SeatsInner.{AreSeated, HasFewSubmitted, SeatView, nodes_view, seat_at}
 use Rattle.dt_run.proofs.Laws.{few_events, reached}
-use Rattle.dt_run.proofs.WaitingPackets.{node_is}
+use Rattle.dt_run.proofs.WaitingPackets.{node_is, one_for_each}
 
 -- each seat, or each item
 
@@ -34,7 +33,7 @@ module _ {cluster : Cluster} {workload : Workload} {seats : List SeatView} {brok
   v = nodes_view cluster workload seats broken
 
   many : length seats ≡ cluster.regions
-  many = sym (length-map seats (λ (s : SeatView). s.node)) ∙ a.nodes.many
+  many = one_for_each a
 
   at_seat : (region : ℕ) → node_in v region ≡ (seat_at seats region).node
   at_seat = node_is cluster workload seats broken

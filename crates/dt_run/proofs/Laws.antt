@@ -3,6 +3,6 @@ pub use Rattle.dt_merge.proofs.Callers.{merge_of_none, merge_begins, merge_exist
 pub use Rattle.dt_merge.proofs.Callers.{frame, events_few, most_few, grown_refl, grown_trans, legal_grows, found_own, local, asked_front, received_up, supply_lasts, two_fronts}
 pub use Rattle.dt_merge.proofs.Callers.{attempt_of_own, own_answered, own_appended, own_delivered, own_moved, own_submitted}
 pub use Rattle.dt_merge.proofs.Callers.{sum_below_added, sum_below_first, sum_below_le, sum_below_same}
-pub use Rattle.dt_node.proofs.Callers.{reached, few_events, above_greatest, greatest_below, all_take}
+pub use Rattle.dt_node.proofs.Callers.{reached, few_events, above_greatest, greatest_below, IsHeld, all_take, found_ids, found_parts}
 pub use Rattle.dt_site.proofs.Callers.{own_of}
 pub use Rattle.dt_world.proofs.Callers.{front_length, tables_are}

@@ -185,9 +185,6 @@ module _ {region other : ℕ} {before now mid after : List SeatView} (s : Linked
   back : other ≢ region
   back i = two (sym i)
 
-  many : length after ≡ length now
-  many = many_added from ∙ many_added to
-
   outs_here : length (seat_at after region).outs ≡ other + 1
   outs_here = ap length (from.other_outs region two) ∙ ap length to.outs ∙ length_push (seat_at now region).outs to.out ∙ ap (λ n. n + 1) s.here.outs
 

@@ -250,7 +250,7 @@ module _ {cluster : Cluster} {workload : Workload} {seats seats' seats'' : List 
           ((whole region (at_seat region)).begins (sym (waiting.waiting_is cluster workload seats broken region) ∙ no_packet)))
         where
           at_seat : (r : ℕ) → region < length seats
-          at_seat r = subst (λ k. region < k) (sym (waiting.many a sound)) lr
+          at_seat r = subst (λ k. region < k) (sym (waiting.one_for_each a)) lr
 
   in_step_now : AreInStep v'
   in_step_now = record {

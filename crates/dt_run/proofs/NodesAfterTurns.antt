@@ -46,18 +46,15 @@ module _ {cluster : Cluster} {workload : Workload} {seats seats' : List SeatView
   abbrev n : AreNodes v
   n = a.nodes
 
-  many : length seats ≡ cluster.regions
-  many = waiting.many a sound
-
   many_now : length v'.nodes ≡ cluster.regions
-  many_now = length-map seats' (λ (s : SeatView). s.node) ∙ g.many ∙ many
+  many_now = length-map seats' (λ (s : SeatView). s.node) ∙ g.many ∙ waiting.one_for_each a
 
   pub turns : (region : ℕ) → region < cluster.regions → TurnsOnce cluster.procs (waiting_at v region) (node_in v region) (node_in v' region)
   turns region lr =
       subst (λ m. TurnsOnce cluster.procs (waiting_at v region) (node_in v region) m) (sym (waiting.node_is cluster workload seats' later region))
       (subst (λ m. TurnsOnce cluster.procs (waiting_at v region) m (seat_at seats' region).node) (sym (waiting.node_is cluster workload seats broken region))
       (subst (λ l. TurnsOnce cluster.procs l (seat_at seats region).node (seat_at seats' region).node) (sym (waiting.waiting_is cluster workload seats broken region))
-      (g.each region (subst (λ k. region < k) (sym many) lr))))
+      (g.each region (subst (λ k. region < k) (sym (waiting.one_for_each a)) lr))))
 
   numbers : (region : ℕ) → region < cluster.regions → number_of (node_in v region) ≡ region
   numbers region lr = (n.stand region lr).number

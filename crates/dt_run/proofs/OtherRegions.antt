@@ -61,9 +61,6 @@ module _ {cluster : Cluster} {workload : Workload} {w v : World} {region : ℕ} 
   node_same : node_at v region ≡ node_at w region
   node_same = ap (λ o. o.node) same
 
-  log_same : log_of v region ≡ log_of w region
-  log_same = ap (λ (n : Node). n.log) node_same
-
   lengths_same : received_lengths w region ≡ received_lengths v region
   lengths_same = ap (λ (n : Node). set n.received region (length n.log)) (sym node_same)
 

@@ -105,11 +105,8 @@ module _ {cluster : Cluster} {workload : Workload} {seats seats' seats'' : List 
   abbrev linked : AreLinkedBy AreBeside seats
   linked = a.linked sound
 
-  many : length seats ≡ cluster.regions
-  many = waiting.many a sound
-
   at_seat : (region : ℕ) → region < cluster.regions → region < length seats
-  at_seat region lr = subst (λ n. region < n) (sym many) lr
+  at_seat region lr = subst (λ n. region < n) (sym (waiting.one_for_each a)) lr
 
   at_seat' : (region : ℕ) → region < length seats → region < length seats'
   at_seat' region lt = subst (λ n. region < n) (sym g.many) lt

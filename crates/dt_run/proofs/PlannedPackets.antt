@@ -40,6 +40,12 @@ marks_below v made region m (suc steps) phase e =
     let rest : mark_at v region (phase + 1) ≤ length (kept_by_region v region) = marks_below v made region m steps (phase + 1) (omega (arith, e)) in
     omega (arith, up, rest)
 
+-- a phase loses nothing that was kept
+pub keeps_all : {v v' : NodesView} → IsPhase v v' → (region : ℕ) → region < v.cluster.regions → length (kept_by_region v region) ≤ length (kept_by_region v' region)
+keeps_all {v} {v'} phase region lr =
+    let e : length (kept_by_region v' region) ≡ length (kept_by_region v region ++ new_items (node_in v region) (node_in v' region)) = ap length (phase.turns region lr).gone.grows in
+    omega (arith, e, length-append (kept_by_region v region) (new_items (node_in v region) (node_in v' region)))
+
 module _ {v v' : NodesView} (step : AreInStep v) (phase_is : IsPhase v v') (ends : EndsInStep v v') (lr : (region : ℕ) → region < v.cluster.regions → region < v'.cluster.regions)
     (back : (region : ℕ) → region < v'.cluster.regions → region < v.cluster.regions) where
   abbrev made : ℕ
@@ -50,9 +56,6 @@ module _ {v v' : NodesView} (step : AreInStep v) (phase_is : IsPhase v v') (ends
 
   grows : (region : ℕ) → region < v.cluster.regions → kept_by_region v' region ≡ kept_by_region v region ++ new region
   grows region l = (phase_is.turns region l).gone.grows
-
-  longer : (region : ℕ) → region < v.cluster.regions → length (kept_by_region v region) ≤ length (kept_by_region v' region)
-  longer region l = let e : length (kept_by_region v' region) ≡ length (kept_by_region v region ++ new region) = ap length (grows region l) in omega (arith, e, length-append (kept_by_region v region) (new region))
 
   many : (region : ℕ) → region < v.cluster.regions → length (marks_at v region) ≡ made
   many region l = (step.each region l).marks.many
@@ -83,7 +86,7 @@ module _ {v v' : NodesView} (step : AreInStep v) (phase_is : IsPhase v v') (ends
           let a : mark_at v' region phase ≡ length (kept_by_region v region) = ap (mark_at v' region) is ∙ last_mark region l in
           let up : phase + 1 ≡ suc made = omega (arith, is) in
           let b : mark_at v' region (phase + 1) ≡ length (kept_by_region v' region) = ap (mark_at v' region) up ∙ new_mark region l in
-          omega (arith, a, b, longer region l)
+          omega (arith, a, b, keeps_all phase_is region l)
       rise phase lt (inr n) =
           let a : mark_at v' region phase ≡ mark_at v region phase = old_mark region l phase (omega (arith, lt)) in
           let b : mark_at v' region (phase + 1) ≡ mark_at v region (phase + 1) = old_mark region l (phase + 1) (omega (arith, lt, n)) in

@@ -6,9 +6,6 @@ use Rattle.dt_run.specs.Marks.{kept_by_region}
 use Rattle.dt_run.specs.NodesView.{NodesView, node_in}
 use Rattle.dt_run.specs.Phase.{IsPhase, KeepsEvents}
 
-pub keeps_none : (v : NodesView) → KeepsEvents v v
-keeps_none v = record { many = refl; each = λ region lr. front_refl (kept_by_region v region) }
-
 -- one phase more
 pub keeps_on : {first before after : NodesView} → before.cluster ≡ first.cluster → KeepsEvents first before → IsPhase before after → KeepsEvents first after
 keeps_on {first} {before} {after} same kept phase = record {

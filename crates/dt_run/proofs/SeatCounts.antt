@@ -1,7 +1,6 @@
 -- The counts as the code takes them off the seats are those of the nodes.
 use Rattle.std.proofs.Common.{◌≡◌, ◌<◌, ◌≤◌, ◌+◌, ◌^◌, ℕ, zero, suc, Bool, true, false, cond, eqb, List, [], ◌∷◌, length, take, get_or, refl, sym, ap, subst, ◌∙◌, arith, append-nil}
 use Rattle.std.specs.Prelude.{sum_by}
-use Rattle.std.proofs.lemmas.List.{length-map}
 use Rattle.std.proofs.lemmas.List.Sums.{sum_by-cons, sum_by-take-le, sum_by_more}
 use Rattle.dt_lists.proofs.Callers.{all_map, get_of_map}
 use Rattle.dt_events.specs.Stamps.{events_of}
@@ -19,7 +18,7 @@ use Rattle.dt_run.specs.declared.counts.Counts.{Counts}
 use Rattle.dt_run.proofs.CountedPhases.{is_counted}
 use Rattle.dt_run.proofs.Laws.{most_few, sum_below_first, sum_below_same}
 use Rattle.dt_run.proofs.RunEnds.{ends_on, kept_few, opening_counts, opening_ends}
-use Rattle.dt_run.proofs.WaitingPackets.{node_is}
+use Rattle.dt_run.proofs.WaitingPackets.{node_is, one_for_each}
 use Rattle.dt_run.proofs.WaitingPackets as waiting
 
 -- a sum along a list
@@ -87,9 +86,6 @@ module _ {cluster : Cluster} {workload : Workload} {seats seats' : List SeatView
   one : 0 < cluster.regions
   one = let s = a.nodes.cluster.some in omega (arith, s)
 
-  many : length seats' ≡ cluster.regions
-  many = sym (length-map seats' (λ (s : SeatView). s.node)) ∙ later.nodes.many
-
   pub phase_counted : PhaseIsCounted v v'
   phase_counted = is_counted (a.nodes.in_step sound) phase ends one
 
@@ -100,7 +96,7 @@ module _ {cluster : Cluster} {workload : Workload} {seats seats' : List SeatView
 
   pub kept_fits : sum_by events_at seats' < 2 ^ 64
   kept_fits =
-      let e : sum_by events_at seats' ≡ all_kept_in v' = kept_seen cluster workload seats' broken many in
+      let e : sum_by events_at seats' ≡ all_kept_in v' = kept_seen cluster workload seats' broken (one_for_each later) in
       let b : all_kept_in v' ≤ most_events cluster workload = kept_few later.nodes in
       let m : most_events cluster workload ≤ 24640000 = most_few cluster a.nodes.cluster workload a.nodes.workload in
       omega (arith, e, b, m)
@@ -121,7 +117,7 @@ module _ {cluster : Cluster} {workload : Workload} {seats seats' : List SeatView
       made_is = made ∙ made_seen cluster workload seats' broken
 
       kept_is : now.kept ≡ all_kept_in v'
-      kept_is = kept ∙ kept_seen cluster workload seats' broken many
+      kept_is = kept ∙ kept_seen cluster workload seats' broken (one_for_each later)
 
       quiet_is : now.quiet ≡ quiet_in v'
       quiet_is =

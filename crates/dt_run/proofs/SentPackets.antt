@@ -1,6 +1,6 @@
 -- What a node sends is true: whoever has all of its events up to the packet's stamp has all that the packet says.
 use Rattle.std.proofs.Common.{◌≡◌, ◌≢◌, ◌<◌, ◌≤◌, ◌+◌, ℕ, zero, suc, List, [], ◌∷◌, ◌++◌, length, map, drop, take}
-use Rattle.std.proofs.Common.{get_or, set, min, slice_get, Some, option_map, eqb, refl, sym, ap, ap₂, subst, ◌∙◌, inl, inr, arith, eq-eqb}
+use Rattle.std.proofs.Common.{get_or, set, min, slice_get, Some, option_map, eqb, refl, sym, ap, subst, ◌∙◌, inl, inr, arith, eq-eqb}
 use Rattle.std.specs.Prelude.{filter_map, slice_index}
 use Rattle.std.proofs.lemmas.List.{length-map, length-take, map-append}
 use Rattle.dt_lists.specs.Lists.{AllIn, EachThen, Has}
@@ -34,7 +34,7 @@ use Rattle.dt_workload.specs.Valid.{IsValidWorkload}
 use Rattle.dt_node.specs.NodeView.{NodeView, entry_held, most_items, number_of, packet_for, stretch_from}
 use Rattle.dt_node.specs.Packets.{IsToldOf, IsTruePacket}
 use Rattle.dt_node.specs.Standing.{NodeFits}
-use Rattle.dt_run.proofs.Laws.{all_take, frame, own_of, reached}
+use Rattle.dt_run.proofs.Laws.{IsHeld, all_take, found_ids, found_parts, frame, own_of, reached}
 use Rattle.dt_run.proofs.DoneSubmissions.{find_counted}
 use Rattle.dt_run.proofs.ChronicleGrows.{good_after}
 use Rattle.dt_run.proofs.TurnsInOrder.{good_world, received_here}
@@ -85,22 +85,11 @@ held_own s sound x h =
 -- looking all of a list up
 
 module _ (s : RegionState) where
-  abbrev IsHeld : TxnId → Type 0
-  IsHeld id = (txn : Txn) × (held s id ≡ Some txn)
-
-  looked_ids : (ids : List TxnId) → AllIn IsHeld ids → map (λ (t : Txn). t.id) (filter_map (held s) ids) ≡ ids
-  looked_ids [] a = refl
-  looked_ids (id ∷ ids) a = rw a.0.1 (ap₂ ◌∷◌ (held_id s id a.0.0 a.0.1) (looked_ids ids a.1))
-
-  looked_held : (ids : List TxnId) → AllIn IsHeld ids → AllIn (λ t. held s t.id ≡ Some t) (filter_map (held s) ids)
+  looked_held : (ids : List TxnId) → AllIn (IsHeld s) ids → AllIn (λ t. held s t.id ≡ Some t) (filter_map (held s) ids)
   looked_held [] a = tt
   looked_held (id ∷ ids) a = rw a.0.1 (subst (λ i. held s i ≡ Some a.0.0) (sym (held_id s id a.0.0 a.0.1)) a.0.1, looked_held ids a.1)
 
-  looked_parts : (parts : List Part) → AllIn (λ p. IsHeld p.id) parts → map (λ (e : Entry). e.part) (filter_map (entry_held s) parts) ≡ parts
-  looked_parts [] a = refl
-  looked_parts (p ∷ parts) a = rw a.0.1 (ap (λ l. p ∷ l) (looked_parts parts a.1))
-
-  looked_entries : (parts : List Part) → AllIn (λ p. IsHeld p.id) parts → AllIn (λ e. Has parts e.part × (held s e.part.id ≡ Some e.txn)) (filter_map (entry_held s) parts)
+  looked_entries : (parts : List Part) → AllIn (λ p. IsHeld s p.id) parts → AllIn (λ e. Has parts e.part × (held s e.part.id ≡ Some e.txn)) (filter_map (entry_held s) parts)
   looked_entries [] a = tt
   looked_entries (p ∷ parts) a = rw a.0.1 ((inl refl, a.0.1), all_map _ _ (filter_map (entry_held s) parts) (λ e h. (inr h.0, h.1)) (looked_entries parts a.1))
 
@@ -187,10 +176,10 @@ module _ {cluster : Cluster} {workload : Workload} (all : List Stamped) {n : Nod
   ids_parts_held = all_take (λ (q : Part). IsHeld s q.id) most_items _ (all_drop (λ (q : Part). IsHeld s q.id) (get_or n.received target 0) log parts_held)
 
   pub asked_long : length p.asked ≡ length ids
-  asked_long = sym (length-map p.asked (λ (t : Txn). t.id)) ∙ ap length (looked_ids s ids ids_held)
+  asked_long = sym (length-map p.asked (λ (t : Txn). t.id)) ∙ ap length (found_ids s ids ids_held)
 
   pub entries_long : length p.entries ≡ length parts
-  entries_long = sym (length-map p.entries (λ (e : Entry). e.part)) ∙ ap length (looked_parts s parts ids_parts_held)
+  entries_long = sym (length-map p.entries (λ (e : Entry). e.part)) ∙ ap length (found_parts s parts ids_parts_held)
 
   -- where only later events of others are left
   module _ (front rest : List Stamped) (cut : all ≡ front ++ rest) (later : AreLater me (last_stamp n.site.region.events) rest) where
@@ -237,13 +226,13 @@ module _ {cluster : Cluster} {workload : Workload} (all : List Stamped) {n : Nod
     told = record {
       asked_to = subst (λ l. get_or n.took target 0 + length p.asked ≤ length l) (sym asks)
           (subst (λ m. get_or n.took target 0 + m ≤ length asked) (sym asked_long) (long_within most_items (get_or n.took target 0) asked first_asked));
-      asked = looked_ids s ids ids_held ∙ take_drop most_items (get_or n.took target 0) asked
+      asked = found_ids s ids ids_held ∙ take_drop most_items (get_or n.took target 0) asked
           ∙ ap (λ m. drop (get_or n.took target 0) (take (get_or n.took target 0 + m) asked)) (sym asked_long)
           ∙ ap (λ l. drop (get_or n.took target 0) (take (get_or n.took target 0 + length p.asked) l)) (sym asks);
       asked_txns = all_put _ p.asked asked_one;
       entries_to = subst (λ l. get_or n.received target 0 + length p.entries ≤ length l) (sym logs)
           (subst (λ m. get_or n.received target 0 + m ≤ length log) (sym entries_long) (long_within most_items (get_or n.received target 0) log first_entry));
-      entries = looked_parts s parts ids_parts_held ∙ take_drop most_items (get_or n.received target 0) log
+      entries = found_parts s parts ids_parts_held ∙ take_drop most_items (get_or n.received target 0) log
           ∙ ap (λ m. drop (get_or n.received target 0) (take (get_or n.received target 0 + m) log)) (sym entries_long)
           ∙ ap (λ l. drop (get_or n.received target 0) (take (get_or n.received target 0 + length p.entries) l)) (sym logs);
       entry_txns = all_put _ p.entries entry_one;
@@ -257,7 +246,7 @@ module _ {cluster : Cluster} {workload : Workload} (all : List Stamped) {n : Nod
         asked_one : (t : Txn) → Has p.asked t → txn_of w t.id ≡ Some t
         asked_one t h =
             let e : held s t.id ≡ Some t = all_get (λ x. held s x.id ≡ Some x) p.asked (looked_held s ids ids_held) t h in
-            let mine : Has ids t.id = subst (λ l. Has l t.id) (looked_ids s ids ids_held) (has_map (λ (x : Txn). x.id) p.asked t h) in
+            let mine : Has ids t.id = subst (λ l. Has l t.id) (found_ids s ids ids_held) (has_map (λ (x : Txn). x.id) p.asked t h) in
             let r : AllIn (λ i. i.region ≡ me) ids = all_take _ most_items _ (all_drop _ (get_or n.took target 0) asked own_ids) in
             own_txn t.id t (all_get (λ i. i.region ≡ me) ids r t.id mine) (f.site.known t.id t e)
           where

@@ -47,6 +47,9 @@ copies_few Twice packet = omega arith
 pub node_is : (cluster : Cluster) (workload : Workload) (seats : List SeatView) (broken : Bool) (region : ℕ) → node_in (nodes_view cluster workload seats broken) region ≡ (seat_at seats region).node
 node_is cluster workload seats broken region = get_of_map (λ (s : SeatView). s.node) seats region no_seat
 
+pub one_for_each : {cluster : Cluster} {workload : Workload} {seats : List SeatView} {broken : Bool} → AreSeated cluster workload seats broken → length seats ≡ cluster.regions
+one_for_each {cluster} {workload} {seats} a = sym (length-map seats (λ (s : SeatView). s.node)) ∙ a.nodes.many
+
 ins_are : (seats : List SeatView) (region : ℕ) → get_or (map (λ (s : SeatView). map waits_in s.ins) seats) region [] ≡ map waits_in (seat_at seats region).ins
 ins_are seats region = get_of_map (λ (s : SeatView). map waits_in s.ins) seats region no_seat
 
@@ -129,8 +132,8 @@ module _ {cluster : Cluster} {workload : Workload} {seats : List SeatView} {brok
   abbrev linked : AreLinkedBy AreBeside seats
   linked = a.linked sound
 
-  pub many : length seats ≡ cluster.regions
-  many = sym (length-map seats (λ (s : SeatView). s.node)) ∙ n.many
+  many : length seats ≡ cluster.regions
+  many = one_for_each a
 
   node_at_seat : (region : ℕ) → node_in v region ≡ (seat_at seats region).node
   node_at_seat = node_is cluster workload seats broken
