@@ -50,6 +50,7 @@ added_new same t x xs fresh = by (list_any (same x) xs) refl
     by : (b : Bool) → list_any (same x) xs ≡ b → cond b xs (xs ++ x ∷ []) ≡ xs ++ x ∷ []
     by true e = let r = any_get (λ y. same x y ≡ true) xs (any_of_test (same x) xs e) in absurd (fresh (subst (Has xs) (sym (t.of_test x r.0 r.2)) r.1))
     by false e = refl
+
 -- the tests of ids and of numbers tell them apart
 pub tells_id : Tells same_id
 tells_id = record { of_test = id_of_test; of_self = λ x. test_of_id x x refl }
