@@ -1,5 +1,6 @@
 //! Cases of worlds, each with what comes of its events.
 use crate::scripts::{File, Play};
+use crate::worlds::Asked;
 use std::alloc::Global;
 use std::test::Fail;
 
@@ -272,7 +273,7 @@ fn events_are_refused_by_their_rules_and_the_others_reported(rt: HostRuntime) ->
     for case in CASES {
         let play = play_of(rt.alloc(), &case)?;
         assert_eq!(rt;
-            play.told(rt.alloc())?,
+            play.told(rt.alloc(), Asked::Report)?,
             play.wanted(rt.alloc())?,
             "{}",
             case.shows
@@ -290,7 +291,7 @@ fn file_of(alloc: Global, lines: &[&str]) -> Result<Vec<u8>, Fail> {
 
 #[test]
 fn a_region_keeps_its_own_events_that_took_effect(rt: HostRuntime) -> Result<(), Fail> {
-    let kept = play_of(rt.alloc(), &REPEATING)?.kept(rt.alloc())?;
+    let kept = play_of(rt.alloc(), &REPEATING)?.told(rt.alloc(), Asked::Kept)?;
     assert_eq!(rt; kept, file_of(rt.alloc(), KEPT)?);
     Ok(())
 }

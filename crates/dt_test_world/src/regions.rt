@@ -22,18 +22,6 @@ fn first_of_two(alloc: Global) -> Result<Region<PlainSched>, Fail>
     Ok(Region::new(alloc, 0, 2, table)?)
 }
 
-/// Whether a region of two that has done nothing has nothing to resolve, and keeps no event.
-fn has_nothing_to_do(alloc: Global) -> Result<bool, Fail> {
-    let region = first_of_two(alloc)?;
-    Ok(region.next_class(alloc)?.is_none() && region.events().is_empty())
-}
-
-#[test]
-fn a_new_region_has_nothing_to_do(rt: HostRuntime) -> Result<(), Fail> {
-    assert!(rt; has_nothing_to_do(rt.alloc())?);
-    Ok(())
-}
-
 /// The first transaction of region 1: it moves the key `b` from region 0 to region 1.
 fn a_move(alloc: Global) -> Result<Txn, Fail>
     ensures homes { IfOk result (λ txn. homes_of txn ≡ 0 ∷ 1 ∷ []) }
@@ -70,7 +58,8 @@ fn places(
 }
 
 /// What is seen of region 0 of two: how many requests of region 1 it has placed, how many parts its log has, whether it holds the
-/// first transaction of region 1, the stamp of its last event, whether it is drained, and its events, each behind its stamp.
+/// first transaction of region 1, the stamp of its last event, whether it is drained and whether it has a class to resolve, and its
+/// events, each behind its stamp.
 fn seen_of(alloc: Global, region: &Region<PlainSched>) -> Result<Vec<u8>, Fail>
     requires { region.now.state.regions ≡ 2 }
 {
@@ -79,7 +68,9 @@ fn seen_of(alloc: Global, region: &Region<PlainSched>) -> Result<Vec<u8>, Fail>
     let held = region.txn(TxnId { seq: 1, region: 1 }).is_some();
     let stamp = region.stamp();
     let drained = region.drained(alloc)?;
-    let mut seen = format!(in alloc; "{taken} {parts} {held} {stamp} {drained}\n")?.into_bytes();
+    let resolves = region.next_class(alloc)?.is_some();
+    let mut seen =
+        format!(in alloc; "{taken} {parts} {held} {stamp} {drained} {resolves}\n")?.into_bytes();
     for kept in region.events() {
         seen.extend_from_slice(format!(in alloc; "{} ", kept.stamp)?.as_bytes())?;
         put_event(alloc, &mut seen, &kept.event)?;
@@ -87,36 +78,47 @@ fn seen_of(alloc: Global, region: &Region<PlainSched>) -> Result<Vec<u8>, Fail>
     Ok(seen)
 }
 
-/// Region 0 of two hears of a stamp, and is asked to place the move as the request of this number of region 1: whether it does so,
-/// and what is seen of it then.
-fn asked_to_place(alloc: Global, number: u32, heard: u32) -> Result<(bool, Vec<u8>), Fail> {
+/// The number of a request, the stamp that is heard before it, and whether it is placed.
+type Request = (u32, u32, bool);
+
+/// What is seen of region 0 of two before anything happens, or after it was asked to place the move as such a request of region 1.
+/// Fails where the request is not answered as it says. The region is made and dropped here alone.
+fn seen_after(alloc: Global, request: Option<Request>) -> Result<Vec<u8>, Fail> {
     let mut region = first_of_two(alloc)?;
-    let placed = places(alloc, &mut region, number, heard)?;
-    Ok((placed, seen_of(alloc, &region)?))
+    let Some((number, heard, wanted)) = request else {
+        return seen_of(alloc, &region);
+    };
+    if places(alloc, &mut region, number, heard)? != wanted {
+        return Err(Fail::from("the request is answered as it says"));
+    }
+    seen_of(alloc, &region)
 }
 
-/// The number of a request, the stamp that is heard before it, whether it is placed, and what is seen then.
-const REQUESTS: [(u32, u32, bool, &[u8]); 5] = [
-    (0, 0, true, b"1 1 true 1 false\n1 append 0 1 0\n"),
-    (0, 41, true, b"1 1 true 42 false\n42 append 0 1 0\n"),
+/// Requests, and what is seen after each. A region without any has nothing to do.
+const REQUESTS: [(Option<Request>, &[u8]); 6] = [
+    (None, b"0 0 false 0 true false\n"),
     (
-        0,
-        4294967295,
-        true,
-        b"1 1 true 4294967296 false\n4294967296 append 0 1 0\n",
+        Some((0, 0, true)),
+        b"1 1 true 1 false false\n1 append 0 1 0\n",
     ),
-    (1, 41, false, b"0 0 false 0 true\n"),
-    (4294967295, 0, false, b"0 0 false 0 true\n"),
+    (
+        Some((0, 41, true)),
+        b"1 1 true 42 false false\n42 append 0 1 0\n",
+    ),
+    (
+        Some((0, 4294967295, true)),
+        b"1 1 true 4294967296 false false\n4294967296 append 0 1 0\n",
+    ),
+    (Some((1, 41, false)), b"0 0 false 0 true false\n"),
+    (Some((4294967295, 0, false)), b"0 0 false 0 true false\n"),
 ];
 
 #[test]
 fn a_request_is_placed_in_its_turn_under_the_next_stamp_and_else_changes_nothing(
     rt: HostRuntime,
 ) -> Result<(), Fail> {
-    for (number, heard, wanted, want) in REQUESTS {
-        let (placed, seen) = asked_to_place(rt.alloc(), number, heard)?;
-        assert_eq!(rt; placed, wanted);
-        assert_eq!(rt; seen.as_slice(), want);
+    for (request, want) in REQUESTS {
+        assert_eq!(rt; seen_after(rt.alloc(), request)?.as_slice(), want);
     }
     Ok(())
 }

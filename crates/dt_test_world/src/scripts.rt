@@ -1,5 +1,5 @@
 //! Cases that stand in texts: a cluster, its sessions, their events, and what is to come of them.
-use crate::worlds::{kept, told};
+use crate::worlds::{Asked, told};
 use dt_text::put_u64;
 use std::alloc::Global;
 use std::test::Fail;
@@ -161,22 +161,13 @@ impl Play {
     }
 
     /// What comes of it.
-    pub fn told(&self, alloc: Global) -> Result<Vec<u8>, Fail> {
+    pub fn told(&self, alloc: Global, asked: Asked) -> Result<Vec<u8>, Fail> {
         told(
             alloc,
             self.cluster.bytes.as_slice(),
             self.workload.bytes.as_slice(),
             self.events.tried.bytes.as_slice(),
-        )
-    }
-
-    /// What the regions keep of its events.
-    pub fn kept(&self, alloc: Global) -> Result<Vec<u8>, Fail> {
-        kept(
-            alloc,
-            self.cluster.bytes.as_slice(),
-            self.workload.bytes.as_slice(),
-            self.events.tried.bytes.as_slice(),
+            asked,
         )
     }
 }

@@ -15,26 +15,6 @@ fn sessions_of(alloc: Global, workload: &[u8]) -> Result<Sessions, Fail> {
     Ok(Sessions::new(alloc, &workload, 0, cluster.tries)?)
 }
 
-/// The names of the sessions, a space behind each.
-fn names(alloc: Global, workload: &[u8]) -> Result<Vec<u8>, Fail> {
-    let sessions = sessions_of(alloc, workload)?;
-    let mut names = Vec::new(alloc);
-    for index in 0..4 {
-        if let Some(name) = sessions.name(index) {
-            names.extend_from_slice(name.bytes())?;
-            names.push(b' ')?;
-        }
-    }
-    Ok(names)
-}
-
-#[test]
-fn sessions_stand_in_the_order_of_their_names(rt: HostRuntime) -> Result<(), Fail> {
-    let workload = b"session y at 0\ncall put \"b\" 1\nsession z at 1\nsession x at 0\n";
-    assert_eq!(rt; names(rt.alloc(), workload)?.as_slice(), b"x y ".as_slice());
-    Ok(())
-}
-
 /// The name of these bytes.
 fn name_of(alloc: Global, bytes: &[u8]) -> Result<Name, Fail> {
     if bytes.len() > Name::LONGEST {
@@ -61,23 +41,46 @@ fn answer(alloc: Global, sessions: &mut Sessions, name: &Name) -> Result<(), Fai
     Ok(())
 }
 
-/// A session submits its next call, and is answered.
-fn make_call(alloc: Global, sessions: &mut Sessions, name: &[u8]) -> Result<(), Fail> {
-    let name = name_of(alloc, name)?;
-    submit(sessions, &name, 1)?;
-    if sessions.all_answered() {
-        return Err(Fail::from("a session that waits is not answered"));
-    }
-    answer(alloc, sessions, &name)
+/// What happens to a session of this name: it submits its next call, which gets the id of this number, or it is answered.
+#[derive(Clone, Copy)]
+enum Step {
+    Submits(&'static [u8], u32),
+    IsAnswered(&'static [u8]),
 }
 
-/// Whether all are answered after these sessions made calls one after another.
-fn are_answered(alloc: Global, workload: &[u8], callers: &[&[u8]]) -> Result<bool, Fail> {
-    let mut sessions = sessions_of(alloc, workload)?;
-    for name in callers {
-        make_call(alloc, &mut sessions, name)?;
+/// Makes one step.
+fn make(alloc: Global, sessions: &mut Sessions, step: Step) -> Result<(), Fail> {
+    match step {
+        Step::Submits(name, seq) => submit(sessions, &name_of(alloc, name)?, seq),
+        Step::IsAnswered(name) => answer(alloc, sessions, &name_of(alloc, name)?),
     }
-    Ok(sessions.all_answered())
+}
+
+/// What is seen of the sessions: in the order of their names each name, and behind a `:` the number of the attempt that it waits for,
+/// with a space behind it; and at the end whether all are answered.
+fn seen_of(alloc: Global, sessions: &Sessions) -> Result<Vec<u8>, Fail> {
+    let mut seen = Vec::new(alloc);
+    for index in 0..4 {
+        if let Some(name) = sessions.name(index) {
+            seen.extend_from_slice(name.bytes())?;
+        }
+        if let Some(id) = sessions.waits_at(index) {
+            seen.extend_from_slice(format!(in alloc; ":{}.{}", id.seq, id.region)?.as_bytes())?;
+        }
+        seen.push(b' ')?;
+    }
+    let answered = sessions.all_answered();
+    seen.extend_from_slice(format!(in alloc; "{answered}")?.as_bytes())?;
+    Ok(seen)
+}
+
+/// What is seen of the sessions of region 0 after these steps. The sessions are made and dropped here alone.
+fn seen_after(alloc: Global, workload: &[u8], steps: &[Step]) -> Result<Vec<u8>, Fail> {
+    let mut sessions = sessions_of(alloc, workload)?;
+    for step in steps {
+        make(alloc, &mut sessions, *step)?;
+    }
+    seen_of(alloc, &sessions)
 }
 
 /// A session with a call.
@@ -87,48 +90,82 @@ const ONE: &[u8] = b"session x at 0\ncall get \"b\"\n";
 const TWO: &[u8] =
     b"session y at 0\ncall get \"b\"\ncall get \"b\"\nsession x at 0\ncall get \"b\"\nsession z at 1\ncall get \"b\"\n";
 
-/// Sessions, those that make calls, one after another, and whether all are answered then.
-const CALLERS: [(&[u8], &[&[u8]], bool); 8] = [
-    (b"", &[], true),
-    (b"session x at 0\n", &[], true),
-    (b"session z at 1\ncall get \"b\"\n", &[], true),
-    (ONE, &[], false),
-    (ONE, &[b"x"], true),
-    (TWO, &[b"y", b"y"], false),
-    (TWO, &[b"x", b"y"], false),
-    (TWO, &[b"y", b"x", b"y"], true),
+/// Sessions, steps of theirs, and what is seen then.
+const CASES: [(&[u8], &[Step], &[u8]); 14] = [
+    // There are those of the region alone, in the order of their names.
+    (
+        b"session y at 0\ncall put \"b\" 1\nsession z at 1\nsession x at 0\n",
+        &[],
+        b"x y   false",
+    ),
+    // All are answered once every call is.
+    (b"", &[], b"    true"),
+    (b"session x at 0\n", &[], b"x    true"),
+    (b"session z at 1\ncall get \"b\"\n", &[], b"    true"),
+    (ONE, &[], b"x    false"),
+    (ONE, &[Step::Submits(b"x", 1)], b"x:1.0    false"),
+    (
+        ONE,
+        &[Step::Submits(b"x", 1), Step::IsAnswered(b"x")],
+        b"x    true",
+    ),
+    // A place shows the attempt that its session waits for.
+    (TWO, &[], b"x y   false"),
+    (TWO, &[Step::Submits(b"y", 7)], b"x y:7.0   false"),
+    (
+        TWO,
+        &[Step::Submits(b"y", 7), Step::Submits(b"x", 8)],
+        b"x:8.0 y:7.0   false",
+    ),
+    (
+        TWO,
+        &[
+            Step::Submits(b"y", 7),
+            Step::Submits(b"x", 8),
+            Step::IsAnswered(b"y"),
+        ],
+        b"x:8.0 y   false",
+    ),
+    (
+        TWO,
+        &[
+            Step::Submits(b"y", 1),
+            Step::IsAnswered(b"y"),
+            Step::Submits(b"y", 2),
+            Step::IsAnswered(b"y"),
+        ],
+        b"x y   false",
+    ),
+    (
+        TWO,
+        &[
+            Step::Submits(b"x", 1),
+            Step::IsAnswered(b"x"),
+            Step::Submits(b"y", 2),
+            Step::IsAnswered(b"y"),
+        ],
+        b"x y   false",
+    ),
+    (
+        TWO,
+        &[
+            Step::Submits(b"y", 1),
+            Step::IsAnswered(b"y"),
+            Step::Submits(b"x", 2),
+            Step::IsAnswered(b"x"),
+            Step::Submits(b"y", 3),
+            Step::IsAnswered(b"y"),
+        ],
+        b"x y   true",
+    ),
 ];
 
 #[test]
-fn all_are_answered_once_every_call_is(rt: HostRuntime) -> Result<(), Fail> {
-    for (workload, callers, want) in CALLERS {
-        assert_eq!(rt; are_answered(rt.alloc(), workload, callers)?, want);
+fn sessions_stand_by_their_names_with_what_they_wait_for_until_all_are_answered(
+    rt: HostRuntime,
+) -> Result<(), Fail> {
+    for (workload, steps, want) in CASES {
+        assert_eq!(rt; seen_after(rt.alloc(), workload, steps)?.as_slice(), want);
     }
-    Ok(())
-}
-
-/// The ids that the sessions wait for, in the order of their names: two there are, and a place behind them.
-fn waited(sessions: &Sessions) -> [Option<TxnId>; 3] {
-    [
-        sessions.waits_at(0),
-        sessions.waits_at(1),
-        sessions.waits_at(2),
-    ]
-}
-
-#[test]
-fn a_place_shows_the_attempt_that_its_session_waits_for(rt: HostRuntime) -> Result<(), Fail> {
-    let alloc = rt.alloc();
-    let mut sessions = sessions_of(alloc, TWO)?;
-    let (x, y) = (name_of(alloc, b"x")?, name_of(alloc, b"y")?);
-    assert_eq!(rt; waited(&sessions), [None, None, None]);
-    submit(&mut sessions, &y, 7)?;
-    let of_y = Some(TxnId { seq: 7, region: 0 });
-    assert_eq!(rt; waited(&sessions), [None, of_y, None]);
-    submit(&mut sessions, &x, 8)?;
-    let of_x = Some(TxnId { seq: 8, region: 0 });
-    assert_eq!(rt; waited(&sessions), [of_x, of_y, None]);
-    answer(alloc, &mut sessions, &y)?;
-    assert_eq!(rt; waited(&sessions), [of_x, None, None]);
     Ok(())
 }

@@ -2,6 +2,7 @@
 use crate::circles::{all_ranks, circle};
 use crate::scripts::{File, Play, Script};
 use crate::tries::tries_of_a_call;
+use crate::worlds::Asked;
 use std::alloc::Global;
 use std::test::Fail;
 
@@ -50,7 +51,7 @@ const LONGEST_NAME: &str =
 /// Whether all comes of the world of this size that is to come of it.
 fn comes_as_wanted(alloc: Global, size: Size) -> Result<bool, Fail> {
     let play = play_of(alloc, size)?;
-    Ok(play.told(alloc)? == play.wanted(alloc)?)
+    Ok(play.told(alloc, Asked::Report)? == play.wanted(alloc)?)
 }
 
 /// Groups that are resolved.

@@ -1,5 +1,5 @@
 //! Worlds whose cluster, workload and events stand in texts.
-ghost use Rattle.std.specs.Prelude.{◌≡◌, length, IfOk, OnOk};
+ghost use Rattle.std.specs.Prelude.{◌≡◌, [], length, IfOk, OnOk};
 ghost use Rattle.dt_cluster.specs.Valid.{IsValidCluster};
 ghost use Rattle.dt_workload.specs.Valid.{IsValidWorkload};
 ghost use Rattle.dt_test_world.specs.Led.{HasLed};
@@ -72,28 +72,29 @@ fn make(
     }
 }
 
-/// A world, the events that led to it, and the line and the rule of each that was refused on the way.
-type Played = (World<PlainSched>, Vec<Event>, Vec<u8>);
-
-/// Makes the events of a file one after another, as far as they are legal.
-fn play(alloc: Global, cluster: &Cluster, workload: &Workload, file: &[u8]) -> Result<Played, Fail>
-    requires cluster { IsValidCluster cluster.now }
-    requires workload { IsValidWorkload cluster.now workload.now }
-    ensures led { IfOk result (λ played. HasLed played.0 played.1.items) }
-    ensures cluster { IfOk result (λ played. played.0.cluster ≡ cluster.now) }
+/// Makes the events of a file one after another in a world before anything happens, as far as they are legal. Gives these, and the
+/// line and the rule of each of the others.
+fn play(
+    world: &mut World<PlainSched>,
+    alloc: Global,
+    file: &[u8],
+) -> Result<(Vec<Event>, Vec<u8>), Fail>
+    requires led { HasLed world.old [] }
+    requires steps { world.old.steps ≡ 0 }
+    ensures led { IfOk result (λ played. HasLed world.new played.0.items) }
+    ensures cluster { OnOk result (world.new.cluster ≡ world.old.cluster) }
 {
     if file.len() >= MANY {
         return Err(Fail::from("a test has few bytes"));
     }
-    let mut world = World::begin(alloc, cluster, workload)?;
     let mut made = Vec::new(alloc);
-    let mut told = Vec::new(alloc);
+    let mut refused = Vec::new(alloc);
     for (line, event) in read_events(alloc, file)? {
-        if let Some(rule) = make(&mut world, alloc, &mut made, event)? {
-            put_refused(alloc, &mut told, line, rule)?;
+        if let Some(rule) = make(world, alloc, &mut made, event)? {
+            put_refused(alloc, &mut refused, line, rule)?;
         }
     }
-    Ok((world, made, told))
+    Ok((made, refused))
 }
 
 /// Adds the line of an event and the rule by which it is refused.
@@ -103,33 +104,54 @@ pub fn put_refused(alloc: Global, told: &mut Vec<u8>, line: u32, rule: u8) -> Re
     Ok(())
 }
 
-/// What comes of events on a cluster and its workload: the line and the rule of each that is refused, and the report of the others.
+/// What is asked of a world after its events.
+#[derive(Clone, Copy)]
+pub enum Asked {
+    /// The line and the rule of each event that was refused, and the report of the others.
+    Report,
+    /// What each region keeps of them, a line each, behind a line with its number.
+    Kept,
+}
+
+/// What comes of events on a cluster and its workload. The world is made and dropped here alone.
 pub fn told(
     alloc: Global,
     cluster: &[u8],
     workload: &[u8],
     events: &[u8],
+    asked: Asked,
 ) -> Result<Vec<u8>, Fail> {
     let cluster = cluster_of(alloc, cluster)?;
     let workload = workload_of(alloc, &cluster, workload)?;
-    let (world, made, mut told) = play(alloc, &cluster, &workload, events)?;
+    let mut world = World::begin(alloc, &cluster, &workload)?;
+    let (made, refused) = play(&mut world, alloc, events)?;
+    match asked {
+        Asked::Report => reported(alloc, &world, made, refused),
+        Asked::Kept => kept(alloc, &world, cluster.regions),
+    }
+}
+
+/// The report of the events that led to a world, behind these lines.
+fn reported(
+    alloc: Global,
+    world: &World<PlainSched>,
+    made: Vec<Event>,
+    lines: Vec<u8>,
+) -> Result<Vec<u8>, Fail>
+    requires { HasLed world.now made.items }
+{
     let report = world.report(alloc, made)?;
+    let mut told = lines;
     told.extend_from_slice(print(alloc, &report)?.as_slice())?;
     Ok(told)
 }
 
-/// What each region keeps of these events, a line each, behind a line with its number.
-pub fn kept(
-    alloc: Global,
-    cluster: &[u8],
-    workload: &[u8],
-    events: &[u8],
-) -> Result<Vec<u8>, Fail> {
-    let cluster = cluster_of(alloc, cluster)?;
-    let workload = workload_of(alloc, &cluster, workload)?;
-    let (world, _, _) = play(alloc, &cluster, &workload, events)?;
+/// What each of n regions keeps, a line each, behind a line with its number.
+fn kept(alloc: Global, world: &World<PlainSched>, regions: u8) -> Result<Vec<u8>, Fail>
+    requires { regions ≡ world.now.cluster.regions }
+{
     let mut told = Vec::new(alloc);
-    for region in 0..cluster.regions {
+    for region in 0..regions {
         told.extend_from_slice(format!(in alloc; "region {region}\n")?.as_bytes())?;
         for kept in world.kept(region) {
             put_event(alloc, &mut told, &kept.event)?;
