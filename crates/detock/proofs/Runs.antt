@@ -16,7 +16,7 @@ use Rattle.detock.specs.Tasks.{Run}
 use Rattle.detock.specs.Loading.{Loaded}
 use Rattle.detock.specs.Headline.{BigRun, Headline}
 use Rattle.detock.specs.RefusalCode.{IsReportOfRun, IsSummaryOfRun, IsTextOfRun}
-use Rattle.detock.proofs.Refused.{headline_of}
+use Rattle.detock.proofs.TextOrRefusal.{headline_of}
 
 module _ (cluster : Cluster) (workload : Workload) (report : Report) (is : IsReportOfRun cluster workload report) where
   -- the text of such a report makes the headline true

@@ -203,8 +203,8 @@ fn shown(run: &[u8]) -> [u8; RUN]
     ensures { take (length run.now) result ≡ map visible_byte run.now }
 {
     let mut shown = [b'?'; RUN];
-    for place in 0..run.len() {
-        shown[place] = visible_byte(run[place]);
+    for (place, byte) in run.iter().enumerate() {
+        shown[place] = visible_byte(*byte);
     }
     shown
 }

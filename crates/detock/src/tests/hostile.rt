@@ -1,7 +1,6 @@
-//! Files whose loads fail, that are cut, too long or hold one thing too many, and sinks that fail in the middle.
+//! Files that are cut, too long or hold one thing too many, and sinks that fail in the middle.
 use super::{
-    AMPLE, ONE_PUT, ONE_PUT_EVENTS, ONE_PUT_REPORT, SHOP, SHOP_CALLS, call, file_of, folder_of,
-    refused, reported,
+    AMPLE, ONE_PUT, ONE_PUT_EVENTS, ONE_PUT_REPORT, call, folder_of, refused, reported,
 };
 use dt_outside::MemoryFolder;
 use std::alloc::Global;
@@ -11,26 +10,6 @@ use std::thread::Threads;
 
 /// The bytes that the report of one put has.
 const REPORT_BYTES: u64 = 140;
-
-/// Whether a run of the shop reports the word whose load fails, and writes nothing.
-fn each_failing_load_is_told<R: Threads + Wait + Sync>(
-    rt: &R,
-    alloc: Global,
-) -> Result<bool, Fail> {
-    let cluster = file_of(alloc, SHOP)?;
-    let workload = file_of(alloc, SHOP_CALLS)?;
-    let texts = [("c", cluster.as_slice()), ("w", workload.as_slice())];
-    let mut holds = true;
-    for (load, line) in [
-        (1u64, "detock: cannot read word 2\n"),
-        (2, "detock: cannot read word 3\n"),
-    ] {
-        let files = folder_of(alloc, &texts, &[load])?;
-        let told = call(rt, alloc, &["run", "c", "w"], files, (AMPLE, AMPLE))?;
-        holds = holds && told == refused(alloc, 3, line)?;
-    }
-    Ok(holds)
-}
 
 /// How the replay of one put with these events ends, with this much room in `out` and in `err`.
 fn one_put<R: Threads + Wait + Sync>(
@@ -65,56 +44,71 @@ fn each_room_holds_what_fits<R: Threads + Wait + Sync>(
     Ok(holds && told == whole)
 }
 
-/// Whether a fault line is cut where `err` has room for five bytes, and the status is as with more.
-fn a_fault_line_is_cut<R: Threads + Wait + Sync>(rt: &R, alloc: Global) -> Result<bool, Fail> {
-    let told = one_put(
-        rt,
-        alloc,
+/// Events of one put, the room in `out` and in `err`, and how their replay ends.
+const SMALL_ROOMS: [(&[u8], (u64, u64), &[u8]); 2] = [
+    // A fault of `err` changes no status.
+    (
+        ONE_PUT_EVENTS,
+        (40, 8),
+        b"7 detock: |replies\nreply a 1 done\norder\n1.0 a 1 1 d",
+    ),
+    // A fault line is cut where there is no more room.
+    (
         b"submit 0 a\nappend 0 0 0\nexecute 0 1.0\n",
         (AMPLE, 5),
-    )?;
-    Ok(told.as_slice() == b"6 detoc|".as_slice())
-}
-
-/// Two lengths and a line: events that are cut at a length from the first to the second have this line faulty.
-const CUT_IN_A_LINE: [(usize, usize, u32); 5] = [
-    (1, 9, 1),
-    (12, 22, 2),
-    (25, 33, 3),
-    (36, 47, 4),
-    (50, 58, 5),
+        b"6 detoc|",
+    ),
 ];
 
-/// The lengths at which events that are cut there have no faulty line.
-const CUT_BEHIND_AN_EVENT: [usize; 11] = [0, 10, 11, 23, 24, 34, 35, 48, 49, 59, 60];
-
-/// Whether events that are cut in a line have that line reported.
-fn each_cut_in_a_line_is_told<R: Threads + Wait + Sync>(
+/// Whether each small room is filled.
+fn each_small_room_is_filled<R: Threads + Wait + Sync>(
     rt: &R,
     alloc: Global,
 ) -> Result<bool, Fail> {
     let mut holds = true;
-    for (first, last, line) in CUT_IN_A_LINE {
-        let fault = format!(in alloc; "detock: events line {line}: no event\n")?;
-        let want = refused(alloc, 6, fault.as_str())?;
-        for length in first..=last {
-            let events = ONE_PUT_EVENTS.get(..length).unwrap_or_default();
-            holds = holds && one_put(rt, alloc, events, (AMPLE, AMPLE))? == want;
-        }
+    for (events, room, want) in SMALL_ROOMS {
+        holds = holds && one_put(rt, alloc, events, room)?.as_slice() == want;
     }
     Ok(holds)
 }
 
-/// Whether events that are cut behind an event are reported.
-fn each_cut_behind_an_event_is_done<R: Threads + Wait + Sync>(
+/// Two lengths: the line that is faulty in events that are cut at a length from the first to the second, or none, where that is behind
+/// an event.
+const CUTS: [(usize, usize, Option<u32>); 11] = [
+    (0, 0, None),
+    (1, 9, Some(1)),
+    (10, 11, None),
+    (12, 22, Some(2)),
+    (23, 24, None),
+    (25, 33, Some(3)),
+    (34, 35, None),
+    (36, 47, Some(4)),
+    (48, 49, None),
+    (50, 58, Some(5)),
+    (59, 60, None),
+];
+
+/// Whether events that end so are those that have this faulty line, or else those of which there is a report.
+fn ends_by(alloc: Global, told: &[u8], faulty: Option<u32>) -> Result<bool, Fail> {
+    let Some(line) = faulty else {
+        return Ok(told.starts_with(b"0 |replies\n"));
+    };
+    let fault = format!(in alloc; "detock: events line {line}: no event\n")?;
+    Ok(told == refused(alloc, 6, fault.as_str())?.as_slice())
+}
+
+/// Whether events that are cut end by the line in which they are cut.
+fn each_cut_ends_by_its_line<R: Threads + Wait + Sync>(
     rt: &R,
     alloc: Global,
 ) -> Result<bool, Fail> {
     let mut holds = true;
-    for length in CUT_BEHIND_AN_EVENT {
-        let events = ONE_PUT_EVENTS.get(..length).unwrap_or_default();
-        let told = one_put(rt, alloc, events, (AMPLE, AMPLE))?;
-        holds = holds && told.starts_with(b"0 |replies\n");
+    for (first, last, faulty) in CUTS {
+        for length in first..=last {
+            let events = ONE_PUT_EVENTS.get(..length).unwrap_or_default();
+            let told = one_put(rt, alloc, events, (AMPLE, AMPLE))?;
+            holds = holds && ends_by(alloc, told.as_slice(), faulty)?;
+        }
     }
     Ok(holds)
 }
@@ -218,17 +212,12 @@ fn each_thing_too_many_is_told<R: Threads + Wait + Sync>(
 }
 
 #[test]
-fn failing_and_cut_files_and_sinks_end_by_their_causes(rt: HostRuntime) -> Result<(), Fail> {
+fn cut_and_long_files_and_small_sinks_end_by_their_causes(rt: HostRuntime) -> Result<(), Fail> {
     let alloc = rt.alloc();
     let answers = [
-        ("loads", each_failing_load_is_told(&rt, alloc)?),
         ("rooms", each_room_holds_what_fits(&rt, alloc)?),
-        ("a fault line", a_fault_line_is_cut(&rt, alloc)?),
-        ("cuts in a line", each_cut_in_a_line_is_told(&rt, alloc)?),
-        (
-            "cuts behind an event",
-            each_cut_behind_an_event_is_done(&rt, alloc)?,
-        ),
+        ("small rooms", each_small_room_is_filled(&rt, alloc)?),
+        ("cuts", each_cut_ends_by_its_line(&rt, alloc)?),
         ("long files", each_long_file_is_told(&rt, alloc)?),
         ("things too many", each_thing_too_many_is_told(&rt, alloc)?),
     ];

@@ -1,6 +1,5 @@
 //! Replays of workloads with moves: what becomes stale, what is tried again, and what is refused.
-use super::replays::{Case, told, wanted};
-use std::test::Fail;
+use super::replays::Case;
 
 /// A move of a key, and a put of it by another session.
 const MOVED: &[&str] = &[
@@ -95,19 +94,10 @@ const CROSSED_BEGIN: &[&str] = &[
     "insert 0 1",
 ];
 
-/// A cluster whose rows `b/1` and `b/2` are one granule, which moves as one.
-const GRANULES: &[&str] = &[
-    "regions = 2",
-    "version = 2",
-    "[rows]",
-    "\"b/1\" = 10",
-    "\"b/2\" = 20",
-];
-
-/// The same rows, where each key moves by itself.
+/// A cluster whose rows `b/1` and `b/2` move each by itself.
 const SINGLE_KEYS: &[&str] = &["regions = 2", "[rows]", "\"b/1\" = 10", "\"b/2\" = 20"];
 
-/// A move of `b`, and an addition to one of the rows of that granule.
+/// A move of `b`, and an addition to one of these rows.
 const ROW_MOVED: &[&str] = &[
     "session m at 0",
     "move b to 1",
@@ -116,7 +106,7 @@ const ROW_MOVED: &[&str] = &[
 ];
 
 /// Replays with moves.
-const CASES: [Case; 13] = [
+pub(super) const CASES: &[Case] = &[
     Case {
         shows: "a stale attempt is made again and succeeds",
         cluster: &[":2"],
@@ -255,38 +245,6 @@ const CASES: [Case; 13] = [
         told: &["detock: events line 12: rule 1"],
     },
     Case {
-        shows: "the move of a granule takes along its rows",
-        cluster: GRANULES,
-        workload: ROW_MOVED,
-        events: MOVED_BEGIN,
-        then: &[
-            "submit 0 p",
-            "append 1 0 1",
-            "deliver 0 1 1 2",
-            "insert 0 1",
-            "execute 0 3.0",
-            "answer 0 m",
-            "answer 0 p",
-        ],
-        exit: 0,
-        told: &[
-            "replies",
-            "reply m 1 done",
-            "reply p 1 done 25",
-            "order",
-            "1.0 m 1 1 done",
-            "2.0 p 1 1 stale b had 0 by 1.0",
-            "3.0 p 1 2 done 25",
-            "table 0",
-            "b = none home 1 moves 1",
-            "b/1 = 10 home 1 moves 1",
-            "b/2 = 25 home 1 moves 1",
-            "table 1",
-            "b/1 = 10 home 0 moves 0",
-            "b/2 = 20 home 0 moves 0",
-        ],
-    },
-    Case {
         shows: "the move of a key takes along no other key",
         cluster: SINGLE_KEYS,
         workload: ROW_MOVED,
@@ -314,16 +272,3 @@ const CASES: [Case; 13] = [
         ],
     },
 ];
-
-#[test]
-fn moves_make_attempts_stale_which_are_tried_again(rt: HostRuntime) -> Result<(), Fail> {
-    for case in CASES {
-        assert_eq!(rt;
-            told(&rt, rt.alloc(), &case)?,
-            wanted(rt.alloc(), &case)?,
-            "{}",
-            case.shows
-        );
-    }
-    Ok(())
-}

@@ -1,5 +1,5 @@
 //! Replays: what events come to, and the first fault in them.
-use super::{file_of, replay, reported};
+use super::{file_of, moves, replay, reported};
 use std::alloc::Global;
 use std::sync::Wait;
 use std::test::Fail;
@@ -140,7 +140,7 @@ const CIRCLE_BEGIN: &[&str] = &[
 ];
 
 /// Replays.
-const CASES: [Case; 19] = [
+const CASES: &[Case] = &[
     Case {
         shows: "nothing is reported of nothing",
         cluster: &[":1"],
@@ -485,7 +485,7 @@ fn events_of(alloc: Global, case: &Case) -> Result<Vec<u8>, Fail> {
 }
 
 /// How a case is to end.
-pub(super) fn wanted(alloc: Global, case: &Case) -> Result<Vec<u8>, Fail> {
+fn wanted(alloc: Global, case: &Case) -> Result<Vec<u8>, Fail> {
     if case.exit == 0 {
         return reported(alloc, case.told, events_of(alloc, case)?.as_slice());
     }
@@ -498,7 +498,7 @@ pub(super) fn wanted(alloc: Global, case: &Case) -> Result<Vec<u8>, Fail> {
 }
 
 /// How a case ends.
-pub(super) fn told<R: Threads + Wait + Sync>(
+fn told<R: Threads + Wait + Sync>(
     rt: &R,
     alloc: Global,
     case: &Case,
@@ -517,13 +517,15 @@ pub(super) fn told<R: Threads + Wait + Sync>(
 
 #[test]
 fn replays_end_with_a_report_or_with_the_first_fault(rt: HostRuntime) -> Result<(), Fail> {
-    for case in CASES {
-        assert_eq!(rt;
-            told(&rt, rt.alloc(), &case)?,
-            wanted(rt.alloc(), &case)?,
-            "{}",
-            case.shows
-        );
+    for cases in [CASES, moves::CASES] {
+        for case in cases {
+            assert_eq!(rt;
+                told(&rt, rt.alloc(), case)?,
+                wanted(rt.alloc(), case)?,
+                "{}",
+                case.shows
+            );
+        }
     }
     Ok(())
 }

@@ -1,5 +1,5 @@
 //! Runs: all regions at once, which make the events themselves.
-use super::{AMPLE, SHOP, SHOP_CALLS, call, file_of, folder_of, refused, words_of};
+use super::{AMPLE, SHOP, SHOP_CALLS, call, file_of, folder_of, words_of};
 use crate::words::threaded_words;
 use std::alloc::Global;
 use std::sync::Wait;
@@ -188,45 +188,6 @@ fn a_big_run_tells_its_calls_its_answers_and_its_sum(rt: HostRuntime) -> Result<
     let told = call(&rt, rt.alloc(), &["big", "1"], files, (AMPLE, AMPLE))?;
     let want = b"0 |calls 1\nanswers 1\nsum 100000\n".as_slice();
     assert_eq!(rt; told.as_slice(), want);
-    Ok(())
-}
-
-/// The files of a cluster and of a workload, and the fault that a run of them reports.
-const REFUSED: [(&str, &str, u8, &str); 4] = [
-    (
-        "regions = 9\n",
-        "no line\n",
-        4,
-        "detock: cluster regions: out of range\n",
-    ),
-    (
-        "regions =\n",
-        "session a at 0\n",
-        4,
-        "detock: cluster: no toml\n",
-    ),
-    (
-        "regions = 2\n",
-        "session a at 0\ncall nope 1\n",
-        5,
-        "detock: workload line 2: unknown procedure\n",
-    ),
-    (
-        "regions = 2\n",
-        "session a at 2\n",
-        5,
-        "detock: workload line 1: no region\n",
-    ),
-];
-
-#[test]
-fn a_run_tells_the_first_fault_of_the_first_file(rt: HostRuntime) -> Result<(), Fail> {
-    for (cluster, workload, exit, line) in REFUSED {
-        let texts = [("c", cluster.as_bytes()), ("w", workload.as_bytes())];
-        let files = folder_of(rt.alloc(), &texts, &[])?;
-        let told = call(&rt, rt.alloc(), &["run", "c", "w"], files, (AMPLE, AMPLE))?;
-        assert_eq!(rt; told, refused(rt.alloc(), exit, line)?);
-    }
     Ok(())
 }
 

@@ -1,5 +1,5 @@
 use Rattle.std.proofs.Common.{inl, inr}
-use Rattle.detock.proofs.Longer.{longer}
+use Rattle.detock.proofs.FilesAboveLimit.{longer}
 use Rattle.detock.proofs.files.load.Goals as goal
 
 pub returns-in-Err-TooLong-clause-refused : goal.returns-in-Err-TooLong-clause-refused

@@ -1,7 +1,7 @@
 use Rattle.std.proofs.Common.{◌≡◌, Err}
 use Rattle.std.proofs.lemmas.Result.{err_from_is_err_and}
 use Rattle.detock.specs.TaskCode.{word_of}
-use Rattle.detock.proofs.Refused.{KeepsFiles, no_cluster, no_workload, passed_on}
+use Rattle.detock.proofs.TextOrRefusal.{KeepsFiles, no_cluster, no_workload, passed_on}
 use Rattle.detock.proofs.files.load_both.Goals as goal
 
 pub returns-in_err-cluster-clause-refused : goal.returns-in_err-cluster-clause-refused

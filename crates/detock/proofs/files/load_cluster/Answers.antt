@@ -1,6 +1,6 @@
 use Rattle.std.proofs.Common.{subst}
 use Rattle.detock.specs.TaskCode.{IsRight}
-use Rattle.detock.proofs.Refused.{in_cluster_file}
+use Rattle.detock.proofs.TextOrRefusal.{in_cluster_file}
 use Rattle.detock.proofs.files.load_cluster.Goals as goal
 
 pub returns-in-File-clause-refused : goal.returns-in-File-clause-refused

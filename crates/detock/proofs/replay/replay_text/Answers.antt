@@ -3,7 +3,7 @@ use Rattle.std.proofs.lemmas.Result.{err_from_is_err_and}
 use Rattle.dt_outside.specs.Folder.{Files}
 use Rattle.detock.specs.TaskCode.{asked_for, word_of}
 use Rattle.detock.specs.Loading.{HasFile, HoldEvents, Loaded}
-use Rattle.detock.proofs.Refused.{KeepsFiles, no_events, no_size, not_loaded, passed_on, refused_text, replayed_text}
+use Rattle.detock.proofs.TextOrRefusal.{KeepsFiles, no_events, no_size, not_loaded, passed_on, refused_text, replayed_text}
 use Rattle.detock.proofs.replay.replay_text.Goals as goal
 
 pub returns-in_err-cluster : goal.returns-in_err-cluster

@@ -2,7 +2,7 @@ use Rattle.std.proofs.Common.{◌≡◌, Err, Ok, refl}
 use Rattle.std.proofs.lemmas.Result.{err_from_is_err_and}
 use Rattle.detock.specs.TaskCode.{run_asked_for, word_of}
 use Rattle.detock.specs.Loading.{Loaded}
-use Rattle.detock.proofs.Refused.{made_text, no_run_size, not_loaded, passed_on, refused_text}
+use Rattle.detock.proofs.TextOrRefusal.{made_text, no_run_size, not_loaded, passed_on, refused_text}
 use Rattle.detock.proofs.Runs.{text_headline}
 use Rattle.detock.proofs.run.run_text.Goals as goal
 

@@ -1,6 +1,6 @@
 use Rattle.detock.specs.TaskCode.{threaded_asked_for}
 use Rattle.detock.specs.Tasks.{word_bytes}
-use Rattle.detock.proofs.Coming.{comes_by}
+use Rattle.detock.proofs.StatusCauses.{comes_by}
 use Rattle.detock.proofs.top.detock.Goals as goal
 
 pub returns-clause-comes : goal.returns-clause-comes

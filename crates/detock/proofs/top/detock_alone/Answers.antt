@@ -1,5 +1,5 @@
 use Rattle.detock.specs.Tasks.{word_bytes}
-use Rattle.detock.proofs.Coming.{comes_asked}
+use Rattle.detock.proofs.StatusCauses.{comes_asked}
 use Rattle.detock.proofs.top.detock_alone.Goals as goal
 
 pub returns-clause-comes : goal.returns-clause-comes

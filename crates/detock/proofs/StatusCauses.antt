@@ -9,7 +9,7 @@ use Rattle.detock.specs.Tasks.{Task, Replay, Run, Big, Asks}
 use Rattle.detock.specs.Headline.{Headline, IsDone}
 use Rattle.detock.specs.Answers.{Comes}
 use Rattle.detock.specs.RefusalCode.{EndsBy, IsAskedFor, IsRefusal, IsTextOf, HasNoTask}
-use Rattle.detock.proofs.Due.{done_due, one_task, refusal_due, words_due}
+use Rattle.detock.proofs.OneStatus.{done_due, one_task, refusal_due, words_due}
 
 -- what was written of a report's text, and what follows of it
 headline_more : (told : _) (task : Task) (P Q : Bytes → Type 0) → ((text : Bytes) → P text → Q text) → Headline told task P → Headline told task Q

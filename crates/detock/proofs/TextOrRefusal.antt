@@ -1,4 +1,4 @@
--- What is answered as a whole, from what its parts answered.
+-- The text that a task asks for, or why there is none: what is answered as a whole, from what its parts answered.
 use Rattle.std.proofs.Common.{◌≡◌, ℕ, ◌≤◌, List, Option, Some, IsSomeAnd, Result, Ok, Err, IfOk, Vec, inl, inr, arith, refl, sym, subst}
 use Rattle.dt_access.specs.Clash.{Bytes}
 use Rattle.dt_outside.specs.Folder.{Files, FolderView}
