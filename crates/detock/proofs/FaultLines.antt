@@ -3,7 +3,7 @@ use Rattle.std.proofs.Common.{◌≡◌, ℕ, ◌+◌, ◌<◌, List, [], ◌∷
 use Rattle.std.proofs.lemmas.List.{map-append, take_more, take_more_set}
 use Rattle.std.specs.Fmt.{decimal}
 use Rattle.dt_access.specs.Clash.{Bytes}
-use Rattle.dt_cluster.specs.declared.ClusterFault.{ClusterFault}
+use Rattle.dt_cluster_file.specs.declared.ClusterFault.{ClusterFault}
 use Rattle.dt_workload.specs.declared.WorkloadCause.{WorkloadCause}
 use Rattle.detock.specs.LineCode.{cluster_end, events_end, workload_end}
 use Rattle.detock.specs.Statuses.{cause_text, cluster_text, fault_line, place_text, workload_text}

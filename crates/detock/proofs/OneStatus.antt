@@ -7,11 +7,12 @@ use Rattle.dt_outside.specs.Folder.{Files, FolderView}
 use Rattle.dt_events.specs.declared.Event.{Event}
 use Rattle.dt_events.proofs.Callers.{no_fault as no_form_fault, one_fault as one_form_fault, one_list}
 use Rattle.dt_cluster.specs.declared.Cluster.{Cluster}
-use Rattle.dt_cluster.specs.declared.ClusterFault.{ClusterFault}
+use Rattle.dt_cluster_file.specs.declared.ClusterFault.{ClusterFault}
 use Rattle.dt_cluster.specs.Builtin.{builtin_cluster}
 use Rattle.dt_cluster.specs.Valid.{IsValidCluster}
-use Rattle.dt_cluster.proofs.Callers.{one_cluster, no_fault as no_cluster_fault, one_fault as one_cluster_fault}
-use Rattle.dt_cluster.proofs.Callers.{cluster_valid, builtin_valid}
+use Rattle.dt_cluster_file.proofs.Callers.{one_cluster, no_fault as no_cluster_fault, one_fault as one_cluster_fault}
+use Rattle.dt_cluster.proofs.Callers.{builtin_valid}
+use Rattle.dt_cluster_file.proofs.Callers.{cluster_valid}
 use Rattle.dt_workload.specs.declared.Workload.{Workload}
 use Rattle.dt_workload.specs.declared.WorkloadCause.{WorkloadCause}
 use Rattle.dt_workload.proofs.Callers.{one_workload, no_workload_fault, one_workload_fault}

@@ -8,7 +8,7 @@ use Rattle.dt_access.specs.Clash.{Bytes}
 use Rattle.dt_outside.specs.Faults.{Rose}
 use Rattle.dt_outside.specs.Folder.{FolderView}
 use Rattle.dt_outside.specs.Sink.{SinkView, Adds, AddsPrefix}
-use Rattle.dt_cluster.specs.declared.ClusterFault.{ClusterFault}
+use Rattle.dt_cluster_file.specs.declared.ClusterFault.{ClusterFault}
 use Rattle.dt_workload.specs.declared.WorkloadCause.{WorkloadCause}
 use Rattle.detock.specs.declared.status.Status.{Status}
 use Rattle.detock.specs.declared.status.Status.TheVariants.{Done, NoMemory, BadWords, CannotRead, BadCluster, BadWorkload, BadEvents, CannotWrite}

@@ -11,10 +11,10 @@ use Rattle.dt_outside.specs.Folder.{Files, FolderView, MissedLast}
 use Rattle.dt_events.specs.declared.Event.{Event}
 use Rattle.dt_events.specs.Events.{FirstWithoutForm}
 use Rattle.dt_cluster.specs.declared.Cluster.{Cluster}
-use Rattle.dt_cluster.specs.declared.ClusterFault.{ClusterFault}
-use Rattle.dt_cluster.specs.declared.error.ClusterCause.TheVariants as cluster_cause
-use Rattle.dt_cluster.specs.declared.error.ClusterPlace.TheVariants.{Whole}
-use Rattle.dt_cluster.specs.File.{IsClusterFault}
+use Rattle.dt_cluster_file.specs.declared.ClusterFault.{ClusterFault}
+use Rattle.dt_cluster_file.specs.declared.error.ClusterCause.TheVariants as cluster_cause
+use Rattle.dt_cluster_file.specs.declared.error.ClusterPlace.TheVariants.{Whole}
+use Rattle.dt_cluster_file.specs.File.{IsClusterFault}
 use Rattle.dt_workload.specs.declared.Workload.{Workload}
 use Rattle.dt_workload.specs.declared.WorkloadCause.{WorkloadCause}
 use Rattle.dt_workload.specs.declared.error.WorkloadCause.TheVariants as workload_cause

@@ -4,7 +4,7 @@
 -- Statuses, for the lines themselves.
 use Rattle.std.specs.Prelude.{[], ◌∷◌, ◌++◌, codes}
 use Rattle.dt_access.specs.Clash.{Bytes}
-use Rattle.dt_cluster.specs.declared.ClusterCause.{ClusterCause}
+use Rattle.dt_cluster_file.specs.declared.ClusterCause.{ClusterCause}
 use Rattle.dt_workload.specs.declared.WorkloadCause.{WorkloadCause}
 use Rattle.detock.specs.Statuses.{cause_text, cluster_text, workload_text}
 use Rattle.detock.specs.declared.status.EventsCause.{EventsCause}

@@ -10,7 +10,7 @@ use Rattle.dt_events.specs.declared.Event.{Event}
 use Rattle.dt_events.specs.Events.{AreEvents}
 use Rattle.dt_cluster.specs.declared.Cluster.{Cluster}
 use Rattle.dt_cluster.specs.Builtin.{builtin_cluster}
-use Rattle.dt_cluster.specs.File.{IsCluster}
+use Rattle.dt_cluster_file.specs.File.{IsCluster}
 use Rattle.dt_workload.specs.declared.Workload.{Workload}
 use Rattle.dt_workload.specs.File.{IsWorkload}
 use Rattle.detock.specs.Tasks.{Task, IsBuiltin, IsClusterFile, builtin_word, cluster_word, workload_word, events_word}

@@ -8,10 +8,10 @@ use Rattle.std.specs.Fmt.{decimal}
 use Rattle.std.specs.declared.io.ErrorKind.{ErrorKind}
 use Rattle.std.specs.declared.io.ErrorKind.TheVariants.{OutOfMemory, InvalidData}
 use Rattle.dt_access.specs.Clash.{Bytes}
-use Rattle.dt_cluster.specs.declared.ClusterPlace.{ClusterPlace}
-use Rattle.dt_cluster.specs.declared.error.ClusterPlace.TheVariants as place
-use Rattle.dt_cluster.specs.declared.ClusterCause.{ClusterCause}
-use Rattle.dt_cluster.specs.declared.error.ClusterCause.TheVariants as cluster
+use Rattle.dt_cluster_file.specs.declared.ClusterPlace.{ClusterPlace}
+use Rattle.dt_cluster_file.specs.declared.error.ClusterPlace.TheVariants as place
+use Rattle.dt_cluster_file.specs.declared.ClusterCause.{ClusterCause}
+use Rattle.dt_cluster_file.specs.declared.error.ClusterCause.TheVariants as cluster
 use Rattle.dt_workload.specs.declared.WorkloadCause.{WorkloadCause}
 use Rattle.dt_workload.specs.declared.error.WorkloadCause.TheVariants as workload
 use Rattle.detock.specs.declared.status.Status.{Status}

@@ -6,7 +6,7 @@ ghost use Rattle.detock.specs.LineCode.{cluster_end, events_end, workload_end};
 ghost use Rattle.detock.specs.Statuses.{fault_line, place_text, visible_byte};
 
 use crate::status::{EventsCause, Status};
-use dt_cluster::{ClusterCause, ClusterFault, ClusterPlace};
+use dt_cluster_file::{ClusterCause, ClusterFault, ClusterPlace};
 use dt_outside::{Failed, Sink, write_all};
 use dt_workload::WorkloadCause;
 use itoa::Buffer;

@@ -8,9 +8,8 @@ ghost use Rattle.detock.specs.RefusalCode.{IsClusterRefusal, IsEventsRefusal, Is
 
 use crate::status::{EventsCause, Status};
 use crate::words::ClusterWord;
-use dt_cluster::{
-    Cluster, ClusterCause, ClusterError, ClusterFault, ClusterPlace, builtin, read_cluster,
-};
+use dt_cluster::{Cluster, builtin};
+use dt_cluster_file::{ClusterCause, ClusterError, ClusterFault, ClusterPlace, read_cluster};
 use dt_events::{Event, EventsError, read_events};
 use dt_outside::{Folder, LoadError};
 use dt_workload::{Workload, WorkloadCause, WorkloadError, read_workload};

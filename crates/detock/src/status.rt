@@ -1,7 +1,7 @@
 ghost use Rattle.std.specs.Prelude.{◌≡◌};
 ghost use Rattle.detock.specs.Statuses.{exit_number};
 
-use dt_cluster::ClusterFault;
+use dt_cluster_file::ClusterFault;
 use dt_text::NoMemory;
 use dt_workload::WorkloadCause;
 

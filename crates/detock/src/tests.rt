@@ -2,7 +2,7 @@
 use crate::status::{EventsCause, Status};
 use crate::top::{detock, detock_alone};
 use crate::words::threaded_words;
-use dt_cluster::{ClusterCause, ClusterFault, ClusterPlace};
+use dt_cluster_file::{ClusterCause, ClusterFault, ClusterPlace};
 use dt_outside::{MemoryFolder, MemorySink};
 use dt_workload::WorkloadCause;
 use std::alloc::Global;
@@ -267,7 +267,10 @@ fn both_refuse<R: Threads + Wait + Sync>(
 fn the_first_fault_of_the_first_file_is_told(rt: HostRuntime) -> Result<(), Fail> {
     for (cluster, workload, exit, line) in FAULTS {
         let files = (cluster.as_bytes(), workload.as_bytes());
-        assert!(rt; both_refuse(&rt, rt.alloc(), files, (exit, line))?, "{line}");
+        assert!(rt;
+            both_refuse(&rt, rt.alloc(), files, (exit, line))?,
+            "{line}"
+        );
     }
     Ok(())
 }

@@ -3,7 +3,8 @@ ghost use Rattle.std.specs.Prelude.{◌≡◌, false, IfOk};
 ghost use Rattle.dt_cluster.specs.Valid.{IsValidCluster};
 ghost use Rattle.dt_workload.specs.Valid.{IsValidWorkload};
 
-use dt_cluster::{Cluster, ClusterError, read_cluster};
+use dt_cluster::Cluster;
+use dt_cluster_file::{ClusterError, read_cluster};
 use dt_graph::QueueSched;
 use dt_lock::NoGate;
 use dt_run::Nodes;

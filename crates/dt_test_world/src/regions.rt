@@ -69,8 +69,9 @@ fn seen_of(alloc: Global, region: &Region<PlainSched>) -> Result<Vec<u8>, Fail>
     let stamp = region.stamp();
     let drained = region.drained(alloc)?;
     let resolves = region.next_class(alloc)?.is_some();
-    let mut seen =
-        format!(in alloc; "{taken} {parts} {held} {stamp} {drained} {resolves}\n")?.into_bytes();
+    let mut seen = format!(in alloc;
+        "{taken} {parts} {held} {stamp} {drained} {resolves}\n"
+    )?.into_bytes();
     for kept in region.events() {
         seen.extend_from_slice(format!(in alloc; "{} ", kept.stamp)?.as_bytes())?;
         put_event(alloc, &mut seen, &kept.event)?;

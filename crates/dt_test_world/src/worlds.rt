@@ -4,7 +4,8 @@ ghost use Rattle.dt_cluster.specs.Valid.{IsValidCluster};
 ghost use Rattle.dt_workload.specs.Valid.{IsValidWorkload};
 ghost use Rattle.dt_test_world.specs.Led.{HasLed};
 
-use dt_cluster::{Cluster, ClusterError, read_cluster};
+use dt_cluster::Cluster;
+use dt_cluster_file::{ClusterError, read_cluster};
 use dt_events::{Event, put_event, read_events};
 use dt_plain::PlainSched;
 use dt_report::print;

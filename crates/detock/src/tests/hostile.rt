@@ -1,7 +1,5 @@
 //! Files that are cut, too long or hold one thing too many, and sinks that fail in the middle.
-use super::{
-    AMPLE, ONE_PUT, ONE_PUT_EVENTS, ONE_PUT_REPORT, call, folder_of, refused, reported,
-};
+use super::{AMPLE, ONE_PUT, ONE_PUT_EVENTS, ONE_PUT_REPORT, call, folder_of, refused, reported};
 use dt_outside::MemoryFolder;
 use std::alloc::Global;
 use std::sync::Wait;

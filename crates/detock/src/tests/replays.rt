@@ -498,11 +498,7 @@ fn wanted(alloc: Global, case: &Case) -> Result<Vec<u8>, Fail> {
 }
 
 /// How a case ends.
-fn told<R: Threads + Wait + Sync>(
-    rt: &R,
-    alloc: Global,
-    case: &Case,
-) -> Result<Vec<u8>, Fail> {
+fn told<R: Threads + Wait + Sync>(rt: &R, alloc: Global, case: &Case) -> Result<Vec<u8>, Fail> {
     let cluster = file_of(alloc, case.cluster)?;
     let workload = file_of(alloc, case.workload)?;
     let events = events_of(alloc, case)?;

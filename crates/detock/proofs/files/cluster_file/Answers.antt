@@ -1,8 +1,8 @@
 use Rattle.std.proofs.Common.{◌≡◌, ◌∙◌, Err, ap, inr, subst}
 use Rattle.std.specs.Prelude.{IfErr}
 use Rattle.dt_access.specs.Clash.{Bytes}
-use Rattle.dt_cluster.specs.File.{IsClusterFault}
-use Rattle.dt_cluster.specs.ReaderParts.{TellsFault}
+use Rattle.dt_cluster_file.specs.File.{IsClusterFault}
+use Rattle.dt_cluster_file.specs.ReaderParts.{TellsFault}
 use Rattle.detock.specs.RefusalCode.{IsFileRefusal}
 use Rattle.detock.specs.declared.status.Status.{Status}
 use Rattle.detock.specs.declared.status.Status.TheVariants.{BadCluster}
