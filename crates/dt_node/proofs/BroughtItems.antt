@@ -68,19 +68,6 @@ module _ {a : NodeView} (source number : ℕ) (txn : Txn) (c : CanTake (asking_p
   place_ends {procs} (Err e) r m sound =
       subst (λ (x : RegionView). MovesOn procs (asking_packet a source number (txn ∷ []) ∷ []) a (record a { site = in_region a.site x })) (sym m) (made_nothing a)
 
-  pub place_taken : (on : Bool) (r : RegionView) → MakesAppend a.site.region source number txn (Ok on) r → number + 1 ≤ taken_from r.state.here source
-  place_taken true r m =
-      let there : source < length a.site.region.state.here.taken = subst (λ n. source < n) (sym c.can.fits.site.sound.taken) source_there in
-      let more : taken_from r.state.here source ≡ taken_from a.site.region.state.here source + 1 =
-      ap (λ (x : RegionView). taken_from x.state.here source) m.1 ∙ get_or-set_same a.site.region.state.here.taken source (taken_from a.site.region.state.here source + 1) 0 there in
-      let turn : number ≡ taken_from a.site.region.state.here source = m.0 in
-      omega (arith, more, turn)
-  place_taken false r m =
-      let begins : number ≤ taken_from a.site.region.state.here source = c.can.begins.0.asked in
-      let other : number ≢ taken_from a.site.region.state.here source = m.0 in
-      let same : taken_from r.state.here source ≡ taken_from a.site.region.state.here source = ap (λ (x : RegionView). taken_from x.state.here source) m.1 in
-      omega (arith, begins, other, same)
-
   place_there : source < length a.site.region.state.here.taken
   place_there = subst (λ n. source < n) (sym c.can.fits.site.sound.taken) source_there
 

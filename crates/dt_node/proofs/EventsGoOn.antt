@@ -24,10 +24,6 @@ pub change_append : (cluster : Cluster) (workload : Workload) (w : World) (xs ys
 change_append cluster workload w [] ys a b = b
 change_append cluster workload w (x ∷ xs) ys a b = (a.0, change_append cluster workload (next cluster workload w x) xs ys a.1 b)
 
--- the world changed where the node of the region did
-pub changes : {regions : ℕ} {w v : World} {region : ℕ} {p q : SiteView} → StandsIn regions w region p → StandsIn regions v region q → node_of p ≢ node_of q → v ≢ w
-changes {regions} {w} {v} {region} s t other same = other (s.node ∙ ap (λ u. node_at u region) (sym same) ∙ sym t.node)
-
 module _ {cluster : Cluster} {workload : Workload} where
   -- the world in which a node stands is one that legal events lead to
   abbrev pub reached : {events : List Event} {n : NodeView} → NodeFits cluster workload events n → IsReached cluster workload (world_after cluster workload events)
@@ -93,8 +89,3 @@ module _ {cluster : Cluster} {workload : Workload} where
                     (subst (λ (x : Node). get_or b.received q 0 ≤ slice_index (set x.received q (length x.log)) (number_of a)) (sym same)
                     (subst (λ l. get_or l q 0 ≤ received_of (world_after cluster workload events) q (number_of a)) (sym received) known.received));
               }
-
-  -- a node that is not the region's stays
-  pub others_stay : {w : World} {region : ℕ} {e : Event} {p q : SiteView} {places : List Place} → Steps cluster workload w e region p q places → (other : ℕ) → other ≢ region
-      → node_at (next cluster workload w e) other ≡ node_at w other
-  others_stay {w} {region} {e} {p} {q} s other n = ap (λ v. node_at v other) s.is ∙ get_or-set_other w.nodes region other (node_of q) no_node n

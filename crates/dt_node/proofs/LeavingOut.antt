@@ -32,14 +32,14 @@ all_take P n xs a = all_front P (take n xs) xs (front_take n xs) a
 -- what is held is found, each under its id
 
 module _ (s : RegionState) where
-  abbrev IsHeld : TxnId → Type 0
+  abbrev pub IsHeld : TxnId → Type 0
   IsHeld id = (txn : Txn) × (held s id ≡ Some txn)
 
-  found_ids : (ids : List TxnId) → AllIn IsHeld ids → map (λ (t : Txn). t.id) (filter_map (held s) ids) ≡ ids
+  pub found_ids : (ids : List TxnId) → AllIn IsHeld ids → map (λ (t : Txn). t.id) (filter_map (held s) ids) ≡ ids
   found_ids [] a = refl
   found_ids (id ∷ ids) a = rw a.0.1 (ap₂ ◌∷◌ (held_id s id a.0.0 a.0.1) (found_ids ids a.1))
 
-  found_parts : (parts : List Part) → AllIn (λ p. IsHeld p.id) parts → map (λ (e : Entry). e.part) (filter_map (entry_held s) parts) ≡ parts
+  pub found_parts : (parts : List Part) → AllIn (λ p. IsHeld p.id) parts → map (λ (e : Entry). e.part) (filter_map (entry_held s) parts) ≡ parts
   found_parts [] a = refl
   found_parts (p ∷ parts) a = rw a.0.1 (ap (λ l. p ∷ l) (found_parts parts a.1))
 

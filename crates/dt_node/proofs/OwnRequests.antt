@@ -84,15 +84,3 @@ module _ {a : NodeView} (c : CanTake [] a) (number : ℕ) (id : TxnId) (wanted :
       (λ cluster workload events p f t. place_goes f f.number number txn (own_wants f number id wanted txn is_held) (own_found f number id wanted txn is_held) r m sound) (λ apart. absurd (apart refl))
   own_ends {procs} (Ok false) r m sound = subst (λ (x : RegionView). MovesOn procs [] a (record a { site = in_region a.site x })) (sym m.1) (made_nothing a)
   own_ends {procs} (Err e) r m sound = subst (λ (x : RegionView). MovesOn procs [] a (record a { site = in_region a.site x })) (sym m) (made_nothing a)
-
-  pub own_less : (on : Bool) (r : RegionView) → MakesAppend a.site.region (number_of a) number txn (Ok on) r → number ≡ taken_from a.site.region.state.here (number_of a)
-      → number < length (get_or a.site.region.state.here.asked (number_of a) []) → own_left (record a { site = in_region a.site r }) < own_left a
-  own_less true r m next lt =
-      let there : number_of a < length a.site.region.state.here.taken = subst (λ n. number_of a < n) (sym c.can.fits.site.sound.taken) c.can.fits.site.sound.number in
-      let more : taken_from r.state.here (number_of a) ≡ taken_from a.site.region.state.here (number_of a) + 1 =
-      ap (λ (x : RegionView). taken_from x.state.here (number_of a)) m.1 ∙ get_or-set_same a.site.region.state.here.taken (number_of a) (taken_from a.site.region.state.here (number_of a) + 1) 0 there in
-      let same : length (get_or r.state.here.asked (number_of a) []) ≡ length (get_or a.site.region.state.here.asked (number_of a) []) =
-      ap (λ (x : RegionView). length (get_or x.state.here.asked (number_of a) [])) m.1 in
-      let mine : r.state.number ≡ number_of a = ap (λ (x : RegionView). x.state.number) m.1 in
-      subst (λ q. length (get_or r.state.here.asked q []) - taken_from r.state.here q < own_left a) (sym mine) (omega (arith, more, same, next, lt))
-  own_less false r m next lt = absurd (m.0 next)

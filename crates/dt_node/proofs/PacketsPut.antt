@@ -1,18 +1,20 @@
 -- The packets of a turn are made, and put: one on each outlet, as often as the plan says.
-use Rattle.std.proofs.Common.{◌≡◌, ◌<◌, ◌≤◌, ◌+◌, ℕ, zero, suc, List, [], ◌∷◌, ◌++◌, length, map, get_or, slice_get, slice_set, drop, take, Some}
+use Rattle.std.proofs.Common.{◌≡◌, ◌<◌, ◌≤◌, ◌+◌, ◌-◌, ℕ, Bor, zero, suc, List, [], ◌∷◌, ◌++◌, length, map, get_or, slice_get, slice_set, drop, take, None, Some}
 use Rattle.std.proofs.Common.{refl, sym, ap, subst, ◌∙◌, arith, append_assoc}
 use Rattle.std.specs.List.{range_with_len}
+use Rattle.std.specs.Option.{option_copied}
+use Rattle.std.specs.Prelude.{Option, IfSome}
 use Rattle.std.proofs.lemmas.List.{length-map}
 use Rattle.std.proofs.lemmas.List.FromFn.{get_or-map-range_with_len, length-map-range_with_len, map-range_with_len_more}
 use Rattle.std.proofs.lemmas.Option.{slice_get-get_or}
 use Rattle.dt_lists.specs.Lists.{AllIn, Pairwise}
-use Rattle.dt_lists.proofs.Callers.{all_image, all_of_image}
+use Rattle.dt_lists.proofs.Callers.{all_get, all_image, all_of_image, all_put, has_place}
 use Rattle.dt_packet.specs.declared.packet.Packet.{Packet}
 use Rattle.dt_packet.specs.declared.loss.Verdict.TheVariants.{Pass, Twice}
 use Rattle.dt_packet.specs.Links.{OutletView}
 use Rattle.dt_packet.specs.Loss.{IsVerdict}
 use Rattle.dt_node.specs.NodeView.{NodeView, number_of, other_at, packet_for}
-use Rattle.dt_node.specs.Sending.{HasSent, IsSentBy, no_outlet, packets_for, put_at, put_one}
+use Rattle.dt_node.specs.Sending.{HasEntriesOf, HasSent, IsSentBy, no_outlet, packets_for, put_at, put_one}
 
 many_put : (outs : List OutletView) (packets : List Packet) → length (put_at outs packets) ≡ length outs
 many_put [] packets = refl
@@ -98,6 +100,14 @@ made_more n link target me packets p before is at this =
     let at_link : ℕ → Packet = λ k. packet_for n (other_at (number_of n) k) in
     let same : p ≡ at_link link = this ∙ ap (packet_for n) (at ∙ ap (λ m. other_at m link) is) in
     (λ i. before i ++ same i ∷ []) ∙ sym (map-range_with_len_more at_link 0 link link (omega arith))
+
+-- a packet that was made before has the entries that stand in the log from its place on
+pub made_before : (n : NodeView) (links : ℕ) (packets : List Packet) → packets ≡ packets_for n links → (made : Option (Bor Packet)) → option_copied made ≡ slice_get packets (length packets - 1)
+    → IfSome made (λ packet. HasEntriesOf n.site.region.state packet.now)
+made_before n links packets are None is = tt
+made_before n links packets are (Some packet) is =
+    let each : AllIn (HasEntriesOf n.site.region.state) (packets_for n links) = all_image (HasEntriesOf n.site.region.state) (λ link. packet_for n (other_at (number_of n) link)) (range_with_len 0 links) (all_put _ _ (λ link h. refl)) in
+    all_get (HasEntriesOf n.site.region.state) packets (subst (AllIn (HasEntriesOf n.site.region.state)) (sym are) each) packet.now (has_place packets (length packets - 1) packet.now (sym is))
 
 two_free : (outs : List OutletView) → AllIn (λ o. 2 ≤ o.free) outs → (link : ℕ) → link < length outs → 2 ≤ (get_or outs link no_outlet).free
 two_free [] a link lt = absurd (omega (arith, lt))

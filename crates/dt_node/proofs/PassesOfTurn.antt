@@ -12,6 +12,7 @@ use Rattle.dt_proc.specs.Tree.{ProcTree}
 use Rattle.dt_txn.specs.declared.Txn.{Txn}
 use Rattle.dt_txn.specs.Replica.{IsContinuation, IsDrained, MayStep, Replica, executed, stepped}
 use Rattle.dt_round.specs.Rounds.{Continues, after_steps}
+use Rattle.dt_round.proofs.Callers.{continues_none}
 use Rattle.dt_region.specs.Region.{RegionState, RegionView, held, latest_stamp}
 use Rattle.dt_packet.specs.declared.packet.Packet.{Packet}
 use Rattle.dt_node.specs.Measure.{left_for}
@@ -114,6 +115,21 @@ pass_steps {procs} {a} {b} {c} {d} answered submitted s t answers submits round 
   round = round;
   is = sym (some_of_both answers.names submits.names ∙ ap₂ (λ x y. x || y) (some_stepped answered s answers) (some_stepped submitted t submits));
 }
+
+-- where no session went on in a pass and nothing was left to do before it, no round is made
+module _ (procs : List ProcTree) (a b c : NodeView) (answered submitted : Bool) (none : (answered || submitted) ≡ false) (s : EndsAll MayAnswerAt a answered b) (t : EndsAll MaySubmitAt b submitted c)
+    (drained : IsDrained a.site.region.state.logs a.site.region.state.here) where
+  pub rested_passes : PassesOnce a false c
+  rested_passes = subst (λ went. PassesOnce a went c) none (passes {procs = procs} a b answered submitted s t (made_nothing c) refl (λ own. own) (λ d. refl))
+
+  pub rested_steps : AllWhoMight MayAnswerAt IsAnswering a b → AllWhoMight MaySubmitAt (IsSubmission procs) b c → IsPass procs false a c
+  rested_steps answers submits = subst (λ went. IsPass procs went a c) none (pass_steps answered submitted s t answers submits
+      (record { gone = (made_nothing {procs = procs} c).gone; continues = continues_none procs c.site.region; sessions = refl; drained = still answered submitted none s t }))
+    where
+      still : (p q : Bool) → (p || q) ≡ false → EndsAll MayAnswerAt a p b → EndsAll MaySubmitAt b q c → IsDrained c.site.region.state.logs c.site.region.state.here
+      still false false e x y = subst (λ (n : NodeView). IsDrained n.site.region.state.logs n.site.region.state.here) (sym (y.0 ∙ x.0)) drained
+      still true q e x y = absurd cc
+      still false true e x y = absurd cc
 
 -- the passes of a turn, as far as they have come
 pub record HasPassed (procs : List ProcTree) (before now : NodeView) : Type 0 where

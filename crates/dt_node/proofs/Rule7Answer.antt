@@ -52,9 +52,6 @@ module _ {cluster : Cluster} {workload : Workload} {events : List Event} {a : No
   pub go_submit : MayGo a.sessions name (last_at a name) → MaySubmit cluster w (number_of a) here
   go_submit m = may_submit f.sessions name (subst (MayGo a.sessions name) last_is m)
 
-  pub submit_go : MaySubmit cluster w (number_of a) here → MayGo a.sessions name (last_at a name)
-  submit_go m = subst (MayGo a.sessions name) (sym last_is) (may_go f.sessions name m)
-
   pub go_answer : MayBeAnswered a.sessions name (last_at a name) → MayAnswer cluster w (number_of a) here
   go_answer m = may_answer f.sessions name (subst (MayBeAnswered a.sessions name) last_is m)
 

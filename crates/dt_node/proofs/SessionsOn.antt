@@ -24,10 +24,6 @@ use Rattle.dt_node.proofs.Rule7Answer.{seats_kept}
 use Rattle.dt_node.proofs.LessIsLeft.{answer_falls, wait_falls}
 use Rattle.dt_node.proofs.CallsOfNode.{answer_moves, submit_moves}
 
--- there is no session at this place
-pub none_there : (May : NodeView → Bytes → Type 0) (a : NodeView) (index : ℕ) → None ≡ slice_get (map (λ p. p.0) a.sessions.seats) index → EndsOne May a index false a
-none_there May a index none = (refl, λ name found. absurd (cc (none, found)))
-
 -- the session of this name was answered
 module _ (a : NodeView) (name : Bytes) (may : MayAnswerAt a name) (r : RegionView) (is : r ≡ with_event a.site.region a.site.region.state (Answer (number_of a) name)) where
   -- the outcome by which it was is still there
@@ -54,13 +50,6 @@ module _ (a : NodeView) (name : Bytes) (may : MayAnswerAt a name) (r : RegionVie
 -- the session of this name submitted its next attempt
 module _ {a : NodeView} (name : Bytes) {origin : Origin} {rank : ℕ} {body : Body} (t : IsNextAt a name origin rank body) (procs : List ProcTree) (id : TxnId) (q : SiteView)
     (made : MakesAttempt procs a.site rank body origin (Ok id) q) where
-  -- it may wait for it
-  pub may_wait : (last : Option Outcome) → last ≡ option_and_then (outcome_of q.region.state) (waits_of a.sessions name) → MayGo a.sessions name last
-  may_wait last told = subst (MayGo a.sessions name) (sym (told ∙ ap (λ (x : SiteView). option_and_then (outcome_of x.region.state) (waits_of a.sessions name)) made.1)) t.may
-
-  pub one_event : length q.region.events ≡ length a.site.region.events + 1
-  one_event = ap (λ (x : SiteView). length x.region.events) made.1 ∙ length_push a.site.region.events _
-
   module _ (s : SessionsView) (waits : s ≡ after_wait a.sessions name id) where
     pub submitted_moves : IsSoundRegion q.region.state → MovesOn procs [] a (record a { site = q; sessions = s })
     submitted_moves sound = subst (λ x. MovesOn procs [] a (record a { site = q; sessions = x })) (sym waits) (submit_moves name t id q made sound)

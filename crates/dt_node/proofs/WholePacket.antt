@@ -59,11 +59,6 @@ module _ (p : Packet) (a : NodeView) (c : CanTake (p ∷ []) a) where
 
       -- and last what it says is noted
 
-      pub counts_there : (p.source < length d.took) × (p.source < length d.received)
-      counts_there =
-          let last : CanTake (p ∷ []) d = can_again (p ∷ []) c logged_so_far in
-          (subst (λ n. p.source < n) (sym last.can.fits.took) last.can.told.addressed.0.source, subst (λ n. p.source < n) (sym last.can.fits.received) last.can.told.addressed.0.source)
-
       pub all_moved : (procs : List ProcTree) → MovesOn procs (p ∷ []) a (noted d p.source p.took p.received)
       all_moved procs = moves_same (logged_so_far procs) (noted_moves p d)
 

@@ -53,10 +53,6 @@ pub record CanTake (packets : List Packet) (n : NodeView) : Type 0 where
   pub procs : List ProcTree
   pub can : CanGo procs packets n
 
--- a node with its region changed
-abbrev pub with_region : NodeView → RegionView → NodeView
-with_region n region = record n { site = record n.site { region = region } }
-
 -- a packet that a node might have got, which has these requests of a region and nothing else
 abbrev pub asking_packet : NodeView → ℕ → ℕ → List Txn → Packet
 asking_packet n source first asked = record {

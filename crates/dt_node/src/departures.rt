@@ -1,11 +1,11 @@
-ghost use Rattle.std.specs.Prelude.{◌≡◌, ◌<◌, ◌≤◌, ◌+◌, ◌^◌, List, [], filter_map, get_or, length, map, min, vec_len, IfOk, OnOk};
+ghost use Rattle.std.specs.Prelude.{◌≡◌, ◌<◌, ◌≤◌, ◌+◌, ◌^◌, List, [], filter_map, get_or, length, map, min, vec_len, IfOk, IfSome, OnOk};
 ghost use Rattle.dt_lists.specs.Lists.{AllIn, Pairwise};
-ghost use Rattle.dt_sched.specs.Views.{log_at};
 ghost use Rattle.dt_region.specs.Region.{held};
-ghost use Rattle.dt_node.specs.NodeView.{entry_held, most_items, other_at, packet_for, stretch_from};
-ghost use Rattle.dt_node.specs.Sending.{HasSent, IsReady, packets_for, put_at, put_one};
+ghost use Rattle.dt_node.specs.NodeView.{most_items, other_at, packet_for, stretch_from};
+ghost use Rattle.dt_node.specs.Sending.{HasEntriesOf, HasSent, IsReady, entries_from, packets_for, put_at, put_one};
 
 use crate::node::Node;
+use dt_access::TryCopy;
 use dt_packet::{Outlet, Packet, Verdict};
 use dt_region::Region;
 use dt_sched::Scheduler;
@@ -55,15 +55,22 @@ impl<S: Scheduler + Drop> Node<S> {
         let me = self.site.region.number();
         let mut packets = Vec::with_capacity(alloc, links)?;
         for link in 0..links {
-            packets.push(self.packet(alloc, other_region(me, link as u8))?)?;
+            let packet = self.packet(
+                alloc,
+                other_region(me, link as u8),
+                packets.as_slice().last(),
+            )?;
+            packets.push(packet)?;
         }
         Ok(packets)
     }
 
-    /// The packet for another region: all that this one is not known to have, as far as there is room.
-    fn packet(&self, alloc: Global, target: u8) -> Result<Packet, NoMemory>
+    /// The packet for another region: all that this one is not known to have, as far as there is room. `made` is one that was
+    /// made before it.
+    fn packet(&self, alloc: Global, target: u8, made: Option<&Packet>) -> Result<Packet, NoMemory>
         requires ready { IsReady self.now }
         requires target { target < self.now.site.region.state.regions }
+        requires made { IfSome made (λ packet. HasEntriesOf self.now.site.region.state packet.now) }
         ensures { IfOk result (λ packet. packet ≡ packet_for self.now target) }
     {
         let region = &self.site.region;
@@ -76,7 +83,7 @@ impl<S: Scheduler + Drop> Node<S> {
             asked_at,
             asked: requests(alloc, region, target, asked_at)?,
             log_at,
-            entries: entries(alloc, region, log_at)?,
+            entries: entries_after(alloc, region, log_at, made)?,
             took: region.taken(target),
             received: region.log(target).len(),
         })
@@ -114,9 +121,26 @@ fn requests<S: Scheduler>(
     Ok(txns)
 }
 
+/// The entries of a region's own log, from this place on, as far as a packet has room. They are copied from a packet that was made
+/// before, if that has the same, since each region is mostly known to have as much as the others.
+fn entries_after<S: Scheduler>(
+    alloc: Global,
+    region: &Region<S>,
+    first: u32,
+    made: Option<&Packet>,
+) -> Result<Entries, NoMemory>
+    requires { IfSome made (λ packet. HasEntriesOf region.now.state packet.now) }
+    ensures { IfOk result (λ entries. entries ≡ entries_from region.now.state first) }
+{
+    match made {
+        Some(packet) if packet.log_at == first => packet.entries.copy(alloc),
+        _ => entries(alloc, region, first),
+    }
+}
+
 /// The entries of a region's own log, from this place on, as far as a packet has room.
 fn entries<S: Scheduler>(alloc: Global, region: &Region<S>, first: u32) -> Result<Entries, NoMemory>
-    ensures { IfOk result (λ entries. entries ≡ filter_map (entry_held region.now.state) (stretch_from first (log_at region.now.state.logs region.now.state.number))) }
+    ensures { IfOk result (λ entries. entries ≡ entries_from region.now.state first) }
 {
     let log = region.log(region.number());
     let end = end_from(first, log.len() as usize);

@@ -1,4 +1,4 @@
-ghost use Rattle.std.specs.Prelude.{◌≡◌, ◌<◌, ◌≤◌, ◌+◌, ◌^◌, ℕ, List, [], flat_map, length, map, replicate, IfOk, OnOk};
+ghost use Rattle.std.specs.Prelude.{◌≡◌, ◌<◌, ◌≤◌, ◌+◌, ◌^◌, ℕ, List, [], flat_map, length, map, replicate, IfOk, IsTrue, OnOk};
 ghost use Rattle.dt_lists.specs.Lists.{AllIn, Pairwise};
 ghost use Rattle.dt_txn.specs.Replica.{IsDrained};
 ghost use Rattle.dt_round.specs.Rounds.{Continues};
@@ -167,19 +167,25 @@ impl<S: Scheduler + Drop> Node<S> {
         ensures passes { OnOk result (HasMadePasses procs.now self.old self.new) }
         ensures begins { OnOk result (BeginsEagerly procs.now self.old self.new) }
     {
-        while self.pass(alloc, procs, rounds)? {}
+        let mut rested = false;
+        while self.pass(alloc, procs, rounds, rested)? {
+            rested = true;
+        }
         Ok(())
     }
 
-    /// Lets the sessions go on once, and makes a round. Says whether some session went on.
+    /// Lets the sessions go on once, and makes a round. Says whether some session went on. If none did and the region has
+    /// `rested`, since a round left nothing to do before, the round is left out: it would make no event.
     fn pass<D: Rounds<Region<S>>>(
         &mut self,
         alloc: Global,
         procs: &Procs,
         rounds: &D,
+        rested: bool,
     ) -> Result<bool, NoMemory>
         requires ready { D.ready rounds.now }
         requires can { CanGo procs.now [] self.old }
+        requires rested { IsTrue rested → IsDrained self.old.site.region.state.logs self.old.site.region.state.here }
         ensures moved { MovesOn procs.now [] self.old self.new }
         ensures knows { KnowsTheSame self.old self.new }
         ensures drained { OnOk result (IsDrained self.new.site.region.state.logs self.new.site.region.state.here) }
@@ -189,8 +195,12 @@ impl<S: Scheduler + Drop> Node<S> {
     {
         let answered = self.answer_all(alloc)?;
         let submitted = self.submit_all(alloc, procs)?;
+        let went = answered | submitted;
+        if rested && !went {
+            return Ok(false);
+        }
         self.round(alloc, procs, rounds)?;
-        Ok(answered | submitted)
+        Ok(went)
     }
 
     /// The third step: makes a round.

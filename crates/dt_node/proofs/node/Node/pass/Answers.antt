@@ -1,7 +1,7 @@
 use Rattle.std.proofs.Common.{[]}
 use Rattle.dt_node.proofs.Beginning.{first_pass}
 use Rattle.dt_node.proofs.CallAfterCall.{moves_more}
-use Rattle.dt_node.proofs.PassesOfTurn.{own_stay, pass_steps, passes}
+use Rattle.dt_node.proofs.PassesOfTurn.{own_stay, pass_steps, passes, rested_passes, rested_steps}
 use Rattle.dt_node.proofs.TruePackets.{can_on}
 use Rattle.dt_node.proofs.node.Node.pass.Goals as goal
 
@@ -19,6 +19,15 @@ round-requires-clause-can g c = can_on [] [] c.requires.can (moves_more (c.answe
 
 pub returns-in_err-round-clause-moved : goal.returns-in_err-round-clause-moved
 returns-in_err-round-clause-moved g c = moves_more (moves_more (c.answer_all.ensures.moved c.args.procs.now) c.submit_all.ensures.moved) c.round.ensures.moved
+
+pub returns-then-not-went-clause-passed : goal.returns-then-not-went-clause-passed
+returns-then-not-went-clause-passed g c =
+    rested_passes c.args.procs.now c.args.self.now c.answer_all.new.self c.submit_all.new.self c.in_ok-answered.answered c.in_ok-submitted.submitted c.if-not-went.true c.in_ok-answered.ensures.ends c.in_ok-submitted.ensures.ends (c.requires.rested c.if-rested.true)
+
+pub returns-then-not-went-clause-steps : goal.returns-then-not-went-clause-steps
+returns-then-not-went-clause-steps g c =
+    rested_steps c.args.procs.now c.args.self.now c.answer_all.new.self c.submit_all.new.self c.in_ok-answered.answered c.in_ok-submitted.submitted c.if-not-went.true c.in_ok-answered.ensures.ends c.in_ok-submitted.ensures.ends (c.requires.rested c.if-rested.true)
+    c.in_ok-answered.ensures.all c.in_ok-submitted.ensures.all
 
 pub returns-clause-moved : goal.returns-clause-moved
 returns-clause-moved g c = moves_more (moves_more (c.answer_all.ensures.moved c.args.procs.now) c.submit_all.ensures.moved) c.round.ensures.moved
