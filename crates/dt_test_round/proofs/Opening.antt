@@ -1,14 +1,13 @@
 -- A region before anything happens, and one of a few events: it may make a round.
-use Rattle.std.proofs.Common.{◌≡◌, ◌<◌, ◌+◌, ℕ, zero, suc, List, [], ◌∷◌, length, replicate, refl, sym, ap, subst, arith}
-use Rattle.std.proofs.lemmas.List.Sums.{sum_by-cons}
+use Rattle.std.proofs.Common.{◌≡◌, ◌<◌, ℕ, List, [], length, refl, sym, ap, subst, arith}
 use Rattle.std.proofs.lemmas.Option.{none-some}
 use Rattle.dt_lists.specs.Lists.{AllIn}
 use Rattle.dt_text.specs.declared.Value.{Value}
 use Rattle.dt_access.specs.Clash.{Bytes}
-use Rattle.dt_sched.specs.Sched.{parts_in}
 use Rattle.dt_proc.specs.Tree.{ProcTree}
 use Rattle.dt_table.specs.Table.{Table, counter_of, opening}
 use Rattle.dt_table.proofs.Callers.{moves_of-opening}
+use Rattle.dt_region.proofs.Callers.{parts_none}
 use Rattle.dt_region.specs.Conditions.{IsTableFor}
 use Rattle.dt_region.specs.Region.{HasStamp, RegionView}
 use Rattle.dt_region.specs.Rules.{opening_state}
@@ -23,13 +22,6 @@ rows_fit regions rows = record {
   moves = λ key. subst (AllIn (λ moved. moved.target < regions)) (sym (moves_of-opening 1 regions [] rows key)) tt;
 }
 
-no_parts : (regions : ℕ) → parts_in (replicate regions []) ≡ 0
-no_parts zero = refl
-no_parts (suc regions) =
-    let a : parts_in ([] ∷ replicate regions []) ≡ 0 + parts_in (replicate regions []) = sum_by-cons length [] (replicate regions []) in
-    let b : parts_in (replicate regions []) ≡ 0 = no_parts regions in
-    omega (arith, a, b)
-
 -- a region that has done nothing made no event
 pub fed_none : (procs : List ProcTree) (number regions : ℕ) (rows : List (Bytes × Value)) (r : RegionView) (table : Table) → table ≡ opening 1 regions [] rows
     → r ≡ record { state = opening_state number regions table; events = []; heard = 0; room = 0 } → WasFed procs 0 r
@@ -37,7 +29,7 @@ fed_none procs number regions rows r table opened is = subst (WasFed procs 0) (s
   holds = λ id txn e. absurd (none-some txn e);
   unmoved = λ key. subst (λ t. counter_of t key ≡ 0) (sym opened) (ap length (moves_of-opening 1 regions [] rows key));
   submitted = omega arith;
-  parts = let none = no_parts regions in omega (arith, none);
+  parts = let none = parts_none regions in omega (arith, none);
   stamp = omega arith;
 })
 
