@@ -20,6 +20,16 @@ pub record LeavesRequests (before after : Node) : Type 0 where
   pub asked : after.here.asked ≡ before.here.asked
   pub taken : after.here.taken ≡ before.here.taken
 
+-- the second world is the first with this node in the place of a region's, which left its requests: what stays by that
+pub record Leaves (cluster : Cluster) (w v : World) (region : ℕ) (n : Node) : Type 1 where
+  pub same : LeavesRequests (node_at w region) n
+  pub nodes : length v.nodes ≡ cluster.regions
+  pub node : node_at v region ≡ n
+  pub others : (q : ℕ) → q ≢ region → node_at v q ≡ node_at w q
+  pub keeps : {A : Type 0} (f : Node → A) → f n ≡ f (node_at w region) → Keeps f w v
+  pub logs : logs_of v ≡ logs_of w
+  pub txns : (ids : List TxnId) → txns_of v ids ≡ txns_of w ids
+
 -- what of the invariant such a change can touch, with the order that it leads to
 pub record KeepsRest (cluster : Cluster) (v : World) (later : List TxnId) (n : Node) : Type 0 where
   pub received : length n.received ≡ cluster.regions
@@ -31,26 +41,29 @@ pub record KeepsRest (cluster : Cluster) (v : World) (later : List TxnId) (n : N
 
 module _ {cluster : Cluster} {workload : Workload} {w : World} {order : List TxnId} (i : Inv cluster workload w order)
     (region : ℕ) (lr : region < cluster.regions) (n : Node) (same : LeavesRequests (node_at w region) n) where
-  pub keeps : {A : Type 0} (f : Node → A) → f n ≡ f (node_at w region) → Keeps f w (with_node w region n)
+  keeps : {A : Type 0} (f : Node → A) → f n ≡ f (node_at w region) → Keeps f w (with_node w region n)
   keeps f e = field_of_set f w.nodes region n no_node e
 
-  pub node_now : node_at (with_node w region n) region ≡ n
+  node_now : node_at (with_node w region n) region ≡ n
   node_now = get_or-set_same w.nodes region n no_node (subst (λ m. region < m) (sym i.nodes) lr)
 
-  pub others_same : (q : ℕ) → q ≢ region → node_at (with_node w region n) q ≡ node_at w q
+  others_same : (q : ℕ) → q ≢ region → node_at (with_node w region n) q ≡ node_at w q
   others_same q ne = get_or-set_other w.nodes region q n no_node ne
 
-  pub nodes_now : length (with_node w region n).nodes ≡ cluster.regions
+  nodes_now : length (with_node w region n).nodes ≡ cluster.regions
   nodes_now = length-set w.nodes region n ∙ i.nodes
 
-  pub logs_same : logs_of (with_node w region n) ≡ logs_of w
+  logs_same : logs_of (with_node w region n) ≡ logs_of w
   logs_same = map_of_set (λ x. x.log) w.nodes region n no_node same.log
 
   subs_same : submissions (with_node w region n) ≡ submissions w
   subs_same = flat_map_of_set (λ x. x.submitted) w.nodes region n no_node same.submitted
 
-  pub txns_now : (ids : List TxnId) → txns_of (with_node w region n) ids ≡ txns_of w ids
+  txns_now : (ids : List TxnId) → txns_of (with_node w region n) ids ≡ txns_of w ids
   txns_now ids = txns_same w (with_node w region n) (keeps (λ x. x.submitted) same.submitted) ids
+
+  pub leaves : Leaves cluster w (with_node w region n) region n
+  leaves = record { same = same; nodes = nodes_now; node = node_now; others = others_same; keeps = keeps; logs = logs_same; txns = txns_now }
 
   sized : length n.received ≡ cluster.regions → length n.here.inserted ≡ cluster.regions → AreSized cluster.regions (with_node w region n)
   sized received inserted q lt = each_of_set (λ k x. IsSized cluster.regions x) w.nodes region n no_node

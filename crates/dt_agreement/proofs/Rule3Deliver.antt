@@ -9,14 +9,12 @@ use Rattle.dt_lists.proofs.Callers.{either_nat}
 use Rattle.dt_access.specs.declared.TxnId.{TxnId}
 use Rattle.dt_cluster.specs.declared.Cluster.{Cluster}
 use Rattle.dt_workload.specs.declared.Workload.{Workload}
-use Rattle.dt_session.specs.World.{World, Node, node_at, log_of, logs_of, received_of, view_at}
+use Rattle.dt_session.specs.World.{World, Node, node_at, log_of, received_of, view_at}
 use Rattle.dt_session.specs.Step.{received, next}
 use Rattle.dt_events.specs.declared.Event.TheVariants.{Deliver}
 use Rattle.dt_agreement.specs.Invariant.{AreInOrder, Inv}
 use Rattle.dt_agreement.proofs.InvariantParts.{Lengths, sound_kept, tables_kept, ordered_kept}
-use Rattle.dt_agreement.proofs.OneRegion as changed
-use Rattle.dt_agreement.proofs.OneRegion.{LeavesRequests}
-use Rattle.dt_agreement.proofs.Submissions.{Keeps}
+use Rattle.dt_agreement.proofs.OneRegion.{Leaves, change_keeps, leaves}
 use Rattle.dt_agreement.proofs.Views.{view_is}
 use Rattle.dt_agreement.proofs.RegionViews.{view_fronts}
 use Rattle.dt_txn.specs.Replica.{fronts, done_ids}
@@ -29,28 +27,17 @@ module _ {cluster : Cluster} {workload : Workload} {w : World} {order : List Txn
   v : World
   v = received w region home last
 
-  same : LeavesRequests (node_at w region) n'
-  unfolding n'
-  same = record { submitted = refl; log = refl; asked = refl; taken = refl }
-
-  keeps : {A : Type 0} (f : Node → A) → f n' ≡ f (node_at w region) → Keeps f w v
+  left : Leaves cluster w v region n'
   unfolding v n'
-  keeps f e = changed.keeps i region lr n' same f e
-
-  logs_same : logs_of v ≡ logs_of w
-  unfolding v n'
-  logs_same = changed.logs_same i region lr n' same
+  left = leaves i region lr n' (record { submitted = refl; log = refl; asked = refl; taken = refl })
 
   -- what the region received, of each home
   received_here : (other : ℕ) → other < cluster.regions → (received_of w region other ≤ received_of v region other) × (received_of v region other ≤ length (log_of w other))
   unfolding v n'
   received_here other lo = by (either_nat other region) (either_nat other home)
     where
-      node : node_at v region ≡ n'
-      node = changed.node_now i region lr n' same
-
       log : length (log_of v region) ≡ length (log_of w region)
-      log = ap length (keeps (λ n. n.log) refl region)
+      log = ap length (left.keeps (λ n. n.log) refl region)
 
       sizes : length (node_at w region).received ≡ cluster.regions
       sizes = (i.sized region lr).received
@@ -66,7 +53,7 @@ module _ {cluster : Cluster} {workload : Workload} {w : World} {order : List Txn
       within = subst (λ m. region < m) (sym (length-set (node_at w region).received home last ∙ sizes)) lr
 
       now : received_of v region other ≡ get_or (set others region own) other 0
-      now = ap (λ n. get_or (set n.received region own) other 0) node
+      now = ap (λ n. get_or (set n.received region own) other 0) left.node
 
       before : AreInOrder w region other
       before = i.lengths region other lr lo
@@ -100,10 +87,10 @@ module _ {cluster : Cluster} {workload : Workload} {w : World} {order : List Txn
       before = i.lengths q other lq lo
 
       inserted : slice_index (node_at v q).here.inserted other ≡ slice_index (node_at w q).here.inserted other
-      inserted = ap (λ t. get_or t other 0) (keeps (λ n. n.here.inserted) refl q)
+      inserted = ap (λ t. get_or t other 0) (left.keeps (λ n. n.here.inserted) refl q)
 
       log : length (log_of v other) ≡ length (log_of w other)
-      log = ap length (keeps (λ n. n.log) refl other)
+      log = ap length (left.keeps (λ n. n.log) refl other)
 
       first : slice_index (node_at w q).here.inserted other ≤ received_of w q other
       first = before.inserted
@@ -120,26 +107,26 @@ module _ {cluster : Cluster} {workload : Workload} {w : World} {order : List Txn
       by : Either (q ≡ region) → AreInOrder v q other
       by (inl e) = put (subst (λ x. (received_of w x other ≤ received_of v x other) × (received_of v x other ≤ length (log_of w other))) (sym e) (received_here other lo))
       by (inr n) =
-          let node : node_at v q ≡ node_at w q = changed.others_same i region lr n' same q n in
+          let node : node_at v q ≡ node_at w q = left.others q n in
           let is : received_of v q other ≡ received_of w q other = λ j. get_or (set (node j).received q (length (node j).log)) other 0 in
           put (omega arith, omega (arith, second))
 
   view_same : (q : ℕ) → q < cluster.regions → view_at v q ≡ view_at w q
   unfolding v n'
   view_same q lq =
-      view_is v q (λ other lo. (lengths q other lq (subst (λ m. other < m) (changed.nodes_now i region lr n' same) lo)).inserted)
-      ∙ (λ j. fronts (keeps (λ n. n.here.inserted) refl q j) (logs_same j))
+      view_is v q (λ other lo. (lengths q other lq (subst (λ m. other < m) left.nodes lo)).inserted)
+      ∙ (λ j. fronts (left.keeps (λ n. n.here.inserted) refl q j) (left.logs j))
       ∙ sym (view_fronts i q lq)
 
   pub received_keeps : Inv cluster workload (received w region home last) order
   unfolding v n'
-  received_keeps = changed.change_keeps i region lr n' same order (record {
+  received_keeps = change_keeps i region lr n' left.same order (record {
     received = length-set (node_at w region).received home last ∙ (i.sized region lr).received;
     inserted = (i.sized region lr).inserted;
     lengths = lengths;
-    sound = sound_kept cluster w v cluster.regions view_same (keeps (λ n. n.here.resolved) refl) (keeps (λ n. n.here.done) refl) i.sound;
-    tables = tables_kept cluster w v (λ q lq. changed.txns_now i region lr n' same (done_ids (node_at w q).here)) (keeps (λ n. n.here.done) refl) (keeps (λ n. n.here.table) refl) i.tables;
-    ordered = ordered_kept cluster w v cluster.regions order logs_same (keeps (λ n. n.here.done) refl) i.ordered;
+    sound = sound_kept cluster w v cluster.regions view_same (left.keeps (λ n. n.here.resolved) refl) (left.keeps (λ n. n.here.done) refl) i.sound;
+    tables = tables_kept cluster w v (λ q lq. left.txns (done_ids (node_at w q).here)) (left.keeps (λ n. n.here.done) refl) (left.keeps (λ n. n.here.table) refl) i.tables;
+    ordered = ordered_kept cluster w v cluster.regions order left.logs (left.keeps (λ n. n.here.done) refl) i.ordered;
   })
 
 pub deliver_keeps : {cluster : Cluster} {workload : Workload} {w : World} {order : List TxnId} → Inv cluster workload w order

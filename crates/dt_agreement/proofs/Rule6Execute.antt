@@ -1,5 +1,5 @@
 -- An execution keeps the invariant; one of an id that no region has executed puts it at the end of the order.
-use Rattle.std.proofs.Common.{◌≡◌, ◌≢◌, ◌<◌, ◌⊎◌, ℕ, List, [], ◌∷◌, ◌++◌, Some, refl, sym, ap, ap₂, subst, ◌∙◌, inl, inr}
+use Rattle.std.proofs.Common.{◌≡◌, ◌<◌, ◌⊎◌, ℕ, List, [], ◌∷◌, ◌++◌, Some, refl, sym, ap, ap₂, subst, ◌∙◌, inl, inr}
 use Rattle.std.specs.Prelude.{Option, filter_map}
 use Rattle.std.proofs.lemmas.List.{map_push}
 use Rattle.std.proofs.lemmas.List.Elements.{filter_map-append}
@@ -25,9 +25,8 @@ use Rattle.dt_session.specs.Step.{moved_on}
 use Rattle.dt_session.specs.Run.{txns_of}
 use Rattle.dt_agreement.specs.Invariant.{IsRunOf, IsExecutedAt, IsOrder, Inv}
 use Rattle.dt_agreement.proofs.InvariantParts.{Sound, Tables, lengths_kept, view_kept}
-use Rattle.dt_agreement.proofs.OneRegion as changed
-use Rattle.dt_agreement.proofs.OneRegion.{LeavesRequests}
-use Rattle.dt_agreement.proofs.Submissions.{Keeps, WasSubmitted, txn_id}
+use Rattle.dt_agreement.proofs.OneRegion.{Leaves, change_keeps, leaves}
+use Rattle.dt_agreement.proofs.Submissions.{WasSubmitted, txn_id}
 use Rattle.dt_agreement.proofs.RegionViews.{closed_full, closed_known, precedes_full}
 
 -- the transaction of an id at the end
@@ -55,48 +54,28 @@ module _ {cluster : Cluster} {workload : Workload} {w : World} {order : List Txn
   same_id : txn.id ≡ id
   same_id = txn_id w id txn found
 
-  same : LeavesRequests (node_at w region) n'
-  unfolding n'
-  same = record { submitted = refl; log = refl; asked = refl; taken = refl }
-
-  keeps : {A : Type 0} (f : Node → A) → f n' ≡ f (node_at w region) → Keeps f w v
+  left : Leaves cluster w v region n'
   unfolding v n'
-  keeps f e = changed.keeps i region lr n' same f e
-
-  logs_same : logs_of v ≡ logs_of w
-  unfolding v n'
-  logs_same = changed.logs_same i region lr n' same
-
-  node : node_at v region ≡ n'
-  unfolding v n'
-  node = changed.node_now i region lr n' same
-
-  other : (q : ℕ) → q ≢ region → node_at v q ≡ node_at w q
-  unfolding v n'
-  other q n = changed.others_same i region lr n' same q n
-
-  txns_now : (ids : List TxnId) → txns_of v ids ≡ txns_of w ids
-  unfolding v n'
-  txns_now ids = changed.txns_now i region lr n' same ids
+  left = leaves i region lr n' (record { submitted = refl; log = refl; asked = refl; taken = refl })
 
   view_same : (q : ℕ) → view_at v q ≡ view_at w q
   unfolding n'
-  view_same q = view_kept cluster w v logs_same (keeps (λ n. n.here.inserted) refl) (keeps (λ n. n.received) refl) (keeps (λ n. n.log) refl) q
+  view_same q = view_kept cluster w v left.logs (left.keeps (λ n. n.here.inserted) refl) (left.keeps (λ n. n.received) refl) (left.keeps (λ n. n.log) refl) q
 
   -- what the region has executed now
   done_now : done_ids (node_at v region).here ≡ done_ids (node_at w region).here ++ id ∷ []
   unfolding n'
-  done_now = ap (λ n. done_ids n.here) node ∙ map_push (λ d. d.0) (node_at w region).here.done (txn.id, (one cluster.procs txn (node_at w region).here.table).0) ∙ ap (λ x. done_ids (node_at w region).here ++ x ∷ []) same_id
+  done_now = ap (λ n. done_ids n.here) left.node ∙ map_push (λ d. d.0) (node_at w region).here.done (txn.id, (one cluster.procs txn (node_at w region).here.table).0) ∙ ap (λ x. done_ids (node_at w region).here ++ x ∷ []) same_id
 
   sound : Sound cluster.regions v
   unfolding n'
   sound q lq = subst (λ x. IsSound x (node_at v q).here.resolved (done_ids (node_at v q).here)) (sym (view_same q)) (by (either_nat q region))
     where
       by : Either (q ≡ region) → IsSound (view_at w q) (node_at v q).here.resolved (done_ids (node_at v q).here)
-      by (inr n) = subst (λ x. IsSound (view_at w q) x.here.resolved (done_ids x.here)) (sym (other q n)) (i.sound q lq)
+      by (inr n) = subst (λ x. IsSound (view_at w q) x.here.resolved (done_ids x.here)) (sym (left.others q n)) (i.sound q lq)
       by (inl e) = subst (λ y. IsSound (view_at w y) (node_at v y).here.resolved (done_ids (node_at v y).here)) (sym e)
           (subst (λ l. IsSound (view_at w region) (node_at v region).here.resolved l) (sym done_now)
-          (subst (λ x. IsSound (view_at w region) x.here.resolved (done_ids (node_at w region).here ++ id ∷ [])) (sym node)
+          (subst (λ x. IsSound (view_at w region) x.here.resolved (done_ids (node_at w region).here ++ id ∷ [])) (sym left.node)
           (sound_execute (view_at w region) (node_at w region).here.resolved (done_ids (node_at w region).here) id may (i.sound region lr))))
 
   tables : Tables cluster v
@@ -104,12 +83,12 @@ module _ {cluster : Cluster} {workload : Workload} {w : World} {order : List Txn
   tables q lq = by (either_nat q region)
     where
       by : Either (q ≡ region) → IsRunOf cluster (opening_table cluster) (txns_of v (done_ids (node_at v q).here)) (node_at v q).here
-      by (inr n) = subst (λ x. IsRunOf cluster (opening_table cluster) (txns_of v (done_ids x.here)) x.here) (sym (other q n))
-          (subst (λ l. IsRunOf cluster (opening_table cluster) l (node_at w q).here) (sym (txns_now (done_ids (node_at w q).here))) (i.tables q lq))
+      by (inr n) = subst (λ x. IsRunOf cluster (opening_table cluster) (txns_of v (done_ids x.here)) x.here) (sym (left.others q n))
+          (subst (λ l. IsRunOf cluster (opening_table cluster) l (node_at w q).here) (sym (left.txns (done_ids (node_at w q).here))) (i.tables q lq))
       by (inl e) = subst (λ y. IsRunOf cluster (opening_table cluster) (txns_of v (done_ids (node_at v y).here)) (node_at v y).here) (sym e)
           (subst (λ l. IsRunOf cluster (opening_table cluster) l (node_at v region).here)
-          (sym (txns_now (done_ids (node_at v region).here) ∙ ap (txns_of w) done_now ∙ txns_more w (done_ids (node_at w region).here) id txn found))
-          (subst (λ x. IsRunOf cluster (opening_table cluster) (txns_of w (done_ids (node_at w region).here) ++ txn ∷ []) x.here) (sym node)
+          (sym (left.txns (done_ids (node_at v region).here) ∙ ap (txns_of w) done_now ∙ txns_more w (done_ids (node_at w region).here) id txn found))
+          (subst (λ x. IsRunOf cluster (opening_table cluster) (txns_of w (done_ids (node_at w region).here) ++ txn ∷ []) x.here) (sym left.node)
           (run_more cluster (opening_table cluster) (txns_of w (done_ids (node_at w region).here)) txn (node_at w region).here (i.tables region lr))))
 
   -- what regions have executed: as before, and this
@@ -118,7 +97,7 @@ module _ {cluster : Cluster} {workload : Workload} {w : World} {order : List Txn
   still q x h = by (either_nat q region)
     where
       by : Either (q ≡ region) → IsExecutedAt v q x
-      by (inr n) = subst (λ y. Has (done_ids y.here) x) (sym (other q n)) h
+      by (inr n) = subst (λ y. Has (done_ids y.here) x) (sym (left.others q n)) h
       by (inl e) = subst (λ y. IsExecutedAt v y x) (sym e) (subst (λ l. Has l x) (sym done_now) (has_longer (done_ids (node_at w region).here) (id ∷ []) x (subst (λ y. IsExecutedAt w y x) e h)))
 
   this : IsExecutedAt v region id
@@ -128,7 +107,7 @@ module _ {cluster : Cluster} {workload : Workload} {w : World} {order : List Txn
   was q x h = by (either_nat q region)
     where
       by : Either (q ≡ region) → IsExecutedAt w q x ⊎ (id ≡ x)
-      by (inr n) = inl (subst (λ y. Has (done_ids y.here) x) (other q n) h)
+      by (inr n) = inl (subst (λ y. Has (done_ids y.here) x) (left.others q n) h)
       by (inl e) = elim (has_more (done_ids (node_at w region).here) id x (subst (λ l. Has l x) done_now (subst (λ y. IsExecutedAt v y x) e h))) [
         | inl k ↦ inl (subst (λ y. IsExecutedAt w y x) (sym e) k)
         | inr k ↦ inr k
@@ -140,7 +119,7 @@ module _ {cluster : Cluster} {workload : Workload} {w : World} {order : List Txn
       λ h. let r : (q : ℕ) × (q < cluster.regions) × IsExecutedAt w q x = (i.ordered.executed x).0 h in (r.0, r.1, still r.0 x r.2),
       λ r. elim (was r.0 x r.2) [ inl k ↦ (i.ordered.executed x).1 (r.0, r.1, k) | inr e ↦ subst (Has order) e known ],
     );
-    down = subst (λ l. IsDown (Precedes l) order) (sym logs_same) i.ordered.down;
+    down = subst (λ l. IsDown (Precedes l) order) (sym left.logs) i.ordered.down;
   }
 
   ordered_first : ¬ (Has order id) → IsOrder cluster.regions v (order ++ id ∷ [])
@@ -152,16 +131,16 @@ module _ {cluster : Cluster} {workload : Workload} {w : World} {order : List Txn
       ],
       λ r. elim (was r.0 x r.2) [ inl k ↦ has_longer order (id ∷ []) x ((i.ordered.executed x).1 (r.0, r.1, k)) | inr e ↦ subst (Has (order ++ id ∷ [])) e (has_last order id) ],
     );
-    down = subst (λ l. IsDown (Precedes l) (order ++ id ∷ [])) (sym logs_same) (down_push (Precedes (logs_of w)) order id i.ordered.down new
+    down = subst (λ l. IsDown (Precedes l) (order ++ id ∷ [])) (sym left.logs) (down_push (Precedes (logs_of w)) order id i.ordered.down new
         (λ u p. (i.ordered.executed u).1 (region, lr, may.preceders u ((precedes_full i region u id lr may.closed).1 p))));
   }
 
   with_order : (later : List TxnId) → IsOrder cluster.regions v later → Inv cluster workload v later
   unfolding v n'
-  with_order later o = changed.change_keeps i region lr n' same later (record {
+  with_order later o = change_keeps i region lr n' left.same later (record {
     received = (i.sized region lr).received;
     inserted = (i.sized region lr).inserted;
-    lengths = lengths_kept cluster w v cluster.regions (keeps (λ n. n.here.inserted) refl) (keeps (λ n. n.received) refl) (keeps (λ n. n.log) refl) i.lengths;
+    lengths = lengths_kept cluster w v cluster.regions (left.keeps (λ n. n.here.inserted) refl) (left.keeps (λ n. n.received) refl) (left.keeps (λ n. n.log) refl) i.lengths;
     sound = sound;
     tables = tables;
     ordered = o;
@@ -174,14 +153,14 @@ module _ {cluster : Cluster} {workload : Workload} {w : World} {order : List Txn
   -- the region ran one transaction more
   pub executed_txns : txns_of (moved_on cluster w region (Execute region id)) (done_ids (node_at (moved_on cluster w region (Execute region id)) region).here) ≡ txns_of w (done_ids (node_at w region).here) ++ txn ∷ []
   executed_txns = subst (λ x. txns_of x (done_ids (node_at x region).here) ≡ txns_of w (done_ids (node_at w region).here) ++ txn ∷ []) world_is
-      (txns_now (done_ids (node_at v region).here) ∙ ap (txns_of w) done_now ∙ txns_more w (done_ids (node_at w region).here) id txn found)
+      (left.txns (done_ids (node_at v region).here) ∙ ap (txns_of w) done_now ∙ txns_more w (done_ids (node_at w region).here) id txn found)
 
   -- and what each region has executed goes on where it ended
   pub executed_more : (q : ℕ) → IsFront (done_ids (node_at w q).here) (done_ids (node_at (moved_on cluster w region (Execute region id)) q).here)
   executed_more q = subst (λ x. IsFront (done_ids (node_at w q).here) (done_ids (node_at x q).here)) world_is (by (either_nat q region))
     where
       by : Either (q ≡ region) → IsFront (done_ids (node_at w q).here) (done_ids (node_at v q).here)
-      by (inr n) = subst (λ x. IsFront (done_ids (node_at w q).here) (done_ids x.here)) (sym (other q n)) (front_refl (done_ids (node_at w q).here))
+      by (inr n) = subst (λ x. IsFront (done_ids (node_at w q).here) (done_ids x.here)) (sym (left.others q n)) (front_refl (done_ids (node_at w q).here))
       by (inl e) = subst (λ y. IsFront (done_ids (node_at w y).here) (done_ids (node_at v y).here)) (sym e)
           (subst (IsFront (done_ids (node_at w region).here)) (sym done_now) (front_append (done_ids (node_at w region).here) (id ∷ [])))
 

@@ -11,7 +11,6 @@ use Rattle.dt_session.specs.World.{World, opening_world}
 use Rattle.dt_session.specs.Step.{IsLegal, next}
 use Rattle.dt_session.specs.Run.{world_from, world_after, AreLegalFrom, AreLegal}
 use Rattle.dt_session.specs.Eager.{AllChange}
-use Rattle.dt_agreement.proofs.Callers.{legal_keeps}
 use Rattle.dt_merge.specs.Own.{Own, own, HasGrown, IsSupplied, source_of}
 use Rattle.dt_merge.specs.WorldRegions.{HasInvariant, world_regions}
 use Rattle.dt_merge.specs.Regional.{Regions, after_all, AreLegalIn, AllChangeIn, AreLocal, IsRescheduling, Rescheduled}
@@ -19,6 +18,7 @@ use Rattle.dt_events.specs.declared.Stamped.{Stamped}
 use Rattle.dt_events.specs.Stamps.{events_of}
 use Rattle.dt_merge.specs.Merge.{region_at, those_at, kept_at, HasLowerStamp, ComesBefore, AreKept, IsMerge, IsFed, IsChronicle}
 use Rattle.dt_merge.proofs.EventOrders.{rescheduled, rescheduled_whole}
+use Rattle.dt_merge.proofs.GoodWorlds.{opening_good}
 use Rattle.dt_merge.proofs.Worlds.{world_local}
 use Rattle.dt_merge.proofs.MergeLists.{merge_keeps, not_above}
 
@@ -129,11 +129,8 @@ module _ {cluster : Cluster} {workload : Workload} {all : List Stamped} {kept : 
     rescheduling = record { fronts = λ q. ([], append-nil (those_at q merged) ∙ own_order q ∙ c.lists q); fed = fed }
 
     module _ (ok : IsValidCluster cluster) (fits : IsValidWorkload cluster workload) where
-      opening : HasInvariant cluster workload (opening_world cluster workload)
-      opening = record { order = []; inv = legal_keeps cluster ok workload fits [] tt }
-
       result : Rescheduled (stamped_regions cluster workload) (opening_world cluster workload) all merged
-      result = rescheduled (stamped_regions cluster workload) (stamped_local cluster ok workload fits) (opening_world cluster workload) opening all
+      result = rescheduled (stamped_regions cluster workload) (stamped_local cluster ok workload fits) (opening_world cluster workload) (opening_good ok fits) all
           (legal_in cluster workload (opening_world cluster workload) all c.legal) merged rescheduling
 
       pub merge_legal : AreLegal cluster workload (events_of merged)
@@ -145,6 +142,6 @@ module _ {cluster : Cluster} {workload : Workload} {all : List Stamped} {kept : 
       pub merge_world : world_after cluster workload (events_of merged) ≡ world_after cluster workload (events_of all)
       merge_world =
           sym (after_is cluster workload (opening_world cluster workload) merged)
-          ∙ rescheduled_whole (stamped_regions cluster workload) (stamped_local cluster ok workload fits) (opening_world cluster workload) opening all
+          ∙ rescheduled_whole (stamped_regions cluster workload) (stamped_local cluster ok workload fits) (opening_world cluster workload) (opening_good ok fits) all
           (legal_in cluster workload (opening_world cluster workload) all c.legal) merged rescheduling (λ q. own_order q ∙ c.lists q)
           ∙ after_is cluster workload (opening_world cluster workload) all

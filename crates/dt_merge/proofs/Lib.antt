@@ -1,6 +1,7 @@
 pub mod Cuts
 pub mod EventOrders
 pub mod SideBySide
+pub mod GoodWorlds
 pub mod OwnParts
 pub mod Frames
 pub mod OwnSteps

@@ -30,6 +30,7 @@ use Rattle.dt_agreement.specs.Invariant.{IsPlaceOf, has_home, requests}
 use Rattle.dt_agreement.proofs.Callers.{WasSubmitted, IsRequest, WaitsAt, executable_known, log_is, logs_length, received_within, request_is, session_found, waiting_for}
 use Rattle.dt_merge.specs.Own.{own, HasGrown, HaveGrown, source_of, IsSupplied}
 use Rattle.dt_merge.specs.WorldRegions.{HasInvariant}
+use Rattle.dt_merge.proofs.GoodWorlds.{node_there}
 use Rattle.dt_merge.proofs.OwnParts.{local, found_own, found_on, fronts_stay, logs_longer}
 use Rattle.dt_merge.proofs.OwnSteps.{append_own, received_own, deliver_own, move_own, answer_own, submit_own, own_answered, own_submitted, own_appended, own_delivered, own_moved}
 
@@ -84,9 +85,6 @@ module _ {cluster : Cluster} {workload : Workload} (w v z : World) (gw : HasInva
   nodes : node_at w region ≡ node_at v region
   nodes = ap (λ o. o.node) same
 
-  room : (u : World) → HasInvariant cluster workload u → region < length u.nodes
-  room u g = subst (λ m. region < m) (sym g.inv.nodes) lr
-
   found : (name : Bytes) → session_at workload.sessions w.places region name ≡ session_at workload.sessions v.places region name
   found name =
       found_own workload.sessions w.places region name ∙ ap (λ o. session_at (local region workload.sessions) o.places region name) same
@@ -120,9 +118,9 @@ module _ {cluster : Cluster} {workload : Workload} (w v z : World) (gw : HasInva
       → own workload (called cluster workload w region session place o) region ≡ own workload (called cluster workload v region session place o) region
   called_same session place e None = same
   called_same session place e (Some call) =
-      own_submitted cluster workload w region (room w gw) session place call
+      own_submitted cluster workload w region (node_there gw region lr) session place call
       ∙ ap₂ (submit_own cluster workload region session place call) same e
-      ∙ sym (own_submitted cluster workload v region (room v gv) session place call)
+      ∙ sym (own_submitted cluster workload v region (node_there gv region lr) session place call)
 
   submit_local : (name : Bytes) → MaySubmit cluster w region (session_at workload.sessions w.places region name)
       → MaySubmit cluster v region (session_at workload.sessions v.places region name)
@@ -186,18 +184,18 @@ module _ {cluster : Cluster} {workload : Workload} (w v z : World) (gw : HasInva
   append_local : (source number : ℕ) → source < cluster.regions → number < length (asked_of w source region) → number < length (asked_of v source region)
       → own workload (next cluster workload w (Append region source number)) region ≡ own workload (next cluster workload v (Append region source number)) region
   append_local source number ls more_w more_v =
-      own_appended cluster workload w region (room w gw) source (eqb number (taken_of w region source)) (option_and_then (txn_of w) (slice_get (asked_of w source region) number))
+      own_appended cluster workload w region (node_there gw region lr) source (eqb number (taken_of w region source)) (option_and_then (txn_of w) (slice_get (asked_of w source region) number))
       ∙ (λ k. append_own region source (same k) (eqb number (taken k)) (asks_same source ls number more_w more_v k))
-      ∙ sym (own_appended cluster workload v region (room v gv) source (eqb number (taken_of v region source)) (option_and_then (txn_of v) (slice_get (asked_of v source region) number)))
+      ∙ sym (own_appended cluster workload v region (node_there gv region lr) source (eqb number (taken_of v region source)) (option_and_then (txn_of v) (slice_get (asked_of v source region) number)))
     where
       taken : taken_of w region source ≡ taken_of v region source
       taken = ap (λ n. slice_index n.here.taken source) nodes
 
   deliver_local : (home first last : ℕ) → own workload (next cluster workload w (Deliver region home first last)) region ≡ own workload (next cluster workload v (Deliver region home first last)) region
   deliver_local home first last =
-      own_delivered cluster workload w region (room w gw) home last (leb first (received_of w region home) && ltb (received_of w region home) last)
+      own_delivered cluster workload w region (node_there gw region lr) home last (leb first (received_of w region home) && ltb (received_of w region home) last)
       ∙ ap (λ o. deliver_own home last o (leb first (received_own region o home) && ltb (received_own region o home) last)) same
-      ∙ sym (own_delivered cluster workload v region (room v gv) home last (leb first (received_of v region home) && ltb (received_of v region home) last))
+      ∙ sym (own_delivered cluster workload v region (node_there gv region lr) home last (leb first (received_of v region home) && ltb (received_of v region home) last))
 
   -- steps that the region makes by itself
 
@@ -210,22 +208,22 @@ module _ {cluster : Cluster} {workload : Workload} (w v z : World) (gw : HasInva
 
   insert_local : (home : ℕ) → own workload (next cluster workload w (Insert region home)) region ≡ own workload (next cluster workload v (Insert region home)) region
   insert_local home =
-      own_moved cluster workload w region (room w gw) (stepped cluster.procs (txn_of w) (node_at w region).here (Insert region home))
+      own_moved cluster workload w region (node_there gw region lr) (stepped cluster.procs (txn_of w) (node_at w region).here (Insert region home))
       ∙ ap (λ o. move_own o (stepped cluster.procs (txn_of w) o.node.here (Insert region home))) same
-      ∙ sym (own_moved cluster workload v region (room v gv) (stepped cluster.procs (txn_of v) (node_at v region).here (Insert region home)))
+      ∙ sym (own_moved cluster workload v region (node_there gv region lr) (stepped cluster.procs (txn_of v) (node_at v region).here (Insert region home)))
 
   resolve_local : (ids : List TxnId) → own workload (next cluster workload w (Resolve region ids)) region ≡ own workload (next cluster workload v (Resolve region ids)) region
   resolve_local ids =
-      own_moved cluster workload w region (room w gw) (stepped cluster.procs (txn_of w) (node_at w region).here (Resolve region ids))
+      own_moved cluster workload w region (node_there gw region lr) (stepped cluster.procs (txn_of w) (node_at w region).here (Resolve region ids))
       ∙ ap (λ o. move_own o (stepped cluster.procs (txn_of w) o.node.here (Resolve region ids))) same
-      ∙ sym (own_moved cluster workload v region (room v gv) (stepped cluster.procs (txn_of v) (node_at v region).here (Resolve region ids)))
+      ∙ sym (own_moved cluster workload v region (node_there gv region lr) (stepped cluster.procs (txn_of v) (node_at v region).here (Resolve region ids)))
 
   execute_local : (id : TxnId) → MayStep (received_logs w region) (node_at w region).here (Execute region id)
       → own workload (next cluster workload w (Execute region id)) region ≡ own workload (next cluster workload v (Execute region id)) region
   execute_local id may =
-      own_moved cluster workload w region (room w gw) (executed cluster.procs (node_at w region).here (txn_of w id))
+      own_moved cluster workload w region (node_there gw region lr) (executed cluster.procs (node_at w region).here (txn_of w id))
       ∙ ap₂ (λ o t. move_own o (executed cluster.procs o.node.here t)) same txn_same
-      ∙ sym (own_moved cluster workload v region (room v gv) (executed cluster.procs (node_at v region).here (txn_of v id)))
+      ∙ sym (own_moved cluster workload v region (node_there gv region lr) (executed cluster.procs (node_at v region).here (txn_of v id)))
     where
       in_w : WasSubmitted w id
       in_w = executable_known cluster workload w gw.order region id lr may gw.inv

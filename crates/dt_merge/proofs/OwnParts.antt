@@ -3,6 +3,7 @@
 use Rattle.std.proofs.Common.{◌≡◌, ◌≢◌, ◌<◌, ◌≤◌, ◌⊎◌, ℕ, zero, suc, Bool, true, false, cond, eqb, ◌&&◌, List, [], ◌∷◌, ◌++◌, length, get_or, map, take, Some, None}
 use Rattle.std.proofs.Common.{refl, sym, ap, ap₂, ◌∙◌, inl, inr, eqb-true, eq-eqb, arith}
 use Rattle.std.specs.Prelude.{Option, filter, slice_index}
+use Rattle.std.proofs.Math.Bool.{and-false}
 use Rattle.std.proofs.lemmas.Bool.{cases_Bool, false_from_ne_true}
 use Rattle.std.proofs.lemmas.List.{take-append-le}
 use Rattle.dt_lists.proofs.Callers.{same_head, same_tail}
@@ -33,10 +34,6 @@ module _ (region : ℕ) (s : Session) (sessions : List Session) (here : eqb s.re
   pub places_yes : (x : Place) (places : List Place) → places_at region (s ∷ sessions) (x ∷ places) ≡ x ∷ places_at region sessions places
   places_yes x places = rw here refl
 
-and_no : (b : Bool) → (b && false) ≡ false
-and_no true = refl
-and_no false = refl
-
 module _ (region : ℕ) (s : Session) (sessions : List Session) (elsewhere : eqb s.region region ≡ false) where
   pub local_no : local region (s ∷ sessions) ≡ local region sessions
   local_no = rw elsewhere refl
@@ -45,7 +42,7 @@ module _ (region : ℕ) (s : Session) (sessions : List Session) (elsewhere : eqb
   places_no x places = rw elsewhere refl
 
   session_no : (name : Bytes) → is_session region name s ≡ false
-  session_no name = ap (λ b. same_key s.name name && b) elsewhere ∙ and_no (same_key s.name name)
+  session_no name = ap (λ b. same_key s.name name && b) elsewhere ∙ and-false (same_key s.name name)
 
 -- places that are equal for each region are equal
 pub same_places : (sessions : List Session) (ps qs : List Place) → length sessions ≡ length ps → length sessions ≡ length qs

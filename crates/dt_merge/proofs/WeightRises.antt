@@ -32,6 +32,7 @@ use Rattle.dt_merge.specs.Own.{own}
 use Rattle.dt_merge.specs.Weight.{sum_below, weight, world_weight}
 use Rattle.dt_merge.specs.WorldRegions.{HasInvariant}
 use Rattle.dt_merge.proofs.Frames.{frame}
+use Rattle.dt_merge.proofs.GoodWorlds.{node_there}
 use Rattle.dt_merge.proofs.OwnParts.{local, found_own}
 use Rattle.dt_merge.proofs.OwnSteps.{attempt_of_own, move_own, own_answered, own_submitted, own_appended, own_delivered, own_moved}
 use Rattle.dt_merge.proofs.SideBySide.{below_other}
@@ -116,7 +117,7 @@ answered_with (t ∷ sessions) (x ∷ places) region name s p now e = go (cases_
 
 module _ (cluster : Cluster) (ok : IsValidCluster cluster) (workload : Workload) (w : World) (g : HasInvariant cluster workload w) (region : ℕ) (lr : region < cluster.regions) where
   room : region < length w.nodes
-  room = subst (λ m. region < m) (sym g.inv.nodes) lr
+  room = node_there g region lr
 
   Rises : World → Type 0
   Rises v = weight region (own workload w region) < weight region (own workload v region)

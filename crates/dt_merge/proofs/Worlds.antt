@@ -1,5 +1,5 @@
 -- Worlds of regions and sessions are as `Regional` wants them: their events are local.
-use Rattle.std.proofs.Common.{◌≡◌, ◌<◌, ℕ, List, [], ◌∷◌, refl, sym, ap, subst, ◌∙◌}
+use Rattle.std.proofs.Common.{◌≡◌, ◌<◌, ℕ, List, [], ◌∷◌, refl, sym, ap, ◌∙◌}
 use Rattle.dt_events.specs.declared.Event.{Event}
 use Rattle.dt_events.specs.declared.Event.TheVariants.{Submit, Append, Deliver, Insert, Resolve, Execute, Answer}
 use Rattle.dt_events.specs.Events.{region_of}
@@ -14,6 +14,7 @@ use Rattle.dt_agreement.proofs.Callers.{next_keeps, ordered, places_parallel}
 use Rattle.dt_merge.specs.Own.{HaveGrown, own}
 use Rattle.dt_merge.specs.WorldRegions.{HasInvariant, world_regions}
 use Rattle.dt_merge.specs.Regional.{after_all, AreLegalIn, AreLocal}
+use Rattle.dt_merge.proofs.GoodWorlds.{node_there}
 use Rattle.dt_merge.proofs.OwnParts.{same_lists, same_places}
 use Rattle.dt_merge.proofs.Frames.{frame}
 use Rattle.dt_merge.proofs.SubmissionsStay.{grown_refl, grown_trans, grows}
@@ -42,7 +43,7 @@ whole {cluster = cluster} {workload = workload} w v gw gv same = λ k. record { 
 
 -- what regions submit and place stays
 pub legal_grows : (cluster : Cluster) (workload : Workload) (w : World) (e : Event) → HasInvariant cluster workload w → IsLegal cluster workload w e → HaveGrown w (next cluster workload w e)
-legal_grows cluster workload w e good legal = grows cluster workload w e (subst (λ m. region_of e < m) (sym good.inv.nodes) (region_there cluster.regions e legal.regions))
+legal_grows cluster workload w e good legal = grows cluster workload w e (node_there good (region_of e) (region_there cluster.regions e legal.regions))
 
 pub world_local : (cluster : Cluster) → IsValidCluster cluster → (workload : Workload) → IsValidWorkload cluster workload → AreLocal (world_regions cluster workload)
 world_local cluster ok workload fits = record {

@@ -1,7 +1,7 @@
 -- The sessions of a region, gathered from a workload and found by their names.
 use Rattle.std.proofs.Common.{◌≡◌, ◌≢◌, ◌⊎◌, ◌<◌, ◌≤◌, ◌+◌, ◌-◌, ◌==◌, ℕ, zero, suc, Bool, true, false, cond, eq-eqb, eqb, eqb-true, List, [], ◌∷◌}
 use Rattle.std.proofs.Common.{length, map, get_or, drop, slice_get, ◌++◌, Some, None, refl, sym, ap, subst, ◌∙◌, inl, inr, arith}
-use Rattle.std.specs.Prelude.{Option, IsSome, option_and_then, option_map}
+use Rattle.std.specs.Prelude.{◌↔◌, Option, IsTrue, option_and_then, option_map}
 use Rattle.std.specs.List.{All, AllByRecursion}
 use Rattle.std.specs.List.Sorted.{IsStrictlySortedBy}
 use Rattle.std.specs.declared.cmp.Ordering.{Ordering}
@@ -11,29 +11,30 @@ use Rattle.std.specs.Cmp.Lexicographic.{bytes_decides, slice_cmp, texts_ties}
 use Rattle.std.specs.BTreeMap.{insert_entry}
 use Rattle.std.specs.Map.{keys_of, lookup, set_value}
 use Rattle.std.proofs.lemmas.Map.{keys-set_value}
+use Rattle.std.proofs.lemmas.Map.Steps.{set_value_same}
 use Rattle.std.proofs.lemmas.Bool.{cases_Bool, false_from_ne_true}
-use Rattle.std.proofs.lemmas.Option.{slice_get-get_or}
+use Rattle.std.proofs.lemmas.Option.{same_Some}
 use Rattle.std.proofs.lemmas.List.{append_assoc, drop_more}
 use Rattle.std.proofs.lemmas.List.Sums.{sum_by-cons}
 use Rattle.indexmap.specs.IndexMap.{IndexMap, insert_entry as insert_last}
+use Rattle.indexmap.specs.Layout.{set_value_at}
 use Rattle.indexmap.proofs.CallerLemmas.{insert_entry-new}
 use Rattle.dt_lists.specs.Lists.{AllIn, Distinct, EachThen, Has}
-use Rattle.dt_lists.proofs.Callers.{all_get, all_put, each_image, each_of_image, has_middle, has_place, place_within}
+use Rattle.dt_lists.proofs.Callers.{all_get, all_put, each_image, each_of_image, has_middle, has_place}
 use Rattle.dt_access.specs.Clash.{Bytes, same_key}
 use Rattle.dt_access.specs.Orders.{HasAscendingKeys, KeyBefore}
+use Rattle.dt_access.specs.declared.TxnId.{TxnId}
 use Rattle.dt_access.proofs.Callers.{same_key_after, same_key_self}
-use Rattle.dt_txn.specs.declared.Body.{Body}
 use Rattle.dt_txn.specs.declared.Outcome.{Outcome}
 use Rattle.dt_workload.specs.Valid.{calls_in, session_names}
 use Rattle.dt_workload.specs.declared.Session.{Session}
-use Rattle.dt_workload.specs.declared.Ranked.{Ranked}
 use Rattle.dt_session.specs.declared.sessions.Seat.{Seat}
 use Rattle.dt_session.specs.Eager.{sessions_at, with_session}
 use Rattle.dt_session.specs.declared.sessions.Waiting.{Waiting}
-use Rattle.dt_session.specs.Sessions.{AreAllAnswered, AreSoundSeats, EachNameIsAnswered, IsSoundSeat, MayBeAnswered}
-use Rattle.dt_session.specs.Sessions.{MaySeatEnd, MaySeatTry, SessionsView, StandsWithin, idle_seat, is_named, seat_of, waits_of}
+use Rattle.dt_session.specs.Sessions.{AreAllAnswered, AreSoundSeats, EachNameIsAnswered, IsSoundSeat, MayBeAnswered, MayGo}
+use Rattle.dt_session.specs.Sessions.{MaySeatEnd, MaySeatTry, SessionsView, StandsWithin, after_answer, after_wait, answered_seat, idle_seat, is_named, seat_of, waiting, waits_of, with_changed}
 use Rattle.dt_session.specs.World.{Place, idle_place, session_at}
-use Rattle.dt_session.specs.Tries.{Awaited, MayEnd, MayTry, body_of, ranked_body}
+use Rattle.dt_session.specs.Tries.{Awaited, MayEnd, MayTry}
 
 -- one name is another
 pub same_name : (a b : Bytes) → is_named a b ≡ true → a ≡ b
@@ -122,14 +123,6 @@ module _ (region : ℕ) (sessions : List Session) (once : Distinct (session_name
       let not : eqb s.region region ≡ false = false_from_ne_true (eqb s.region region) (λ e. away (eqb-true s.region region e)) in
       sym (ap (sessions_at region) parts ∙ rw not refl)
 
--- a call that there is has its place
-pub a_call : (o : Option Seat) (seat : Seat) (call : ℕ) → o ≡ Some seat → IsSome (option_and_then (λ (x : Seat). slice_get x.calls (call - 1)) o) → call - 1 < length seat.calls
-a_call o seat call e some = go (slice_get seat.calls (call - 1)) refl (subst (λ x. IsSome (option_and_then (λ (y : Seat). slice_get y.calls (call - 1)) x)) e some)
-  where
-    go : (w : Option Ranked) → slice_get seat.calls (call - 1) ≡ w → IsSome w → call - 1 < length seat.calls
-    go None is h = cc
-    go (Some x) is h = place_within seat.calls (call - 1) x is
-
 -- a session that is found stands soundly, and where one that stands soundly is put in its place, all do
 
 pub found_sound : (entries : List (Bytes × Seat)) (name : Bytes) (seat : Seat) → AllIn (λ p. IsSoundSeat p.1) entries → lookup (is_named name) entries ≡ Some seat → IsSoundSeat seat
@@ -197,6 +190,41 @@ waits_there s index p a e =
     ap (option_and_then (waits_of s)) (get_name s.seats index ∙ ap (option_map (λ q. q.0)) e)
     ∙ ap (option_and_then (λ (seat : Seat). option_map (λ (w : Waiting). w.id) seat.waits)) (stands_at s index p a e)
 
+-- what a place of the list has
+
+pub get_seat : (entries : List (Bytes × Seat)) (i : ℕ) (p : Bytes × Seat) → slice_get entries i ≡ Some p → slice_get (map (λ q. q.1) entries) i ≡ Some p.1
+get_seat [] i p e = cc
+get_seat (q ∷ entries) zero p e = ap (option_map (λ x. x.1)) e
+get_seat (q ∷ entries) (suc i) p e = get_seat entries i p e
+
+-- the session at a place has a name
+pub named_at : (entries : List (Bytes × Seat)) (i : ℕ) (seat : Seat) → slice_get (map (λ p. p.1) entries) i ≡ Some seat → (name : Bytes) × (slice_get entries i ≡ Some (name, seat))
+named_at [] i seat e = cc
+named_at (p ∷ entries) zero seat e = (p.0, ap (λ x. Some (p.0, x)) (same_Some _ _ e))
+named_at (p ∷ entries) (suc i) seat e = named_at entries i seat e
+
+-- of a place that has this name and this session
+pub at_place : (entries : List (Bytes × Seat)) (i : ℕ) (name : Bytes) (seat : Seat) → slice_get (map (λ p. p.0) entries) i ≡ Some name → slice_get (map (λ p. p.1) entries) i ≡ Some seat
+    → slice_get entries i ≡ Some (name, seat)
+at_place [] i name seat n e = cc
+at_place (p ∷ entries) zero name seat n e = λ j. Some (same_Some _ _ n j, same_Some _ _ e j)
+at_place (p ∷ entries) (suc i) name seat n e = at_place entries i name seat n e
+
+pub sound_at : (entries : List (Bytes × Seat)) (i : ℕ) (p : Bytes × Seat) → AreSoundSeats entries → slice_get entries i ≡ Some p → IsSoundSeat p.1
+sound_at entries i p a e = all_get (λ q. IsSoundSeat q.1) entries a.each p (has_place entries i p e)
+
+-- another session in the place of one is in that of its name
+pub written_there : (entries : List (Bytes × Seat)) (i : ℕ) (p : Bytes × Seat) (seat : Seat) → HasAscendingKeys entries → slice_get entries i ≡ Some p
+    → set_value_at entries i seat ≡ set_value (is_named p.0) entries seat
+written_there [] i p seat a e = cc
+written_there (q ∷ entries) zero p seat a e =
+    let same : q ≡ p = same_Some _ _ e in
+    let own : is_named p.0 q.0 ≡ true = ap (λ x. is_named p.0 x.0) same ∙ sym (texts_ties p.0 p.0) ∙ same_key_self p.0 in
+    rw own refl
+written_there (q ∷ entries) (suc i) p seat a e =
+    let other : is_named p.0 q.0 ≡ false = sym (texts_ties p.0 q.0) ∙ same_key_after p.0 q.0 (all_get (λ x. KeyBefore q.0 x.0) entries a.0 p (has_place entries i p e)) in
+    rw other (ap (λ l. q ∷ l) (written_there entries i p seat a.1 e))
+
 -- names are told apart by `==`, as the map does, as they are by their order
 
 pub looked_up : (entries : List (Bytes × Seat)) (name : Bytes) → lookup (same_key name) entries ≡ lookup (is_named name) entries
@@ -208,6 +236,28 @@ seat_written entries name seat = ap (λ test. set_value test entries seat) (λ j
 -- so the map finds the session of a name
 pub mapped : (s : SessionsView) (name : Bytes) (o : Option Seat) → o ≡ lookup (same_key name) s.seats → seat_of s name ≡ o
 mapped s name o e = sym (e ∙ looked_up s.seats name)
+
+-- what follows where the session of a name is found, and another is put in its place
+module _ (s v : SessionsView) (is : s ≡ v) (name : Bytes) (seat : Seat) (found : seat_of s name ≡ Some seat) where
+  pub end_legal : (last : Option Outcome) (b : Bool) → (IsTrue b ↔ MaySeatEnd s.tries (Some seat) last) → IsTrue b ↔ MayBeAnswered v name last
+  end_legal last b e = subst (λ x. IsTrue b ↔ MayBeAnswered x name last) is (subst (λ o. IsTrue b ↔ MaySeatEnd s.tries o last) (sym found) e)
+
+  pub try_legal : (last : Option Outcome) → MayGo v name last → MaySeatTry s.tries (Some seat) last
+  try_legal last may = subst (λ o. MaySeatTry s.tries o last) found (subst (λ x. MayGo x name last) (sym is) may)
+
+  module _ (seats : List (Bytes × Seat)) (now : Seat) (put : seats ≡ set_value (is_named name) s.seats now) where
+    pub unchanged : now ≡ seat → record s { seats = seats } ≡ v
+    unchanged e = ap (λ l. record s { seats = l }) (put ∙ ap (set_value (is_named name) s.seats) e ∙ set_value_same (is_named name) s.seats seat found) ∙ is
+
+    pub answered_now : now ≡ answered_seat seat → record s { seats = seats } ≡ after_answer v name
+    answered_now e =
+        ap (λ l. record s { seats = l }) (put ∙ ap (set_value (is_named name) s.seats) e)
+        ∙ ap (with_changed answered_seat s name) (sym found) ∙ ap (λ x. after_answer x name) is
+
+    pub waits_now : (id : TxnId) → now ≡ waiting seat id → record s { seats = seats } ≡ after_wait v name id
+    waits_now id e =
+        ap (λ l. record s { seats = l }) (put ∙ ap (set_value (is_named name) s.seats) e)
+        ∙ ap (with_changed (λ x. waiting x id) s name) (sym found) ∙ ap (λ x. after_wait x name id) is
 
 -- the name that follows others is not among them
 not_before : (done : List (Bytes × Seat)) (p : Bytes × Seat) (rest : List (Bytes × Seat)) → HasAscendingKeys (done ++ p ∷ rest) → lookup (same_key p.0) done ≡ None
@@ -269,13 +319,6 @@ module _ (tries : ℕ) (seat : Seat) (last : Option Outcome) (sound : IsSoundSea
       go : (o : Option Waiting) → seat.waits ≡ o → MayEnd tries (told o) → seat.answered < length seat.calls
       go None e m = absurd m
       go (Some w) e m = waiting_within seat w sound e
-
--- the call of a number is what the workload wants
-pub body_is : (o : Option Seat) (seat : Seat) (call : ℕ) (d ranked : Ranked) (body : Body) → o ≡ Some seat → call - 1 < length seat.calls → ranked ≡ get_or seat.calls (call - 1) d → body ≡ body_of ranked.wanted
-    → option_map ranked_body (option_and_then (λ (x : Seat). slice_get x.calls (call - 1)) o) ≡ Some (ranked.rank, body)
-body_is o seat call d ranked body e lt is made =
-    ap (λ x. option_map ranked_body (option_and_then (λ (y : Seat). slice_get y.calls (call - 1)) x)) e
-    ∙ ap (option_map ranked_body) (slice_get-get_or seat.calls (call - 1) d lt ∙ ap Some (sym is)) ∙ ap (λ b. Some (ranked.rank, b)) (sym made)
 
 -- what holds of each place holds along the sessions, and back
 

@@ -42,6 +42,10 @@ is_named name other = is_eq (slice_cmp nat_cmp name other)
 abbrev pub seat_of : SessionsView → Bytes → Option Seat
 seat_of s name = lookup (is_named name) s.seats
 
+-- at this place, from 0, in byte order of names, stands the session of this name
+abbrev pub StandsAt : SessionsView → ℕ → Bytes → Type 0
+StandsAt s index name = slice_get (map (λ p. p.0) s.seats) index ≡ Some name
+
 -- the attempt that a session waits for, if it does, with the outcome that is supplied for it
 abbrev pub awaited_in : Seat → Option Outcome → Option Awaited
 awaited_in seat last = option_map (λ w. record { attempt = w.attempt; outcome = last }) seat.waits

@@ -1,10 +1,11 @@
-ghost use Rattle.std.specs.Prelude.{◌≡◌, ◌↔◌, ◌≤◌, ◌<◌, ◌+◌, map, option_and_then, option_map, slice_get, IfOk, IfSome, IsSome, IsTrue, Some};
+ghost use Rattle.std.specs.Prelude.{◌≡◌, ◌↔◌, ◌≤◌, ◌<◌, ◌+◌, ◌-◌, length, map, option_and_then, option_map, slice_get, IfOk, IfSome, IsSome, IsTrue, Some};
 ghost use Rattle.std.specs.Option.{option_copied};
 ghost use Rattle.dt_lists.specs.Lists.{Distinct};
+ghost use Rattle.dt_access.specs.Clash.{Bytes};
 ghost use Rattle.dt_access.specs.Orders.{HasAscendingKeys};
 ghost use Rattle.dt_workload.specs.Valid.{calls_in, session_names};
-ghost use Rattle.dt_session.specs.Sessions.{AreAllAnswered, AreSoundSeats, EachNameIsAnswered, IsNext, IsSoundSeat, MayBeAnswered, MayGo, MaySeatEnd, MaySeatTry};
-ghost use Rattle.dt_session.specs.Sessions.{after_answer, after_wait, all_idle, numbers_next, seat_of, waits_of, wanted_of};
+ghost use Rattle.dt_session.specs.Sessions.{AreAllAnswered, AreSoundSeats, EachNameIsAnswered, IsNext, IsSoundSeat, MayBeAnswered, MayGo, MaySeatEnd, MaySeatTry, StandsAt};
+ghost use Rattle.dt_session.specs.Sessions.{after_answer, after_wait, all_idle, answered_seat, numbers_next, seat_of, waiting, waits_of, wanted_of};
 ghost use Rattle.dt_session.specs.Tries.{IsLast, IsStale, body_of, ranked_body};
 
 use dt_access::{TryCopy, TxnId};
@@ -94,12 +95,31 @@ impl Sessions {
         self.seats.get(session)
     }
 
+    /// The session at this place, from 0, in byte order of names, if one stands there.
+    fn seat_at(&self, index: u32) -> Option<&Seat>
+        ensures found { (name : Bytes) → StandsAt self.now index name → option_copied result ≡ seat_of self.now name }
+        ensures there { IsSome result ↔ (index < length self.now.seats) }
+        ensures sound { IfSome result (λ seat. IsSoundSeat seat.now) }
+    {
+        let (_, seat) = self.seats.get_index(index as usize)?;
+        Some(seat)
+    }
+
     /// The numbers of the call and of the attempt, both from 1, that the session of this name may submit next. `last` is the
     /// outcome here of the attempt that it waits for, if there is one. `None` exactly where it may submit nothing.
     pub fn next(&self, session: &Name, last: Option<&Outcome>) -> Option<(u32, u32)>
         ensures { IsNext self.now session.now (option_copied last.entry) result }
     {
         next_numbers(self.tries, self.seat(session)?, last)
+    }
+
+    /// The numbers that `next` gives for the session at this place, from 0, in byte order of names. `None` too where no session
+    /// stands there.
+    pub fn next_at(&self, index: u32, last: Option<&Outcome>) -> Option<(u32, u32)>
+        ensures numbers { (name : Bytes) → StandsAt self.now index name → IsNext self.now name (option_copied last.entry) result }
+        ensures there { IsSome result → index < length self.now.seats }
+    {
+        next_numbers(self.tries, self.seat_at(index)?, last)
     }
 
     /// Lets the session of this name wait for its next attempt, which got this id. `next` gives its numbers.
@@ -110,10 +130,19 @@ impl Sessions {
         let Some(seat) = self.seats.get_mut(session) else {
             unreachable!()
         };
-        let Some((_, attempt)) = next_numbers(self.tries, seat, last) else {
+        begin_try(self.tries, seat, id, last);
+    }
+
+    /// Lets the session at this place, from 0, in byte order of names, wait for its next attempt, which got this id. `next_at`
+    /// gives its numbers.
+    pub fn wait_at(&mut self, index: u32, id: TxnId, last: Option<&Outcome>)
+        requires { (name : Bytes) × StandsAt self.old index name × MayGo self.old name (option_copied last) }
+        ensures { (name : Bytes) → StandsAt self.old index name → self.new ≡ after_wait self.old name id }
+    {
+        let Some(seat) = self.seats.get_index_mut(index as usize) else {
             unreachable!()
         };
-        seat.waits = Some(Waiting { id, attempt });
+        begin_try(self.tries, seat, id, last);
     }
 
     /// The attempt that the session of this name waits for. `None` exactly where it is idle or not here.
@@ -132,8 +161,19 @@ impl Sessions {
         let Some(seat) = self.seat(session) else {
             unreachable!()
         };
-        let ranked = &seat.calls.as_slice()[call as usize - 1];
-        Ok((ranked.rank, copy_body(alloc, &ranked.wanted)?))
+        call_body(alloc, seat, call)
+    }
+
+    /// What `body` gives for the session at this place, from 0, in byte order of names.
+    pub fn body_at(&self, alloc: Global, index: u32, call: u32) -> Result<(u8, Body), NoMemory>
+        requires from { 1 ≤ call }
+        requires there { (name : Bytes) × StandsAt self.now index name × IsSome (wanted_of self.now name call) }
+        ensures { (name : Bytes) → StandsAt self.now index name → IfOk result (λ answer. option_map ranked_body (wanted_of self.now name call) ≡ Some answer) }
+    {
+        let Some(seat) = self.seat_at(index) else {
+            unreachable!()
+        };
+        call_body(alloc, seat, call)
     }
 
     /// The name of the session at this place, from 0, in byte order of names, in which no name stands twice. `None` exactly at or
@@ -152,8 +192,7 @@ impl Sessions {
     pub fn waits_at(&self, index: u32) -> Option<TxnId>
         ensures { result ≡ option_and_then (waits_of self.now) (slice_get (map (λ p. p.0) self.now.seats) index) }
     {
-        let (_, seat) = self.seats.get_index(index as usize)?;
-        waited_for(seat)
+        waited_for(self.seat_at(index)?)
     }
 
     /// Whether every call of every session is answered, so of each session that a name finds.
@@ -177,6 +216,18 @@ impl Sessions {
         is_answerable(self.tries, seat, last)
     }
 
+    /// Whether the session at this place, from 0, in byte order of names, may be answered. `last` is the outcome here of the
+    /// attempt that it waits for, if there is one. `false` too where no session stands there.
+    pub fn may_answer_at(&self, index: u32, last: Option<&Outcome>) -> bool
+        ensures may { (name : Bytes) → StandsAt self.now index name → IsTrue result ↔ MayBeAnswered self.now name (option_copied last.entry) }
+        ensures there { IsTrue result → index < length self.now.seats }
+    {
+        let Some(seat) = self.seat_at(index) else {
+            return false;
+        };
+        is_answerable(self.tries, seat, last)
+    }
+
     /// Answers the session of this name, if it may be answered: it waits for nothing then, before its next call. `last` is
     /// the outcome here of the attempt that it waits for, if there is one. Where it may not, nothing changes.
     pub fn answer(&mut self, session: &Name, last: Option<&Outcome>) -> bool
@@ -187,12 +238,21 @@ impl Sessions {
         let Some(seat) = self.seats.get_mut(session) else {
             return false;
         };
-        if !is_answerable(self.tries, seat, last) {
+        end_call(self.tries, seat, last)
+    }
+
+    /// Answers the session at this place, from 0, in byte order of names, if it may be answered, as `answer` does. `false` too
+    /// where no session stands there.
+    pub fn answer_at(&mut self, index: u32, last: Option<&Outcome>) -> bool
+        ensures legal { (name : Bytes) → StandsAt self.old index name → IsTrue result ↔ MayBeAnswered self.old name (option_copied last.entry) }
+        ensures answered { IsTrue result → (name : Bytes) → StandsAt self.old index name → self.new ≡ after_answer self.old name }
+        ensures there { IsTrue result → index < length self.old.seats }
+        ensures same { ¬ (IsTrue result) → self.new ≡ self.old }
+    {
+        let Some(seat) = self.seats.get_index_mut(index as usize) else {
             return false;
-        }
-        seat.answered += 1;
-        seat.waits = None;
-        true
+        };
+        end_call(self.tries, seat, last)
     }
 }
 
@@ -225,6 +285,47 @@ fn next_numbers(tries: u32, seat: &Seat, last: Option<&Outcome>) -> Option<(u32,
         return None;
     }
     Some((seat.answered + 1, waiting.attempt + 1))
+}
+
+/// Lets a session wait for its next attempt, which got this id. `last` is the outcome of the attempt that it waits for, if there
+/// is one.
+fn begin_try(tries: u32, seat: &mut Seat, id: TxnId, last: Option<&Outcome>)
+    requires sound { IsSoundSeat seat.old }
+    requires may { MaySeatTry tries (Some seat.old) (option_copied last) }
+    ensures waits { seat.new ≡ waiting seat.old id }
+    ensures sound { IsSoundSeat seat.new }
+{
+    let Some((_, attempt)) = next_numbers(tries, seat, last) else {
+        unreachable!()
+    };
+    seat.waits = Some(Waiting { id, attempt });
+}
+
+/// Answers a session, if it may be answered. `last` is the outcome of the attempt that it waits for, if there is one. Where it
+/// may not, nothing changes.
+fn end_call(tries: u32, seat: &mut Seat, last: Option<&Outcome>) -> bool
+    requires { IsSoundSeat seat.old }
+    ensures legal { IsTrue result ↔ MaySeatEnd tries (Some seat.old) (option_copied last.entry) }
+    ensures answered { IsTrue result → seat.new ≡ answered_seat seat.old }
+    ensures same { ¬ (IsTrue result) → seat.new ≡ seat.old }
+    ensures sound { IsSoundSeat seat.new }
+{
+    if !is_answerable(tries, seat, last) {
+        return false;
+    }
+    seat.answered += 1;
+    seat.waits = None;
+    true
+}
+
+/// The rank of the call of this number, from 1, of a session, and what it is to do.
+fn call_body(alloc: Global, seat: &Seat, call: u32) -> Result<(u8, Body), NoMemory>
+    requires from { 1 ≤ call }
+    requires there { IsSome (slice_get seat.now.calls (call - 1)) }
+    ensures { IfOk result (λ answer. option_map ranked_body (slice_get seat.now.calls (call - 1)) ≡ Some answer) }
+{
+    let ranked = &seat.calls.as_slice()[call as usize - 1];
+    Ok((ranked.rank, copy_body(alloc, &ranked.wanted)?))
 }
 
 /// Whether a session may be answered, where the attempt that it waits for, if it waits for one, has this outcome.

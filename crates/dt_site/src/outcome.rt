@@ -1,8 +1,9 @@
-//! The outcome at a region of the attempt that a session waits for.
+//! The outcome at a region of the attempt that a session waits for, where the session is given by its name, or by its place.
 ghost use Rattle.std.specs.Prelude.{◌≡◌, option_and_then};
 ghost use Rattle.std.specs.Option.{option_copied};
 ghost use Rattle.dt_region.specs.Region.{outcome_of};
-ghost use Rattle.dt_session.specs.Sessions.{waits_of};
+ghost use Rattle.dt_access.specs.Clash.{Bytes};
+ghost use Rattle.dt_session.specs.Sessions.{StandsAt, waits_of};
 
 use dt_region::Region;
 use dt_sched::Scheduler;
@@ -19,4 +20,16 @@ pub fn last_outcome<'a, S: Scheduler>(
     ensures { option_copied result ≡ option_and_then (outcome_of region.now.state) (waits_of sessions.now name.now) }
 {
     region.outcome(sessions.waits(name)?)
+}
+
+/// The outcome at a region of the attempt that the session at this place, from 0, in byte order of names, waits for, if there
+/// are all three. Takes no memory.
+pub fn last_outcome_at<'a, S: Scheduler>(
+    sessions: &Sessions,
+    region: &'a Region<S>,
+    index: u32,
+) -> Option<&'a Outcome>
+    ensures { (name : Bytes) → StandsAt sessions.now index name → option_copied result ≡ option_and_then (outcome_of region.now.state) (waits_of sessions.now name) }
+{
+    region.outcome(sessions.waits_at(index)?)
 }

@@ -53,10 +53,6 @@ keys_distinct m = sorted_distinct (entries m) (entries_sorted m)
 abbrev among : Bytes → List Bytes → Bool
 among key ks = list_any (eq_by_cmp (slice_cmp nat_cmp) key) ks
 
-or_true : (b : Bool) → (b || true) ≡ true
-or_true true = refl
-or_true false = refl
-
 has_of_test : (key : Bytes) (ks : List Bytes) → among key ks ≡ true → Has ks key
 has_of_test key [] h = absurd cc
 has_of_test key (k ∷ ks) h = by (eq_by_cmp (slice_cmp nat_cmp) key k) refl (has_of_test key ks)
