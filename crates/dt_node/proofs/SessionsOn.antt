@@ -50,6 +50,10 @@ module _ (a : NodeView) (name : Bytes) (may : MayAnswerAt a name) (r : RegionVie
 -- the session of this name submitted its next attempt
 module _ {a : NodeView} (name : Bytes) {origin : Origin} {rank : ℕ} {body : Body} (t : IsNextAt a name origin rank body) (procs : List ProcTree) (id : TxnId) (q : SiteView)
     (made : MakesAttempt procs a.site rank body origin (Ok id) q) where
+  -- it may wait for it
+  pub may_wait : (last : Option Outcome) → last ≡ option_and_then (outcome_of q.region.state) (waits_of a.sessions name) → MayGo a.sessions name last
+  may_wait last told = subst (MayGo a.sessions name) (sym (told ∙ ap (λ (x : SiteView). option_and_then (outcome_of x.region.state) (waits_of a.sessions name)) made.1)) t.may
+
   module _ (s : SessionsView) (waits : s ≡ after_wait a.sessions name id) where
     pub submitted_moves : IsSoundRegion q.region.state → MovesOn procs [] a (record a { site = q; sessions = s })
     submitted_moves sound = subst (λ x. MovesOn procs [] a (record a { site = q; sessions = x })) (sym waits) (submit_moves name t id q made sound)
