@@ -12,7 +12,7 @@ use Rattle.dt_session.specs.Run.{AreLegalFrom, world_after, world_from}
 use Rattle.dt_session.specs.Eager.{AllChange}
 use Rattle.dt_agreement.proofs.Callers.{append_legal, world_from_append}
 use Rattle.dt_site.specs.SessionsStandIn.{SessionsStandIn}
-use Rattle.dt_site.specs.Site.{SiteView, node_of}
+use Rattle.dt_site.specs.Site.{node_of}
 use Rattle.dt_site.specs.StandsIn.{IsReached, StandsIn}
 use Rattle.dt_site.proofs.Callers.{Steps, after_more, run_more}
 use Rattle.dt_node.specs.NodeView.{NodeView, number_of}

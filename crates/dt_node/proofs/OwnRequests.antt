@@ -1,6 +1,5 @@
 -- The node places what it asked of its own region: it holds what it asked, and each request that it places leaves one less.
-use Rattle.std.proofs.Common.{◌≡◌, ◌<◌, ◌≤◌, ◌+◌, ◌-◌, ℕ, Bool, true, false, List, [], length, get_or, slice_get, Result, Ok, Err, Some, refl, sym, ap, subst, ◌∙◌, arith}
-use Rattle.std.proofs.lemmas.List.{get_or-set_same}
+use Rattle.std.proofs.Common.{◌≡◌, ◌≤◌, ℕ, Bool, true, false, List, [], length, get_or, slice_get, Result, Ok, Err, Some, refl, sym, subst, arith}
 use Rattle.dt_text.specs.declared.NoMemory.{NoMemory}
 use Rattle.dt_lists.specs.Lists.{Has}
 use Rattle.dt_lists.proofs.Callers.{has_place}
@@ -23,7 +22,6 @@ use Rattle.dt_site.proofs.Callers.{attempts_have, find_some, inv, order}
 use Rattle.dt_node.specs.NodeView.{NodeView, number_of}
 use Rattle.dt_node.specs.Standing.{NodeFits}
 use Rattle.dt_node.specs.Turn.{HasPlacedOwn}
-use Rattle.dt_node.specs.Steps.{own_left}
 use Rattle.dt_node.specs.TurnInner.{CanTake, MovesOn}
 use Rattle.dt_node.proofs.EventsGoOn.{reached}
 use Rattle.dt_node.proofs.CallsOfNode.{place_moves}

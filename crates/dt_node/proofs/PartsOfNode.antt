@@ -18,7 +18,7 @@ use Rattle.dt_region.specs.Region.{RegionView, held, outcome_of}
 use Rattle.dt_region.specs.Rules.{MakesAppend, with_event}
 use Rattle.dt_region.specs.Sound.{IsSoundRegion}
 use Rattle.dt_packet.specs.declared.packet.Packet.{Packet}
-use Rattle.dt_session.specs.Sessions.{IsNext, MayBeAnswered, SessionsView, after_answer, after_wait, waits_of, wanted_of}
+use Rattle.dt_session.specs.Sessions.{IsNext, MayBeAnswered, MayGo, SessionsView, after_answer, after_wait, waits_of, wanted_of}
 use Rattle.dt_site.specs.declared.Origin.{Origin}
 use Rattle.dt_site.specs.Site.{SiteView, MakesAttempt, in_region}
 use Rattle.dt_node.specs.Measure.{left_for}
@@ -31,7 +31,7 @@ use Rattle.dt_node.specs.Beginning.{IsPlacingOwn}
 use Rattle.dt_node.proofs.CallAfterCall.{made_nothing, new_are}
 use Rattle.dt_node.proofs.OwnHome.{placing_none, placing_one}
 use Rattle.dt_node.proofs.OwnRequests.{may_place_own, own_ends, own_held, own_placed}
-use Rattle.dt_node.proofs.SessionsOn.{answered_moves, answered_on, answered_seats, may_still, submitted_less, submitted_moves, submitted_seats}
+use Rattle.dt_node.proofs.SessionsOn.{answered_moves, answered_on, answered_seats, may_still, may_wait, submitted_less, submitted_moves, submitted_seats}
 use Rattle.dt_node.proofs.Rule1Submit.{call_is_there}
 use Rattle.dt_node.proofs.WholePacket.{all_moved, all_steps, all_taken, asked_so_far, logged_so_far, may_ask, may_log}
 
@@ -46,32 +46,32 @@ same_moves {procs} {packets} a r is = subst (λ (x : RegionView). MovesOn procs 
 pub same_own : (a : NodeView) (r : RegionView) → r ≡ a.site.region → IsPlacingOwn a (record a { site = in_region a.site r })
 same_own a r is = subst (λ (x : RegionView). IsPlacingOwn a (record a { site = in_region a.site x })) (sym is) (placing_none a)
 
--- a session was answered, under a copy of its name
-module _ (a : NodeView) {name copied : Bytes} (same : copied ≡ name) {last : Option Outcome} (told : last ≡ last_at a name) (can : MayBeAnswered a.sessions name last) (r : RegionView)
-    (is : r ≡ with_event a.site.region a.site.region.state (Answer (number_of a) copied)) {again : Option Outcome} (told_again : again ≡ option_and_then (outcome_of r.state) (waits_of a.sessions copied))
-    (s : SessionsView) (answered : MayBeAnswered a.sessions copied again → s ≡ after_answer a.sessions copied) where
-  may : MayAnswerAt a copied
-  may = subst (MayAnswerAt a) (sym same) (subst (MayBeAnswered a.sessions name) told can)
+-- a session was answered
+module _ (a : NodeView) (name : Bytes) {last : Option Outcome} (told : last ≡ last_at a name) (can : MayBeAnswered a.sessions name last) (r : RegionView)
+    (is : r ≡ with_event a.site.region a.site.region.state (Answer (number_of a) name)) {again : Option Outcome} (told_again : again ≡ option_and_then (outcome_of r.state) (waits_of a.sessions name))
+    (s : SessionsView) (answered : MayBeAnswered a.sessions name again → s ≡ after_answer a.sessions name) where
+  may : MayAnswerAt a name
+  may = subst (MayBeAnswered a.sessions name) told can
 
-  then_is : s ≡ after_answer a.sessions copied
-  then_is = answered (may_still a copied may r is again told_again)
+  then_is : s ≡ after_answer a.sessions name
+  then_is = answered (may_still a name may r is again told_again)
 
   pub call_moves : (procs : List ProcTree) → MovesOn procs [] a (record a { site = in_region a.site r; sessions = s })
-  call_moves procs = answered_moves a copied may r is s then_is procs
+  call_moves procs = answered_moves a name may r is s then_is procs
 
   pub call_seats : length s.seats ≡ length a.sessions.seats
-  call_seats = answered_seats a copied may r is s then_is
+  call_seats = answered_seats a name may r is s then_is
 
   pub call_on : HasGoneOn a (record a { site = in_region a.site r; sessions = s })
-  call_on = answered_on a copied may r is s then_is
+  call_on = answered_on a name may r is s then_is
 
   pub call_step : IsAnswering a name (record a { site = in_region a.site r; sessions = s })
-  call_step = subst (λ n. IsAnswering a n (record a { site = in_region a.site r; sessions = s })) same (record {
+  call_step = record {
     may = may;
     step = λ procs. record { gone = (call_moves procs).gone; made = ap events_of (new_are a (record a { site = in_region a.site r; sessions = s }) (ap (λ (x : RegionView). x.events) is)) };
     sessions = then_is;
     done = ap (λ (x : RegionView). x.state.here.done) is;
-  })
+  }
 
 -- the next of the requests that the region asked of itself
 module _ {a : NodeView} (c : CanTake [] a) {me number : ℕ} {asked : List TxnId} (mine : me ≡ number_of a) (next : number ≡ taken_from a.site.region.state.here me)
@@ -165,11 +165,19 @@ next_call {a} c name {last} told call attempt is =
     let here : IsNext a.sessions name (last_at a name) (Some (call, attempt)) = subst (λ o. IsNext a.sessions name o (Some (call, attempt))) told is in
     (call_is_there c.can.fits name here.0 call attempt here.1).1
 
+-- a session may wait for the attempt that it submitted
+pub waits_next : (procs : List ProcTree) {a : NodeView} {origin : Origin} {rank : ℕ} {body : Body} (t : IsNextAt a origin.session origin rank body) (id : TxnId) (q : SiteView)
+    → MakesAttempt procs a.site rank body origin (Ok id) q → {old : SessionsView} → old ≡ a.sessions → {site : SiteView} → site ≡ q → (last : Option Outcome)
+    → last ≡ option_and_then (outcome_of site.region.state) (waits_of old origin.session) → MayGo old origin.session last
+waits_next procs {a} {origin} t id q made {old} kept {site} here last told =
+    subst (λ s. MayGo s origin.session last) (sym kept)
+    (may_wait origin.session t procs id q made last (told ∙ (λ i. option_and_then (outcome_of (here i).region.state) (waits_of (kept i) origin.session))))
+
 -- a session submitted its next attempt
 module _ (procs : List ProcTree) {a : NodeView} {origin : Origin} {rank : ℕ} {body : Body} (t : IsNextAt a origin.session origin rank body) (id : TxnId) (q : SiteView)
-    (made : MakesAttempt procs a.site rank body origin (Ok id) q) {old : SessionsView} (kept : old ≡ a.sessions) {name : Bytes} (same : name ≡ origin.session) (s : SessionsView) (waits : s ≡ after_wait old name id) where
+    (made : MakesAttempt procs a.site rank body origin (Ok id) q) {old : SessionsView} (kept : old ≡ a.sessions) (s : SessionsView) (waits : s ≡ after_wait old origin.session id) where
   waits_here : s ≡ after_wait a.sessions origin.session id
-  waits_here = waits ∙ (λ i. after_wait (kept i) (same i) id)
+  waits_here = waits ∙ (λ i. after_wait (kept i) origin.session id)
 
   pub sub_seats : length s.seats ≡ length a.sessions.seats
   sub_seats = submitted_seats origin.session t procs id q made s waits_here

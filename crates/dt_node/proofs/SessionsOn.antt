@@ -1,5 +1,5 @@
 -- What the calls that answer a session or submit for one ask for, and how they end.
-use Rattle.std.proofs.Common.{◌≡◌, ◌<◌, ◌+◌, ℕ, false, List, [], length, map, get_or, slice_get, Ok, None, refl, sym, ap, subst, ◌∙◌, arith}
+use Rattle.std.proofs.Common.{◌≡◌, ◌<◌, ◌+◌, ℕ, List, [], length, get_or, Ok, sym, ap, subst, ◌∙◌, arith}
 use Rattle.std.specs.Prelude.{Option, option_and_then}
 use Rattle.std.proofs.lemmas.List.{length-append, length_push}
 use Rattle.dt_access.specs.Clash.{Bytes}
@@ -19,7 +19,7 @@ use Rattle.dt_node.specs.Measure.{left_for}
 use Rattle.dt_node.specs.NodeView.{NodeView, new_items, number_of}
 use Rattle.dt_node.specs.Turn.{HasPlacedOwn, MayAnswerAt, last_at}
 use Rattle.dt_node.specs.Steps.{IsNextAt}
-use Rattle.dt_node.specs.TurnInner.{EndsOne, HasGoneOn, MovesOn}
+use Rattle.dt_node.specs.TurnInner.{HasGoneOn, MovesOn}
 use Rattle.dt_node.proofs.Rule7Answer.{seats_kept}
 use Rattle.dt_node.proofs.LessIsLeft.{answer_falls, wait_falls}
 use Rattle.dt_node.proofs.CallsOfNode.{answer_moves, submit_moves}
@@ -50,6 +50,10 @@ module _ (a : NodeView) (name : Bytes) (may : MayAnswerAt a name) (r : RegionVie
 -- the session of this name submitted its next attempt
 module _ {a : NodeView} (name : Bytes) {origin : Origin} {rank : ℕ} {body : Body} (t : IsNextAt a name origin rank body) (procs : List ProcTree) (id : TxnId) (q : SiteView)
     (made : MakesAttempt procs a.site rank body origin (Ok id) q) where
+  -- it may wait for it
+  pub may_wait : (last : Option Outcome) → last ≡ option_and_then (outcome_of q.region.state) (waits_of a.sessions name) → MayGo a.sessions name last
+  may_wait last told = subst (MayGo a.sessions name) (sym (told ∙ ap (λ (x : SiteView). option_and_then (outcome_of x.region.state) (waits_of a.sessions name)) made.1)) t.may
+
   module _ (s : SessionsView) (waits : s ≡ after_wait a.sessions name id) where
     pub submitted_moves : IsSoundRegion q.region.state → MovesOn procs [] a (record a { site = q; sessions = s })
     submitted_moves sound = subst (λ x. MovesOn procs [] a (record a { site = q; sessions = x })) (sym waits) (submit_moves name t id q made sound)

@@ -1,5 +1,5 @@
 -- A whole packet: its stamp is heard, its requests are placed, its entries received, and what it says of its source is noted.
-use Rattle.std.proofs.Common.{◌≡◌, ◌<◌, ◌≤◌, ◌+◌, ◌-◌, ℕ, List, [], ◌∷◌, ◌++◌, length, max, get_or, set, sym, ap, ap₂, subst, ◌∙◌, arith}
+use Rattle.std.proofs.Common.{◌≡◌, ◌≤◌, ◌+◌, ◌-◌, ℕ, List, [], ◌∷◌, ◌++◌, length, max, get_or, set, sym, ap, ap₂, ◌∙◌, arith}
 use Rattle.std.proofs.lemmas.List.{length-set, map-append}
 use Rattle.dt_events.specs.Stamps.{events_of}
 use Rattle.dt_sched.specs.Views.{log_at}

@@ -12,10 +12,11 @@ use Rattle.dt_txn.specs.declared.Body.{Body}
 use Rattle.dt_txn.specs.declared.Entry.{Entry}
 use Rattle.dt_txn.specs.declared.Txn.{Txn}
 use Rattle.dt_txn.specs.Replica.{IsDrained, taken_from}
-use Rattle.dt_region.specs.Region.{RegionView, latest_stamp}
+use Rattle.dt_region.specs.Region.{latest_stamp}
 use Rattle.dt_packet.specs.declared.packet.Packet.{Packet}
 use Rattle.dt_cluster.specs.declared.Cluster.{Cluster}
 use Rattle.dt_workload.specs.declared.Workload.{Workload}
+use Rattle.dt_session.specs.Sessions.{StandsAt}
 use Rattle.dt_site.specs.declared.Origin.{Origin}
 use Rattle.dt_node.specs.Measure.{left_for}
 use Rattle.dt_node.specs.NodeView.{NodeView, new_items, number_of}
@@ -118,10 +119,10 @@ pub record IsPlacing (before : NodeView) (source first : ℕ) (asked left : List
   pub sessions : now.sessions ≡ before.sessions
   pub placed : HasPlacedOwn before → HasPlacedOwn now
 
--- what the session may submit next; none exactly where it may submit nothing
-abbrev pub IsNextOfNode : NodeView → Bytes → Option (Origin × ℕ × Body) → Type 0
-IsNextOfNode n name None = ¬ (MaySubmitAt n name)
-IsNextOfNode n name (Some (origin, rank, body)) = IsNextAt n name origin rank body
+-- what the session at a place may submit next; none exactly where no session that may submit stands there
+abbrev pub IsNextOfPlace : NodeView → ℕ → Option (Origin × ℕ × Body) → Type 0
+IsNextOfPlace n index None = (name : Bytes) → StandsAt n.sessions index name → ¬ (MaySubmitAt n name)
+IsNextOfPlace n index (Some (origin, rank, body)) = StandsAt n.sessions index origin.session × IsNextAt n origin.session origin rank body
 
 -- a session went on, so that less is left for all of them, and some event was made; and the region's own requests are placed,
 -- if they were

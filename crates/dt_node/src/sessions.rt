@@ -1,18 +1,18 @@
-ghost use Rattle.std.specs.Prelude.{◌≡◌, ◌<◌, ◌+◌, [], List, IfOk, IsTrue, OnOk, Some, length, slice_get};
-ghost use Rattle.dt_access.specs.Clash.{Bytes};
+ghost use Rattle.std.specs.Prelude.{◌≡◌, ◌<◌, ◌+◌, [], List, IfOk, OnOk, length};
 ghost use Rattle.dt_proc.specs.Tree.{ProcTree};
+ghost use Rattle.dt_session.specs.Sessions.{StandsAt};
 ghost use Rattle.dt_node.specs.Measure.{left_for};
 ghost use Rattle.dt_node.specs.Beginning.{IsPlacingOwn, MakesNext};
 ghost use Rattle.dt_node.specs.Steps.{AllWhoMight, IsNextAt};
-ghost use Rattle.dt_node.specs.StepsInner.{IsAnswering, IsSubmission, StepsAt, seat_names};
-ghost use Rattle.dt_node.specs.Turn.{BeginsEagerly, HasPlacedOwn, IsStill, MayAnswerAt, MaySubmitAt};
-ghost use Rattle.dt_node.specs.TurnInner.{CanGo, CanTake, EndsAll, EndsOne, EndsPlacing, IsNextOfNode, KnowsTheSame, MovesOn};
+ghost use Rattle.dt_node.specs.StepsInner.{IsAnswering, IsSubmission, StepsAt};
+ghost use Rattle.dt_node.specs.Turn.{BeginsEagerly, HasPlacedOwn, MayAnswerAt, MaySubmitAt};
+ghost use Rattle.dt_node.specs.TurnInner.{CanGo, CanTake, EndsAll, EndsOne, EndsPlacing, IsNextOfPlace, KnowsTheSame, MovesOn};
 
 use crate::node::Node;
 use dt_proc::Procs;
 use dt_sched::Scheduler;
-use dt_site::{Origin, last_outcome};
-use dt_text::{Name, NoMemory};
+use dt_site::{Origin, last_outcome_at};
+use dt_text::NoMemory;
 use dt_txn::Body;
 use std::alloc::Global;
 
@@ -45,20 +45,16 @@ impl<S: Scheduler + Drop> Node<S> {
         ensures ends { IfOk result (λ some. EndsOne MayAnswerAt self.old index some self.new) }
         ensures one { IfOk result (λ some. StepsAt IsAnswering self.old index some self.new) }
     {
-        if self.has_to_wait(index) {
+        let last = last_outcome_at(&self.sessions, &self.site.region, index);
+        if !self.sessions.may_answer_at(index, last) {
             return Ok(false);
         }
         let Some(name) = self.sessions.name(index) else {
-            return Ok(false);
+            unreachable!()
         };
-        let last = last_outcome(&self.sessions, &self.site.region, name);
-        if !self.sessions.may_answer(name, last) {
-            return Ok(false);
-        }
-        let name = name.copy(alloc)?;
-        self.site.region.answer(alloc, &name)?;
-        let last = last_outcome(&self.sessions, &self.site.region, &name);
-        self.sessions.answer(&name, last);
+        self.site.region.answer(alloc, name)?;
+        let last = last_outcome_at(&self.sessions, &self.site.region, index);
+        self.sessions.answer_at(index, last);
         Ok(true)
     }
 
@@ -94,45 +90,32 @@ impl<S: Scheduler + Drop> Node<S> {
         ensures ends { IfOk result (λ some. EndsOne MaySubmitAt self.old index some self.new) }
         ensures one { IfOk result (λ some. StepsAt (IsSubmission procs.now) self.old index some self.new) }
     {
-        if self.has_to_wait(index) {
-            return Ok(false);
-        }
-        let Some(name) = self.sessions.name(index) else {
+        let Some((origin, rank, body)) = self.next_attempt(alloc, index)? else {
             return Ok(false);
         };
-        let Some((origin, rank, body)) = self.next_attempt(alloc, name)? else {
-            return Ok(false);
-        };
-        self.submit(alloc, procs, origin, rank, body)?;
+        self.submit(alloc, procs, index, origin, rank, body)?;
         self.place_own(alloc)?;
         Ok(true)
     }
 
-    /// Whether the session at this place waits for an attempt that its region has no outcome of. Such a session can't go on, and
-    /// it is given without its name being searched for.
-    fn has_to_wait(&self, index: u32) -> bool
-        ensures { IsTrue result → (name : Bytes) → slice_get (seat_names self.now) index ≡ Some name → IsStill self.now name }
-    {
-        match self.sessions.waits_at(index) {
-            Some(id) => self.site.region.outcome(id).is_none(),
-            None => false,
-        }
-    }
-
-    /// What a session may submit next, with its rank, and whose it is. `None` exactly where it may submit nothing.
+    /// What the session at this place may submit next, with its rank, and whose it is. `None` exactly where no session that may
+    /// submit stands there.
     fn next_attempt(
         &self,
         alloc: Global,
-        name: &Name,
+        index: u32,
     ) -> Result<Option<(Origin, u8, Body)>, NoMemory>
         requires can { CanTake [] self.now }
-        ensures { IfOk result (IsNextOfNode self.now name.now) }
+        ensures { IfOk result (IsNextOfPlace self.now index) }
     {
-        let last = last_outcome(&self.sessions, &self.site.region, name);
-        let Some((call, attempt)) = self.sessions.next(name, last) else {
+        let last = last_outcome_at(&self.sessions, &self.site.region, index);
+        let Some((call, attempt)) = self.sessions.next_at(index, last) else {
             return Ok(None);
         };
-        let (rank, body) = self.sessions.body(alloc, name, call)?;
+        let Some(name) = self.sessions.name(index) else {
+            unreachable!()
+        };
+        let (rank, body) = self.sessions.body_at(alloc, index, call)?;
         let origin = Origin {
             session: name.copy(alloc)?,
             call,
@@ -141,16 +124,18 @@ impl<S: Scheduler + Drop> Node<S> {
         Ok(Some((origin, rank, body)))
     }
 
-    /// Submits an attempt, for which its session waits from then on.
+    /// Submits an attempt, for which its session, which stands at this place, waits from then on.
     fn submit(
         &mut self,
         alloc: Global,
         procs: &Procs,
+        index: u32,
         origin: Origin,
         rank: u8,
         body: Body,
     ) -> Result<(), NoMemory>
         requires can { CanGo procs.now [] self.old }
+        requires place { StandsAt self.old.sessions index origin.session }
         requires next { IsNextAt self.old origin.session origin rank body }
         ensures moved { MovesOn procs.now [] self.old self.new }
         ensures knows { KnowsTheSame self.old self.new }
@@ -159,10 +144,9 @@ impl<S: Scheduler + Drop> Node<S> {
         ensures some { OnOk result (length self.new.site.region.events ≡ length self.old.site.region.events + 1) }
         ensures made { OnOk result (MakesNext procs.now self.old origin rank body self.new) }
     {
-        let name = origin.session.copy(alloc)?;
         let id = self.site.submit(alloc, rank, body, procs, origin)?;
-        let last = last_outcome(&self.sessions, &self.site.region, &name);
-        self.sessions.wait(&name, id, last);
+        let last = last_outcome_at(&self.sessions, &self.site.region, index);
+        self.sessions.wait_at(index, id, last);
         Ok(())
     }
 

@@ -12,30 +12,38 @@ returns-in_err-answer-clause-moved g c = rw (← c.self.view_is, ← c.self-insi
 pub returns-clause-moved : goal.returns-clause-moved
 returns-clause-moved g c =
     let is = rw (← c.self-inside.view_is) at c.self.view_is in
+    let name = c.in-Some.name.now in
+    let stands = sym c.in-Some.ensures.place in
     rw (← c.self.view_is, ← c.self-inside.view_is)
-    (call_moves (opened is) c.in_ok-name.ensures.same c.last_outcome-last.ensures (c.may_answer.ensures.0 c.if-not-may_answer.false) c.answer.new.self c.in_ok-answer.ensures.makes c.last_outcome-last-2.ensures
-    c.answer-2.new.self (λ m. c.answer-2.ensures.answered (c.answer-2.ensures.legal.1 m)))
+    (call_moves (opened is) name (c.last_outcome_at-last.ensures name stands) ((c.may_answer_at.ensures.may name stands).0 c.if-not-may_answer_at.false) c.answer.new.self c.in_ok-answer.ensures.makes
+    (c.last_outcome_at-last-2.ensures name stands) c.answer_at.new.self (λ m. c.answer_at.ensures.answered ((c.answer_at.ensures.legal name stands).1 m) name stands))
 
 pub returns-clause-seats : goal.returns-clause-seats
 returns-clause-seats g c =
     let is = rw (← c.self-inside.view_is) at c.self.view_is in
+    let name = c.in-Some.name.now in
+    let stands = sym c.in-Some.ensures.place in
     rw (← c.self.view_is, ← c.self-inside.view_is)
-    (call_seats (opened is) c.in_ok-name.ensures.same c.last_outcome-last.ensures (c.may_answer.ensures.0 c.if-not-may_answer.false) c.answer.new.self c.in_ok-answer.ensures.makes c.last_outcome-last-2.ensures
-    c.answer-2.new.self (λ m. c.answer-2.ensures.answered (c.answer-2.ensures.legal.1 m)))
+    (call_seats (opened is) name (c.last_outcome_at-last.ensures name stands) ((c.may_answer_at.ensures.may name stands).0 c.if-not-may_answer_at.false) c.answer.new.self c.in_ok-answer.ensures.makes
+    (c.last_outcome_at-last-2.ensures name stands) c.answer_at.new.self (λ m. c.answer_at.ensures.answered ((c.answer_at.ensures.legal name stands).1 m) name stands))
 
 pub returns-clause-ends : goal.returns-clause-ends
 returns-clause-ends g c =
     let is = rw (← c.self-inside.view_is) at c.self.view_is in
+    let name = c.in-Some.name.now in
+    let stands = sym c.in-Some.ensures.place in
     rw (← c.self.view_is, ← c.self-inside.view_is)
-    (call_on (opened is) c.in_ok-name.ensures.same c.last_outcome-last.ensures (c.may_answer.ensures.0 c.if-not-may_answer.false) c.answer.new.self c.in_ok-answer.ensures.makes c.last_outcome-last-2.ensures
-    c.answer-2.new.self (λ m. c.answer-2.ensures.answered (c.answer-2.ensures.legal.1 m)))
+    (call_on (opened is) name (c.last_outcome_at-last.ensures name stands) ((c.may_answer_at.ensures.may name stands).0 c.if-not-may_answer_at.false) c.answer.new.self c.in_ok-answer.ensures.makes
+    (c.last_outcome_at-last-2.ensures name stands) c.answer_at.new.self (λ m. c.answer_at.ensures.answered ((c.answer_at.ensures.legal name stands).1 m) name stands))
 
 pub returns-clause-one : goal.returns-clause-one
 returns-clause-one g c =
     let is = rw (← c.self-inside.view_is) at c.self.view_is in
+    let name = c.in-Some.name.now in
+    let stands = sym c.in-Some.ensures.place in
     rw (← c.self.view_is, ← c.self-inside.view_is) (
-      c.in-Some.name.now,
-      sym c.in-Some.ensures.place,
-      call_step (opened is) c.in_ok-name.ensures.same c.last_outcome-last.ensures (c.may_answer.ensures.0 c.if-not-may_answer.false) c.answer.new.self c.in_ok-answer.ensures.makes c.last_outcome-last-2.ensures
-          c.answer-2.new.self (λ m. c.answer-2.ensures.answered (c.answer-2.ensures.legal.1 m)),
+      name,
+      stands,
+      call_step (opened is) name (c.last_outcome_at-last.ensures name stands) ((c.may_answer_at.ensures.may name stands).0 c.if-not-may_answer_at.false) c.answer.new.self c.in_ok-answer.ensures.makes
+          (c.last_outcome_at-last-2.ensures name stands) c.answer_at.new.self (λ m. c.answer_at.ensures.answered ((c.answer_at.ensures.legal name stands).1 m) name stands),
     )

@@ -22,13 +22,13 @@ returns-in_err-round-clause-moved g c = moves_more (moves_more (c.answer_all.ens
 
 pub returns-then-not-went-clause-passed : goal.returns-then-not-went-clause-passed
 returns-then-not-went-clause-passed g c =
-    rested_passes c.args.procs.now c.args.self.now c.answer_all.new.self c.submit_all.new.self c.in_ok-answered.answered c.in_ok-submitted.submitted c.if-not-went.true
-    c.in_ok-answered.ensures.ends c.in_ok-submitted.ensures.ends (c.requires.rested c.if-rested.true)
+    rested_passes c.args.procs.now c.args.self.now c.answer_all.new.self c.submit_all.new.self
+    c.in_ok-answered.answered c.in_ok-submitted.submitted c.if-not-went.true c.in_ok-answered.ensures.ends c.in_ok-submitted.ensures.ends (c.requires.rested c.if-rested.true)
 
 pub returns-then-not-went-clause-steps : goal.returns-then-not-went-clause-steps
 returns-then-not-went-clause-steps g c =
-    rested_steps c.args.procs.now c.args.self.now c.answer_all.new.self c.submit_all.new.self c.in_ok-answered.answered c.in_ok-submitted.submitted c.if-not-went.true
-    c.in_ok-answered.ensures.ends c.in_ok-submitted.ensures.ends (c.requires.rested c.if-rested.true)
+    rested_steps c.args.procs.now c.args.self.now c.answer_all.new.self c.submit_all.new.self
+    c.in_ok-answered.answered c.in_ok-submitted.submitted c.if-not-went.true c.in_ok-answered.ensures.ends c.in_ok-submitted.ensures.ends (c.requires.rested c.if-rested.true)
     c.in_ok-answered.ensures.all c.in_ok-submitted.ensures.all
 
 pub returns-clause-moved : goal.returns-clause-moved

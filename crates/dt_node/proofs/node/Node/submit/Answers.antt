@@ -1,6 +1,7 @@
 use Rattle.std.proofs.Common.{refl, sym, ap, subst, arith}
 use Rattle.dt_txn.specs.Transaction.{BodyFits}
-use Rattle.dt_node.proofs.PartsOfNode.{sub_less, sub_moves, sub_seats}
+use Rattle.dt_session.specs.Sessions.{StandsAt}
+use Rattle.dt_node.proofs.PartsOfNode.{sub_less, sub_moves, sub_seats, waits_next}
 use Rattle.dt_node.proofs.Ready.{few, has_stamp}
 use Rattle.dt_node.proofs.Rule1Submit.{body_fits_here, place_fits, rank_fits}
 use Rattle.dt_node.proofs.node.Node.submit.Goals as goal
@@ -19,22 +20,32 @@ submit-requires-clause-rank g c = rank_fits c.requires.can.fits c.args.origin.se
 pub submit-requires-clause-place : goal.submit-requires-clause-place
 submit-requires-clause-place g c = rw (← c.self.view_is) at (place_fits c.requires.can.fits c.args.origin.session c.requires.next (omega (arith, few c.requires.can)))
 
+pub wait_at-requires : goal.wait_at-requires
+wait_at-requires g c =
+    let t = rw (← c.self.view_is) at c.requires.next in
+    let e = c.self-inside.view_is in
+    let place = subst (λ s. StandsAt s c.args.index c.args.origin.session) (sym (ap (λ x. x.sessions) e)) (rw (← c.self.view_is) at c.requires.place) in
+    (c.args.origin.session, place, waits_next c.args.procs.now t c.in_ok-id.id c.submit.new.self c.in_ok-id.ensures.makes (ap (λ x. x.sessions) e) (ap (λ x. x.site) e) _ (c.last_outcome_at-last.ensures c.args.origin.session place))
+
 pub returns-clause-moved : goal.returns-clause-moved
 returns-clause-moved g c =
     let t = rw (← c.self.view_is) at c.requires.next in
     let e = c.self-inside.view_is in
+    let place = subst (λ s. StandsAt s c.args.index c.args.origin.session) (sym (ap (λ x. x.sessions) e)) (rw (← c.self.view_is) at c.requires.place) in
     rw (← c.self.view_is)
-    (sub_moves c.args.procs.now t c.in_ok-id.id c.submit.new.self c.in_ok-id.ensures.makes (ap (λ x. x.sessions) e) c.in_ok-name.ensures.same c.wait.new.self c.wait.ensures c.in_ok-id.ensures.sound
+    (sub_moves c.args.procs.now t c.in_ok-id.id c.submit.new.self c.in_ok-id.ensures.makes (ap (λ x. x.sessions) e) c.wait_at.new.self (c.wait_at.ensures c.args.origin.session place) c.in_ok-id.ensures.sound
     _ refl (ap (λ x. x.site) e) (ap (λ x. x.took.items) e) (ap (λ x. x.received.items) e) (ap (λ x. x.plan) e) (ap (λ x. x.turns) e))
 
 pub returns-clause-seats : goal.returns-clause-seats
 returns-clause-seats g c =
     let t = rw (← c.self.view_is) at c.requires.next in
     let e = c.self-inside.view_is in
-    rw (← c.self.view_is) (sub_seats c.args.procs.now t c.in_ok-id.id c.submit.new.self c.in_ok-id.ensures.makes (ap (λ x. x.sessions) e) c.in_ok-name.ensures.same c.wait.new.self c.wait.ensures)
+    let place = subst (λ s. StandsAt s c.args.index c.args.origin.session) (sym (ap (λ x. x.sessions) e)) (rw (← c.self.view_is) at c.requires.place) in
+    rw (← c.self.view_is) (sub_seats c.args.procs.now t c.in_ok-id.id c.submit.new.self c.in_ok-id.ensures.makes (ap (λ x. x.sessions) e) c.wait_at.new.self (c.wait_at.ensures c.args.origin.session place))
 
 pub returns-clause-less : goal.returns-clause-less
 returns-clause-less g c =
     let t = rw (← c.self.view_is) at c.requires.next in
     let e = c.self-inside.view_is in
-    rw (← c.self.view_is) (sub_less c.args.procs.now t c.in_ok-id.id c.submit.new.self c.in_ok-id.ensures.makes (ap (λ x. x.sessions) e) c.in_ok-name.ensures.same c.wait.new.self c.wait.ensures)
+    let place = subst (λ s. StandsAt s c.args.index c.args.origin.session) (sym (ap (λ x. x.sessions) e)) (rw (← c.self.view_is) at c.requires.place) in
+    rw (← c.self.view_is) (sub_less c.args.procs.now t c.in_ok-id.id c.submit.new.self c.in_ok-id.ensures.makes (ap (λ x. x.sessions) e) c.wait_at.new.self (c.wait_at.ensures c.args.origin.session place))

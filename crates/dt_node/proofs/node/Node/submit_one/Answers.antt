@@ -1,6 +1,6 @@
-use Rattle.std.proofs.Common.{◌<◌, [], length, map, slice_get, sym, ap, subst, ◌∙◌}
-use Rattle.dt_node.specs.NodeView.{NodeView, number_of}
-use Rattle.dt_node.specs.TurnInner.{IsNextOfNode}
+use Rattle.std.proofs.Common.{◌<◌, [], length, sym, subst}
+use Rattle.dt_node.specs.NodeView.{number_of}
+use Rattle.dt_node.specs.TurnInner.{IsNextOfPlace}
 use Rattle.dt_node.proofs.CallAfterCall.{moves_more}
 use Rattle.dt_node.proofs.OwnHome.{has_submitted}
 use Rattle.dt_node.proofs.OwnRequests.{own_within}
@@ -23,11 +23,11 @@ returns-clause-ends g c =
 
 pub returns-clause-one : goal.returns-clause-one
 returns-clause-one g c =
-    let t = subst (IsNextOfNode c.args.self.now c.in-Some.name.now) c.in-Some-2.is c.in_ok-origin.ensures in
+    let next = subst (IsNextOfPlace c.args.self.now c.args.index) c.in-Some.is c.in_ok-origin.ensures in
     let sound = c.requires.can.fits.site.sound in
     let there : number_of c.args.self.now < length c.args.self.now.site.region.state.here.asked = subst (λ n. number_of c.args.self.now < n) (sym sound.asked) sound.number in (
-      c.in-Some.name.now,
-      ap (λ (n : NodeView). slice_get (map (λ p. p.0) n.sessions.seats) c.args.index) (sym c.self.view_is) ∙ sym c.in-Some.ensures.place,
-      has_submitted c.in-Some.name.now t c.in_ok-submit.ensures.made c.submit.ensures.moved.gone c.place_own.ensures.own c.place_own.ensures.sessions c.in_ok-place_own.ensures.placed there
+      c.in-Some.origin.session,
+      next.0,
+      has_submitted c.in-Some.origin.session next.1 c.in_ok-submit.ensures.made c.submit.ensures.moved.gone c.place_own.ensures.own c.place_own.ensures.sessions c.in_ok-place_own.ensures.placed there
           (own_within c.requires.can.fits),
     )
