@@ -111,6 +111,18 @@ fn replay<R: Threads + Wait + Sync>(
     call(rt, alloc, &words, files, (AMPLE, AMPLE))
 }
 
+/// How a run ends, on a built-in cluster, or on that of the file `c` with these bytes.
+fn run_of<R: Threads + Wait + Sync>(
+    rt: &R,
+    alloc: Global,
+    cluster: &[u8],
+    workload: &[u8],
+) -> Result<Vec<u8>, Fail> {
+    let files = folder_of(alloc, &[("c", cluster), ("w", workload)], &[])?;
+    let words = ["run", cluster_word(cluster), "w"];
+    call(rt, alloc, &words, files, (AMPLE, AMPLE))
+}
+
 /// The lines of a file.
 fn file_of(alloc: Global, lines: &[&str]) -> Result<Vec<u8>, Fail> {
     let mut file = Vec::new(alloc);
@@ -240,37 +252,14 @@ const FAULTS: [(&str, &str, u8, &str); 17] = [
     ),
 ];
 
-/// Whether a replay and a run of a cluster and a workload both report this fault.
-fn both_refuse<R: Threads + Wait + Sync>(
-    rt: &R,
-    alloc: Global,
-    (cluster, workload): (&[u8], &[u8]),
-    (exit, line): (u8, &str),
-) -> Result<bool, Fail> {
-    let texts = [
-        ("c", cluster),
-        ("w", workload),
-        ("e", b"no event\n".as_slice()),
-    ];
-    let want = refused(alloc, exit, line)?;
-    let replay = ["replay", cluster_word(cluster), "w", "e"];
-    let run = ["run", cluster_word(cluster), "w"];
-    let mut holds = true;
-    for words in [replay.as_slice(), run.as_slice()] {
-        let files = folder_of(alloc, &texts, &[])?;
-        holds = holds && call(rt, alloc, words, files, (AMPLE, AMPLE))? == want;
-    }
-    Ok(holds)
-}
-
 #[test]
 fn the_first_fault_of_the_first_file_is_told(rt: HostRuntime) -> Result<(), Fail> {
     for (cluster, workload, exit, line) in FAULTS {
-        let files = (cluster.as_bytes(), workload.as_bytes());
-        assert!(rt;
-            both_refuse(&rt, rt.alloc(), files, (exit, line))?,
-            "{line}"
-        );
+        let (cluster, workload) = (cluster.as_bytes(), workload.as_bytes());
+        let replayed = replay(&rt, rt.alloc(), cluster, workload, b"no event\n")?;
+        assert_eq!(rt; replayed, refused(rt.alloc(), exit, line)?);
+        let ran = run_of(&rt, rt.alloc(), cluster, workload)?;
+        assert_eq!(rt; ran, refused(rt.alloc(), exit, line)?);
     }
     Ok(())
 }
