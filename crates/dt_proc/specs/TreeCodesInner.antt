@@ -64,10 +64,6 @@ formula_inj (binary o f g) (binary p h k) e =
     (formula_inj f h (ap (λ v. front (rest (rest v))) e) i) (formula_inj g k (ap (λ v. rest (rest (rest v))) e) i)
 formula_inj x y e = absurd (omega (arith, ap tag e))
 
--- expressions are told apart by these codes
-abbrev pub coded_formula : Coded ExprTree
-coded_formula = record { code = formula_code; inj = formula_inj }
-
 -- the code of an item of `give`
 abbrev gift_code : GiveTree → Gv
 gift_code (row n) = gcons (gnum 0) (gnum n)
