@@ -34,14 +34,14 @@ impl Homes {
         }
     }
 
-    /// The homes of a vector, which stand in order there. Takes no memory.
-    pub fn from_vec(items: Vec<u8>) -> Self
-        requires { AreAscendingHomes items.items }
-        ensures { result ≡ items.items }
+    /// The homes of a slice, which stand in ascending order there.
+    pub fn from_slice(alloc: Global, homes: &[u8]) -> Result<Self, NoMemory>
+        requires { AreAscendingHomes homes.now }
+        ensures { IfOk result (λ made. made ≡ homes.now) }
     {
-        Homes {
-            items: SmallVec::from_vec(items),
-        }
+        Ok(Homes {
+            items: SmallVec::from_slice(alloc, homes)?,
+        })
     }
 
     /// Adds a home that is greater than all held ones; after `NoMemory` the list is as before.
@@ -66,8 +66,6 @@ impl Homes {
     pub fn copy(&self, alloc: Global) -> Result<Self, NoMemory>
         ensures { IfOk result (λ copied. copied ≡ self.now) }
     {
-        Ok(Homes {
-            items: SmallVec::from_slice(alloc, self.items.as_slice())?,
-        })
+        Homes::from_slice(alloc, self.as_slice())
     }
 }

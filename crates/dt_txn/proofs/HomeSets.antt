@@ -1,12 +1,10 @@
 -- Sets of homes, kept as ascending lists.
-use Rattle.std.proofs.Common.{◌≡◌, ℕ, suc, ◌<◌, ◌≤◌, nat_lt, List, [], ◌∷◌, ◌++◌, ◌∙◌, length, get_or, take, drop, append_assoc, refl, sym, subst, ap, arith, insert, inl, inr}
+use Rattle.std.proofs.Common.{◌≡◌, ℕ, suc, ◌<◌, ◌≤◌, nat_lt, List, [], ◌∷◌, length, get_or, refl, sym, subst, ap, arith, insert, inl, inr}
 use Rattle.std.specs.List.{prefix_len}
-use Rattle.std.proofs.Math.Seq.{drop-cons}
-use Rattle.std.proofs.lemmas.List.{take-append-drop}
 use Rattle.std.proofs.lemmas.Bool.{cases_order}
 use Rattle.std.proofs.lemmas.Bool.Decides.{nat_tests}
 use Rattle.dt_lists.specs.Lists.{AllIn}
-use Rattle.dt_lists.proofs.Callers.{all_map, each_append_left}
+use Rattle.dt_lists.proofs.Callers.{all_map}
 use Rattle.dt_access.specs.Orders.{AreAscendingHomes}
 use Rattle.dt_txn.specs.Transaction.{with_number, set_of}
 
@@ -91,10 +89,3 @@ set_of_ascending (n ∷ ns) = with_number_ascending n (set_of ns) (set_of_ascend
 
 pub ascending_of_set : (xs ns : List ℕ) → xs ≡ set_of ns → AreAscendingHomes xs
 ascending_of_set xs ns e = subst (λ (ms : List ℕ). AreAscendingHomes ms) (sym e) (set_of_ascending ns)
-
--- the first homes of an ascending list are ascending, with the one that follows them too
-pub front_ascending : (xs : List ℕ) (i : ℕ) → i < length xs → AreAscendingHomes xs → AreAscendingHomes (take i xs ++ get_or xs i 0 ∷ [])
-front_ascending xs i below each =
-    let next = ap (λ (ys : List ℕ). take i xs ++ ys) (sym (drop-cons xs i 0 below)) in
-    let whole = append_assoc (take i xs) (get_or xs i 0 ∷ []) (drop (suc i) xs) ∙ next ∙ take-append-drop i xs in
-    each_append_left (λ m n. m < n) (take i xs ++ get_or xs i 0 ∷ []) (drop (suc i) xs) (subst (λ (ys : List ℕ). AreAscendingHomes ys) (sym whole) each)

@@ -24,19 +24,7 @@ pub fn homes(alloc: Global, txn: &Txn) -> Result<Homes, NoMemory>
         place -= 1;
         add_home(&mut homes, access[place].home)?;
     }
-    in_order(alloc, homes.as_slice())
-}
-
-/// These homes, which stand in ascending order.
-fn in_order(alloc: Global, ascending: &[u8]) -> Result<Homes, NoMemory>
-    requires { AreAscendingHomes ascending.now }
-    ensures { IfOk result (λ homes. homes ≡ ascending.now) }
-{
-    let mut homes = Homes::new(alloc);
-    for home in ascending {
-        homes.push(*home)?;
-    }
-    Ok(homes)
+    Homes::from_slice(alloc, homes.as_slice())
 }
 
 /// Where a move leads, if the body is one.
