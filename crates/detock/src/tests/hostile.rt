@@ -86,7 +86,7 @@ const CUTS: [(usize, usize, Option<u32>); 11] = [
     (59, 60, None),
 ];
 
-/// Whether events that end so are those that have this faulty line, or else those of which there is a report.
+/// Whether what a replay told is the fault of this line, or, where no line is faulty, the beginning of a report.
 fn ends_by(alloc: Global, told: &[u8], faulty: Option<u32>) -> Result<bool, Fail> {
     let Some(line) = faulty else {
         return Ok(told.starts_with(b"0 |replies\n"));
