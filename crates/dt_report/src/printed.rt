@@ -98,8 +98,8 @@ fn put_table(alloc: Global, out: &mut Vec<u8>, region: u64, rows: &[Shown]) -> R
 fn put_all_shown(alloc: Global, out: &mut Vec<u8>, tables: &[&Table]) -> Result<(), NoMemory>
     ensures { OnOk result (out.new.items ≡ out.old.items ++ tables_text 0 (all_shown tables.now)) }
 {
-    for region in 0..tables.len() {
-        put_shown(alloc, out, region as u64, tables[region])?;
+    for (region, table) in tables.iter().enumerate() {
+        put_shown(alloc, out, region as u64, *table)?;
     }
     Ok(())
 }
