@@ -1,0 +1,4 @@
+pub mod Last
+pub mod Moved
+pub mod Probe
+pub mod Sent
