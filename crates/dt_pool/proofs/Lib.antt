@@ -1,4 +1,4 @@
 pub mod Last
+pub mod Lending
 pub mod Moved
-pub mod Probe
 pub mod Sent

@@ -1,10 +1,10 @@
 -- What goes to a worker and what it gives back may move to another thread.
 use denote.RattleType.{RattleType}
-use denote.Ref.{NamedLft}
-use denote.Param.Send.{IsSend, IsSync, recorded_send, shr_send, struct_send, view_send, sendable}
+use denote.Param.Send.{IsSend, IsSync, recorded_send, struct_send, view_send, sendable}
 use denote.Struct.Declared.{shape}
-use Rattle.std.proofs.Crossing.{crosses}
+use Rattle.std.proofs.Crossing.{Arc-send, crosses}
 use Rattle.std.specs.contracts.option.Option as Option
+use Rattle.std.specs.contracts.sync.Arc as Arc
 use Rattle.std.specs.contracts.alloc.Global as Heap
 use Rattle.std.specs.contracts.impls.GlobalAllocator.TheImpl.{ghosts}
 use Rattle.rtrb.specs.contracts.AnyItems as AnyItems
@@ -44,9 +44,16 @@ inlet_send R s = search (sendable, crosses, consumer_send.the_field_send) depth 
 outlet_send : (R : RattleType) → IsSend R → IsSend (producer.the_field R Heap.the_row AnyItems.the_row ghosts (items.ghosts R)).row
 outlet_send R s = search (sendable, crosses, producer_send.the_field_send) depth 20 parts 0
 
+bells_send : IsSend Bells.the_row
+bells_send = search (sendable, crosses) depth 20
+
 bells_sync : IsSync Bells.the_row
 bells_sync = search (sendable, crosses) depth 20
 
-pub server_send : (ℓ : NamedLft) (X N : RattleType) (g : Named.Ghosts N.Denot X.Denot) → IsSend X → IsSend N → IsSend (Server.the_row ℓ X N g)
-server_send ℓ X N g x n = recorded_send (Server.the_field ℓ X N g).row _ _ (Server.the_type ℓ X N g).to_one
-    (struct_send (shape (Server.the_type ℓ X N g)) (inlet_send _ (option_send _ (lent_send X N g x n)), (outlet_send _ (worked_send X N g x n), (shr_send _ _ _ bells_sync, tt))))
+shared_bells_send : IsSend (Arc.the_row Bells.the_row Heap.the_row ghosts)
+shared_bells_send = Arc-send _ bells_send bells_sync
+
+-- a helper's own side may go to its thread
+pub server_send : (X N : RattleType) (g : Named.Ghosts N.Denot X.Denot) → IsSend X → IsSend N → IsSend (Server.the_row X N g)
+server_send X N g x n = recorded_send (Server.the_field X N g).row _ _ (Server.the_type X N g).to_one
+    (struct_send (shape (Server.the_type X N g)) (inlet_send _ (option_send _ (lent_send X N g x n)), (outlet_send _ (worked_send X N g x n), (shared_bells_send, tt))))

@@ -9,38 +9,30 @@ use rtrb::{Consumer, Producer, RingBuffer};
 use std::alloc::{AllocError, Global};
 use std::marker::Model;
 use std::snapshot::Snapshot;
-use std::sync::Wait;
+use std::sync::{Arc, Wait};
 use std::thread::Parker;
 
-/// By which a worker and its caller wake each other.
+/// By which a helper and its lender wake each other.
 #[derive(Drop)]
-pub struct Bells {
-    caller: Parker,
-    worker: Parker,
+struct Bells {
+    lender: Parker,
+    helper: Parker,
 }
 
-impl Bells {
-    pub fn new() -> Self {
-        Bells {
-            caller: Parker::new(),
-            worker: Parker::new(),
-        }
-    }
-}
-
-/// A worker that is kept: its caller's side.
+/// The lender's side of a helper, which works in a thread of its own ([`Server`]) what is lent to it, one item at a time.
 ///
 /// Contracts see the item that was last lent to it, as it was then.
-pub struct Helper<'s, X, N: Named<X>> {
+pub struct Helper<X, N: Named<X>> {
     asks: Producer<Snapshot<X>>,
+    /// The other end of that ring, while nothing is lent.
     was: Option<Consumer<Snapshot<X>>>,
     number: usize,
     jobs: Producer<Option<Lent<X, N>>>,
     done: Consumer<Worked<X, N>>,
-    bells: &'s Bells,
+    bells: Arc<Bells>,
 }
 
-impl<'s, X, N: Named<X>> Model for Helper<'s, X, N> {
+impl<X, N: Named<X>> Model for Helper<X, N> {
     ghost use Rattle.std.specs.Prelude.{◌≡◌, IfSome, Option, Some, slice_get};
     ghost use Rattle.rtrb.specs.Ring.{IsPair, sent};
     ghost use Rattle.dt_pool.specs.Links.{last_item, name_of_outlet};
@@ -52,7 +44,7 @@ impl<'s, X, N: Named<X>> Model for Helper<'s, X, N> {
     ghost invariant = { λ h. (slice_get N.links h.number ≡ Some (name_of_outlet h.asks)) × IfSome h.was (IsPair h.asks) };
 }
 
-impl<'s, X: Drop, N: Named<X>> Helper<'s, X, N> {
+impl<X: Drop, N: Named<X>> Helper<X, N> {
     /// Lends it an item. It waits forever where the last one was not taken back.
     pub fn lend<R: Wait>(&mut self, rt: &R, item: X)
         requires { N.can item }
@@ -66,7 +58,7 @@ impl<'s, X: Drop, N: Named<X>> Helper<'s, X, N> {
         if self.jobs.push(Some(lent)).is_err() {
             stuck(rt);
         }
-        self.bells.worker.unpark();
+        self.bells.helper.unpark();
     }
 
     /// Takes back what was lent to it, once it is worked.
@@ -74,7 +66,7 @@ impl<'s, X: Drop, N: Named<X>> Helper<'s, X, N> {
         ensures same { self.new ≡ self.old }
         ensures goes { (old : _) → self.old ≡ Some old → N.goes old result }
     {
-        let worked = next(rt, &mut self.done, &self.bells.caller);
+        let worked = next(rt, &mut self.done, &self.bells.lender);
         let Worked {
             item,
             was,
@@ -91,7 +83,7 @@ impl<'s, X: Drop, N: Named<X>> Helper<'s, X, N> {
     }
 }
 
-impl<'s, X: Drop, N: Named<X>> Drop for Helper<'s, X, N> {
+impl<X: Drop, N: Named<X>> Drop for Helper<X, N> {
     fn drop(self) {
         let Self {
             asks: _asks,
@@ -103,20 +95,20 @@ impl<'s, X: Drop, N: Named<X>> Drop for Helper<'s, X, N> {
         } = self;
         let mut jobs = jobs;
         let _full = jobs.push(None);
-        bells.worker.unpark();
+        bells.helper.unpark();
     }
 }
 
-/// A worker that is kept: its own side.
+/// A helper's own side, which goes to its thread.
 #[derive(Drop)]
-pub struct Server<'s, X, N: Named<X>> {
+pub struct Server<X, N: Named<X>> {
     jobs: Consumer<Option<Lent<X, N>>>,
     done: Producer<Worked<X, N>>,
-    bells: &'s Bells,
+    bells: Arc<Bells>,
 }
 
-impl<'s, X: Drop, N: Named<X>> Server<'s, X, N> {
-    /// Works what comes, until the caller has gone.
+impl<X: Drop, N: Named<X>> Server<X, N> {
+    /// Works what is lent to it, until the lender's side is dropped.
     pub fn serve<F: Fn(&mut X), R: Wait>(self, rt: &R, work: &F)
         requires can { (p : _) → N.can p.now → F.pre work.now p }
         requires goes { (p q : _) → F.post work.now p tt q → N.goes p.now q.now }
@@ -127,28 +119,35 @@ impl<'s, X: Drop, N: Named<X>> Server<'s, X, N> {
             bells,
         } = self;
         for _ in rt.forever() {
-            let Some(lent) = next(rt, &mut jobs, &bells.worker) else {
+            let Some(lent) = next(rt, &mut jobs, &bells.helper) else {
                 return;
             };
             if done.push(lent.work(work)).is_err() {
                 return;
             }
-            bells.caller.unpark();
+            bells.lender.unpark();
         }
     }
 }
 
-/// The two sides of a worker.
-pub fn sides<'s, X: Drop, N: Named<X>>(
+/// The two sides of a new helper, which is told by its number and its link.
+pub fn hire<X: Drop, N: Named<X>>(
     alloc: Global,
     link: Link<X>,
     number: usize,
-    bells: &'s Bells,
-) -> Result<(Helper<'s, X, N>, Server<'s, X, N>), AllocError>
+) -> Result<(Helper<X, N>, Server<X, N>), AllocError>
     requires { slice_get N.links number ≡ Some link }
 {
     let (jobs, theirs) = RingBuffer::new(alloc, 2)?;
     let (back, done) = RingBuffer::new(alloc, 2)?;
+    let bells = Arc::new(
+        alloc,
+        Bells {
+            lender: Parker::new(),
+            helper: Parker::new(),
+        },
+    )?;
+    let shared = Arc::try_clone(&bells)?;
     let Link { asks, was } = link;
     let helper = Helper {
         asks,
@@ -161,7 +160,7 @@ pub fn sides<'s, X: Drop, N: Named<X>>(
     let server = Server {
         jobs: theirs,
         done: back,
-        bells,
+        bells: shared,
     };
     Ok((helper, server))
 }

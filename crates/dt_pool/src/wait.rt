@@ -5,7 +5,7 @@ use std::thread;
 use std::thread::Parker;
 
 /// How often an end of a ring is looked at before its thread sleeps.
-const LOOKS: u32 = 4096;
+const LOOKS: u32 = 32;
 
 /// Waits forever.
 pub(crate) fn stuck<R: Wait>(rt: &R)
@@ -31,8 +31,8 @@ pub(crate) fn next<T, R: Wait>(rt: &R, ring: &mut Consumer<T>, bell: &Parker) ->
 /// The next item of a ring, if it comes within a short while.
 fn look<T>(ring: &mut Consumer<T>) -> Option<T> {
     for _ in 0..LOOKS {
-        if let Ok(item) = ring.pop() {
-            return Some(item);
+        if !ring.is_empty() {
+            return ring.pop().ok();
         }
         spin_loop();
     }
