@@ -16,6 +16,7 @@ use crate::program::{command_line, exit_of};
 use dt_outside::{DiskFolder, StdSink};
 use std::process::ExitCode;
 
+/// Runs the program on the system's words, the real disk and the real streams.
 fn main(rt: HostRuntime) -> ExitCode {
     ExitCode::from(exit_of(
         &rt,

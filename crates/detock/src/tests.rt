@@ -18,6 +18,7 @@ mod runs;
 /// Room that no report or fault line of these tests uses up.
 const AMPLE: u64 = 4096;
 
+/// The words of a command line.
 fn words_of(alloc: Global, words: &[&str]) -> Result<Vec<String>, Fail> {
     let mut all = Vec::new(alloc);
     for word in words {
@@ -321,17 +322,20 @@ const SHOP: &[&str] = &[
     "\"cust/ann\" = 50",
 ];
 
+/// The workload of the shop: one session, which buys twice.
 const SHOP_CALLS: &[&str] = &[
     "session w at 0",
     "call buy \"ann\" \"7\" 2",
     "call buy \"ann\" \"7\" 1",
 ];
 
-/// The workload, the events and the report of one put in one region.
+/// The workload of one put in one region.
 const ONE_PUT: &[u8] = b"session a at 0\ncall put \"b\" 5\n";
 
+/// The events of that put, from its submission to its answer.
 const ONE_PUT_EVENTS: &[u8] = b"submit 0 a\nappend 0 0 0\ninsert 0 0\nexecute 0 1.0\nanswer 0 a\n";
 
+/// The report of that put, up to its events.
 const ONE_PUT_REPORT: [&str; 6] = [
     "replies",
     "reply a 1 done",

@@ -1,7 +1,7 @@
 -- What a cluster file is, and what fault is reported for a file that is not one. The faults have an order: unknown names, the
 -- numbers, the procedures, the homes, the rows; the first fault in that order is reported, so a file has at most one
--- (`Laws`). The entries are in `Numbers` and `Rows`. Read next: `Laws`, and `Valid` for what every cluster that is read
--- keeps.
+-- (`Laws`). The entries are in `Numbers` and `Rows`. Read next: `Laws`, and `Valid` of `dt_cluster` for what every
+-- cluster that is read keeps.
 use Rattle.std.specs.Prelude.{◌≡◌, ◌⊎◌, ℕ, List, [], ◌∷◌, Option, Some, None, Ok, Err, codes}
 use Rattle.dt_lists.specs.Lists.{AllIn, Has, Pairwise}
 use Rattle.dt_text.specs.declared.value.Value.{Value}

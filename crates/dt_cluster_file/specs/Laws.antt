@@ -1,5 +1,6 @@
 -- What holds of cluster files: each file is one cluster, or has one fault, and not both. So what the reader answers is
--- the only thing that it could answer, memory aside. Read next: `Valid`, what a cluster is to those that take one.
+-- the only thing that it could answer, memory aside. Read next: `Valid` of `dt_cluster`, what a cluster is to those
+-- that take one.
 use Rattle.std.specs.Prelude.{◌≡◌, ◌⊎◌}
 use Rattle.dt_text.specs.Texts.{Bytes}
 use Rattle.dt_cluster_file.specs.File.{IsCluster, IsClusterFault}

@@ -1,6 +1,6 @@
 -- Inner words, for the private parts of the reader alone: what each part answers, stated of the table that it looks at.
--- `File` says the same of the whole document; a reader of the contracts of `dt_cluster` can skip this file. Read next:
--- `File`.
+-- `File` says the same of the whole document; a reader of the contracts of `dt_cluster_file` can skip this file. Read
+-- next: `File`.
 use Rattle.std.specs.Prelude.{◌≡◌, ◌<◌, ◌^◌, ℕ, List, Some, length, codes}
 use Rattle.dt_lists.specs.Lists.{Pairwise}
 use Rattle.dt_text.specs.declared.value.Value.{Value}

@@ -51,6 +51,7 @@ pub fn print_shown(
     Ok(text)
 }
 
+/// Appends the section of the answers.
 fn put_replies(alloc: Global, out: &mut Vec<u8>, replies: &[Reply]) -> Result<(), NoMemory>
     ensures { OnOk result (out.new.items ≡ out.old.items ++ replies_text replies.now) }
 {
@@ -61,6 +62,7 @@ fn put_replies(alloc: Global, out: &mut Vec<u8>, replies: &[Reply]) -> Result<()
     Ok(())
 }
 
+/// Appends the section of the executed attempts.
 fn put_order(alloc: Global, out: &mut Vec<u8>, order: &[Ran]) -> Result<(), NoMemory>
     ensures { OnOk result (out.new.items ≡ out.old.items ++ order_text order.now) }
 {
@@ -71,6 +73,7 @@ fn put_order(alloc: Global, out: &mut Vec<u8>, order: &[Ran]) -> Result<(), NoMe
     Ok(())
 }
 
+/// Appends the section of each region's rows, as they are listed.
 fn put_tables(alloc: Global, out: &mut Vec<u8>, tables: &[ShownList]) -> Result<(), NoMemory>
     ensures { OnOk result (out.new.items ≡ out.old.items ++ tables_text 0 tables.now) }
 {
@@ -80,6 +83,7 @@ fn put_tables(alloc: Global, out: &mut Vec<u8>, tables: &[ShownList]) -> Result<
     Ok(())
 }
 
+/// Appends the section of a region's rows.
 fn put_table(alloc: Global, out: &mut Vec<u8>, region: u64, rows: &[Shown]) -> Result<(), NoMemory>
     ensures { OnOk result (out.new.items ≡ out.old.items ++ table_text region rows.now) }
 {
@@ -90,15 +94,17 @@ fn put_table(alloc: Global, out: &mut Vec<u8>, region: u64, rows: &[Shown]) -> R
     Ok(())
 }
 
+/// Appends the section of what each region's table shows.
 fn put_all_shown(alloc: Global, out: &mut Vec<u8>, tables: &[&Table]) -> Result<(), NoMemory>
     ensures { OnOk result (out.new.items ≡ out.old.items ++ tables_text 0 (all_shown tables.now)) }
 {
-    for region in 0..tables.len() {
-        put_shown(alloc, out, region as u64, tables[region])?;
+    for (region, table) in tables.iter().enumerate() {
+        put_shown(alloc, out, region as u64, *table)?;
     }
     Ok(())
 }
 
+/// Appends the section of what a region's table shows, of which no list is made.
 fn put_shown(alloc: Global, out: &mut Vec<u8>, region: u64, table: &Table) -> Result<(), NoMemory>
     ensures { OnOk result (out.new.items ≡ out.old.items ++ table_text region (shown table.now.state)) }
 {
@@ -120,6 +126,7 @@ fn put_head(alloc: Global, out: &mut Vec<u8>, region: u64) -> Result<(), NoMemor
     Ok(())
 }
 
+/// Appends the section of the events.
 fn put_events(alloc: Global, out: &mut Vec<u8>, events: &[Event]) -> Result<(), NoMemory>
     ensures { OnOk result (out.new.items ≡ out.old.items ++ events_text events.now) }
 {

@@ -65,6 +65,7 @@ pub(crate) fn put_outcome(
     }
 }
 
+/// Appends the words of a result with these values.
 fn put_done(alloc: Global, out: &mut Vec<u8>, values: &[Option<Value>]) -> Result<(), NoMemory>
     ensures { OnOk result (out.new.items ≡ out.old.items ++ spaced (codes "done" ∷ map value_word values.now)) }
 {
@@ -75,6 +76,7 @@ fn put_done(alloc: Global, out: &mut Vec<u8>, values: &[Option<Value>]) -> Resul
     Ok(())
 }
 
+/// Appends the words of an abort by this cause.
 fn put_abort(alloc: Global, out: &mut Vec<u8>, cause: &Cause) -> Result<(), NoMemory>
     ensures { OnOk result (out.new.items ≡ out.old.items ++ spaced (codes "abort" ∷ cause_word cause.now ∷ [])) }
 {
@@ -91,6 +93,7 @@ fn put_abort(alloc: Global, out: &mut Vec<u8>, cause: &Cause) -> Result<(), NoMe
     }
 }
 
+/// Appends the words of a stale outcome: the unit that was moved, how many moves of it were known, and the mover.
 fn put_stale(
     alloc: Global,
     out: &mut Vec<u8>,

@@ -14,4 +14,5 @@ pub fn ends_may_move() {
     may_move::<RingIn>();
 }
 
+/// Can be called for a type whose values may be moved to another thread, and does nothing.
 fn may_move<T: Send>() {}

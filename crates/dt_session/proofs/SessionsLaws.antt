@@ -1,7 +1,7 @@
 -- The sessions of a region, gathered from a workload and found by their names.
 use Rattle.std.proofs.Common.{◌≡◌, ◌≢◌, ◌⊎◌, ◌<◌, ◌≤◌, ◌+◌, ◌-◌, ◌==◌, ℕ, zero, suc, Bool, true, false, cond, eq-eqb, eqb, eqb-true, List, [], ◌∷◌}
 use Rattle.std.proofs.Common.{length, map, get_or, drop, slice_get, ◌++◌, Some, None, refl, sym, ap, subst, ◌∙◌, inl, inr, arith}
-use Rattle.std.specs.Prelude.{◌↔◌, Option, IsTrue, option_and_then, option_map}
+use Rattle.std.specs.Prelude.{◌↔◌, Option, IsTrue, option_map}
 use Rattle.std.specs.List.{All, AllByRecursion}
 use Rattle.std.specs.List.Sorted.{IsStrictlySortedBy}
 use Rattle.std.specs.declared.cmp.Ordering.{Ordering}
@@ -30,11 +30,9 @@ use Rattle.dt_workload.specs.Valid.{calls_in, session_names}
 use Rattle.dt_workload.specs.declared.Session.{Session}
 use Rattle.dt_session.specs.declared.sessions.Seat.{Seat}
 use Rattle.dt_session.specs.Eager.{sessions_at, with_session}
-use Rattle.dt_session.specs.declared.sessions.Waiting.{Waiting}
 use Rattle.dt_session.specs.Sessions.{AreAllAnswered, AreSoundSeats, EachNameIsAnswered, IsSoundSeat, MayBeAnswered, MayGo}
-use Rattle.dt_session.specs.Sessions.{MaySeatEnd, MaySeatTry, SessionsView, StandsWithin, after_answer, after_wait, answered_seat, idle_seat, is_named, seat_of, waiting, waits_of, with_changed}
+use Rattle.dt_session.specs.Sessions.{MaySeatEnd, MaySeatTry, SessionsView, after_answer, after_wait, answered_seat, idle_seat, is_named, seat_of, waiting, with_changed}
 use Rattle.dt_session.specs.World.{Place, idle_place, session_at}
-use Rattle.dt_session.specs.Tries.{Awaited, MayEnd, MayTry}
 
 -- one name is another
 pub same_name : (a b : Bytes) → is_named a b ≡ true → a ≡ b
@@ -173,22 +171,10 @@ seat_found (q ∷ entries) p a (inr h) =
     let other : is_named p.0 q.0 ≡ false = sym (texts_ties p.0 q.0) ∙ same_key_after p.0 q.0 (all_get (λ x. KeyBefore q.0 x.0) entries a.0 p h) in
     rw other (seat_found entries p a.1 h)
 
--- a place of the list has its name
-pub get_name : (entries : List (Bytes × Seat)) (i : ℕ) → slice_get (map (λ p. p.0) entries) i ≡ option_map (λ p. p.0) (slice_get entries i)
-get_name [] i = refl
-get_name (p ∷ entries) zero = refl
-get_name (p ∷ entries) (suc i) = get_name entries i
-
 -- the session of the name at a place is the one that stands there
 
 pub stands_at : (s : SessionsView) (index : ℕ) (p : Bytes × Seat) → HasAscendingKeys s.seats → slice_get s.seats index ≡ Some p → seat_of s p.0 ≡ Some p.1
 stands_at s index p a e = seat_found s.seats p a (has_place s.seats index p e)
-
-pub waits_there : (s : SessionsView) (index : ℕ) (p : Bytes × Seat) → HasAscendingKeys s.seats → slice_get s.seats index ≡ Some p
-    → option_and_then (waits_of s) (slice_get (map (λ q. q.0) s.seats) index) ≡ option_map (λ (w : Waiting). w.id) p.1.waits
-waits_there s index p a e =
-    ap (option_and_then (waits_of s)) (get_name s.seats index ∙ ap (option_map (λ q. q.0)) e)
-    ∙ ap (option_and_then (λ (seat : Seat). option_map (λ (w : Waiting). w.id) seat.waits)) (stands_at s index p a e)
 
 -- what a place of the list has
 
@@ -291,34 +277,10 @@ names_answered s a name seat found = found_answered s.seats name seat a found
 pub answered_of_names : (s : SessionsView) → HasAscendingKeys s.seats → EachNameIsAnswered s → AreAllAnswered s
 answered_of_names s a each = all_put _ s.seats (λ p h. each p.0 p.1 (seat_found s.seats p a h))
 
--- where a session stands, by what it waits for
-
-pub waiting_within : (seat : Seat) (w : Waiting) → IsSoundSeat seat → seat.waits ≡ Some w → seat.answered < length seat.calls
-waiting_within seat w sound e = subst (StandsWithin (length seat.calls) seat.answered) e sound.within
-
 -- what is allowed of a session, by what it waits for
 
 pub not_here : (s : SessionsView) (name : Bytes) (last : Option Outcome) → seat_of s name ≡ None → MayBeAnswered s name last → ⊥
 not_here s name last e m = subst (λ o. MaySeatEnd s.tries o last) e m
-
--- one that may submit or be answered has a call left
-module _ (tries : ℕ) (seat : Seat) (last : Option Outcome) (sound : IsSoundSeat seat) where
-  abbrev told : Option Waiting → Option Awaited
-  told o = option_map (λ x. record { attempt = x.attempt; outcome = last }) o
-
-  pub call_to_try : MaySeatTry tries (Some seat) last → seat.answered < length seat.calls
-  call_to_try m = go seat.waits refl m
-    where
-      go : (o : Option Waiting) → seat.waits ≡ o → MayTry tries (length seat.calls) seat.answered (told o) → seat.answered < length seat.calls
-      go None e m = m
-      go (Some w) e m = waiting_within seat w sound e
-
-  pub call_to_end : MaySeatEnd tries (Some seat) last → seat.answered < length seat.calls
-  call_to_end m = go seat.waits refl m
-    where
-      go : (o : Option Waiting) → seat.waits ≡ o → MayEnd tries (told o) → seat.answered < length seat.calls
-      go None e m = absurd m
-      go (Some w) e m = waiting_within seat w sound e
 
 -- what holds of each place holds along the sessions, and back
 

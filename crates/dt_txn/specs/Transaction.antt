@@ -11,7 +11,6 @@ use Rattle.dt_access.specs.declared.TxnId.{TxnId}
 use Rattle.dt_access.specs.declared.Mode.{Mode}
 use Rattle.dt_access.specs.declared.Access.{Access}
 use Rattle.dt_access.specs.declared.Part.{Part}
-use Rattle.dt_access.specs.Orders.{HasAscendingKeys}
 use Rattle.dt_proc.specs.Tree.{ProcTree}
 use Rattle.dt_eval.specs.Calls.{CallFits, call_keys}
 use Rattle.dt_table.specs.Table.{Table, home_of, counter_of}
@@ -92,12 +91,6 @@ BodyFits procs version regions (Move key target) = IsUnit version key × (target
 -- the access list has the keys that the body uses, in their modes of some version
 abbrev pub HasItsUses : List ProcTree → Txn → Type 0
 HasItsUses procs txn = (version : ℕ) × (map used_of txn.access ≡ uses_of procs version txn.body)
-
--- what every transaction of a cluster with n regions is: its access list is in ascending order of distinct keys, and
--- its homes are regions
-pub record IsTransaction (regions : ℕ) (txn : Txn) : Type 0 where
-  pub ascending : HasAscendingKeys (map used_of txn.access)
-  pub homes : AllIn (λ home. home < regions) (homes_of txn)
 
 -- a transaction is valid for these procedures, in a cluster of this version with n regions: its body fits, it uses
 -- the keys of its body in their modes, and its homes are regions

@@ -1,6 +1,5 @@
 ghost use Rattle.std.specs.Prelude.{◌≡◌, ◌==◌, ◌≤◌, insert, IfSome, IfNone, nat_lt, IfOk, OnOk, OnErr, map, length};
 ghost use Rattle.std.specs.List.{prefix_len};
-ghost use Rattle.dt_access.specs.Orders.{AreAscendingHomes};
 ghost use Rattle.dt_txn.specs.Accesses.{AreAscendingAccesses};
 ghost use Rattle.dt_txn.specs.Transaction.{homes_of, part_of, parts_of, set_of, with_number, targets_of, entries_at, used_of};
 

@@ -86,7 +86,7 @@ const CUTS: [(usize, usize, Option<u32>); 11] = [
     (59, 60, None),
 ];
 
-/// Whether events that end so are those that have this faulty line, or else those of which there is a report.
+/// Whether what a replay told is the fault of this line, or, where no line is faulty, the beginning of a report.
 fn ends_by(alloc: Global, told: &[u8], faulty: Option<u32>) -> Result<bool, Fail> {
     let Some(line) = faulty else {
         return Ok(told.starts_with(b"0 |replies\n"));
@@ -148,9 +148,10 @@ fn each_long_file_is_told<R: Threads + Wait + Sync>(rt: &R, alloc: Global) -> Re
 /// A file, by its front, the piece that follows it, how often, and its back.
 type Repeated = (&'static str, &'static str, u32, &'static str);
 
-/// The cluster of one region, and a workload of nothing.
+/// The cluster of one region.
 const ONE_REGION: Repeated = ("regions = 1\n", "", 0, "");
 
+/// A file without a byte: a workload of nothing.
 const NOTHING: Repeated = ("", "", 0, "");
 
 /// A cluster and a workload with one thing too many: the items of a text, the brackets that are open in a procedure, its `{` among
