@@ -23,6 +23,6 @@ loop-place-preserved g c =
           rw c.lend.ensures
           (lent_before c.args.items.now.items c.loop-place.helpers c.loop-place.place (vec_len c.pop.new.self) c.in-Some.item d some is
           (λ j below. let there : vec_len c.loop-place.items + j ≡ vec_len c.pop.new.self + 1 + j = omega (arith, one) in
-              before.lent j d below ∙ ap (λ n. Some (Some (get_or c.args.items.now.items n d))) there)
+          before.lent j d below ∙ ap (λ n. Some (Some (get_or c.args.items.now.items n d))) there)
           k (omega (arith, lt, fits)));
     }
