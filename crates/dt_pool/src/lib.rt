@@ -12,7 +12,6 @@ mod lent;
 mod link;
 mod many;
 mod named;
-mod scoped;
 mod wait;
 
 pub use helper::{Helper, Server, hire};
@@ -20,4 +19,3 @@ pub use lent::{Lent, Worked};
 pub use link::Link;
 pub use many::{lend_last, links, take_back};
 pub use named::Named;
-pub use scoped::with_helpers;
