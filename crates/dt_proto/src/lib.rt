@@ -1,0 +1,6 @@
+//! Scratch.
+#![tactic(auto)]
+
+mod proto;
+
+pub use proto::{Course, Gate, Step, run};
