@@ -20,6 +20,7 @@ pub mod ClassMembers
 pub mod PartsOfVertices
 pub mod AscendingNumbers
 pub mod Search
+pub mod NumbersOfIds
 pub mod Sorts
 pub mod LastItem
 pub mod NoFields

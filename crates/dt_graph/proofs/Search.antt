@@ -7,8 +7,6 @@ use Rattle.std.proofs.lemmas.Iterator.Adapters.{position_from-zero}
 use Rattle.std.proofs.lemmas.List.{take_more, take-append-drop}
 use Rattle.dt_lists.specs.Lists.{Distinct, Has}
 use Rattle.dt_lists.proofs.Callers.{any_get, any_of_test, each_across, each_append_left}
-use Rattle.dt_access.specs.Ids.{same_id}
-use Rattle.dt_access.proofs.Callers.{id_of_test, test_of_id}
 
 -- the test holds of two items where they are the same, and only there
 pub record Tells {A : Type 0} (same : A → A → Bool) : Type 0 where
@@ -51,10 +49,7 @@ added_new same t x xs fresh = by (list_any (same x) xs) refl
     by true e = let r = any_get (λ y. same x y ≡ true) xs (any_of_test (same x) xs e) in absurd (fresh (subst (Has xs) (sym (t.of_test x r.0 r.2)) r.1))
     by false e = refl
 
--- the tests of ids and of numbers tell them apart
-pub tells_id : Tells same_id
-tells_id = record { of_test = id_of_test; of_self = λ x. test_of_id x x refl }
-
+-- the test of numbers tells them apart
 pub tells_number : Tells nat_eq
 tells_number = record { of_test = λ x y e. grind (arith, e); of_self = λ x. grind arith }
 

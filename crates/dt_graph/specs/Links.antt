@@ -1,5 +1,5 @@
 -- How the graph of what vertices of a list wait for among themselves (Among.antt of dt_waits) is built: edge by edge, from the
--- neighbours of an entry to the place of its vertex.
+-- neighbours of an entry to the place of its vertex. Read next: Among.antt of dt_waits, for the graph that is built.
 use Rattle.std.specs.Prelude.{◌≡◌, ◌⊎◌, ◌↔◌, ℕ, Bool, List, IsTrue, slice_get, Some}
 use Rattle.dt_lists.specs.Lists.{AnyIn, Has}
 use Rattle.dt_class.specs.Graphs.{AdjView, IsEdge}

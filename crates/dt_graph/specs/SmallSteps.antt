@@ -1,6 +1,6 @@
 -- What the small steps within a call do: entries are pushed for a vertex, degrees are raised and lowered, vertices are put to
--- the ready or the stuck ones, and the members of a class are done one after the other. What a whole call makes of what is kept
--- stands in Steps.antt of dt_waits.
+-- the ready or the stuck ones, and the members of a class are done one after the other. What a whole call makes of what is
+-- kept stands in Steps.antt of dt_waits. Read next: that file.
 use Rattle.std.specs.Prelude.{◌≡◌, ◌≢◌, ◌<◌, ◌⊎◌, ◌↔◌, ◌+◌, ◌==◌, ℕ, suc, not, if◌then◌else◌, List, ◌++◌, count_by, length, map, get_or, slice_get, Some}
 use Rattle.dt_lists.specs.Lists.{AnyIn, AllIn, Has, Distinct}
 use Rattle.dt_access.specs.Ids.{AreAscending}

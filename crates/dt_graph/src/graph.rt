@@ -71,7 +71,7 @@ impl Graph {
         match self.names.number_of(part.id) {
             Some(vertex) => self.waits.extend(alloc, vertex, part),
             None => {
-                self.names.reserve()?;
+                self.names.reserve(alloc, part.id)?;
                 self.waits.reserve()?;
                 self.waits.add(alloc, part)?;
                 self.names.add(part.id);

@@ -21,6 +21,7 @@ mod graph;
 mod group;
 mod leave;
 mod names;
+mod numbers;
 mod room;
 mod sched;
 mod seen;

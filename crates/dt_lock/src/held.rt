@@ -194,6 +194,7 @@ impl<S: Scheduler, N: Named> Held<S, N> {
         let noted = seen.copy(alloc)?;
         self.running.reserve(1)?;
         let runs = self.running.len() as u32 + 1;
+        self.region.prepare(alloc, id)?;
         self.region.reserve(alloc, runs)?;
         note(&mut self.running, Running { id, seen: noted });
         Ok(Claim::new(txn, seen))

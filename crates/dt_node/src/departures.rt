@@ -65,8 +65,8 @@ impl<S: Scheduler + Drop> Node<S> {
         Ok(packets)
     }
 
-    /// The packet for another region: all that this one is not known to have, as far as there is room. `made` is one that was
-    /// made before it.
+    /// The packet for another region: all that this one is not known to have, as far as there is room. `made` is the one
+    /// that was made before it, if there is one: where that begins at the same place, its entries are copied.
     fn packet(&self, alloc: Global, target: u8, made: Option<&Packet>) -> Result<Packet, NoMemory>
         requires ready { IsReady self.now }
         requires target { target < self.now.site.region.state.regions }
@@ -83,7 +83,7 @@ impl<S: Scheduler + Drop> Node<S> {
             asked_at,
             asked: requests(alloc, region, target, asked_at)?,
             log_at,
-            entries: entries_after(alloc, region, log_at, made)?,
+            entries: entries_as_made(alloc, region, log_at, made)?,
             took: region.taken(target),
             received: region.log(target).len(),
         })
@@ -123,7 +123,7 @@ fn requests<S: Scheduler>(
 
 /// The entries of a region's own log, from this place on, as far as a packet has room. They are copied from a packet that was made
 /// before, if that has the same, since each region is mostly known to have as much as the others.
-fn entries_after<S: Scheduler>(
+fn entries_as_made<S: Scheduler>(
     alloc: Global,
     region: &Region<S>,
     first: u32,

@@ -1,5 +1,5 @@
 -- How lanes follow the cells: a mark is added where a cell is, and taken out where it is taken out.
-use Rattle.std.proofs.Common.{◌≡◌, ◌≢◌, ◌⊎◌, ◌↔◌, ℕ, ◌+◌, ◌<◌, ◌^◌, Bool, true, false, not, ◌==◌, List, [], ◌∷◌, ◌++◌, map}
+use Rattle.std.proofs.Common.{◌≡◌, ◌≢◌, ◌⊎◌, ◌↔◌, ℕ, ◌+◌, ◌<◌, ◌^◌, Bool, true, false, not, ◌==◌, List, [], ◌∷◌, ◌++◌}
 use Rattle.std.proofs.Common.{length, get_or, slice_index_or, Some, None, Result, Ok, Err, OnErr, refl, ap, sym, subst, inl, inr, arith, ◌∙◌}
 use Rattle.std.proofs.lemmas.Option.{none-some, same_Some}
 use Rattle.std.specs.List.{filter}
@@ -253,7 +253,7 @@ kept_removed k n slot c kept rows there up next changed others used = record {
 -- ---- steps of the code
 
 pub none_kept : (k : Kept) → AreRowsLinked k.rows → k.cells.slots ≡ [] → k.reads.items ≡ [] → k.writes.items ≡ [] → k.wholes.items ≡ []
-    → k.in_use.rows.items ≡ [] → 0 < k.next_number → k.next_number < 2 ^ 64 → AreQueuesKept k
+    → k.in_use.lists ≡ [] → 0 < k.next_number → k.next_number < 2 ^ 64 → AreQueuesKept k
 none_kept k linked slots reads writes wholes used first last = record {
   linked = linked;
   first = first;
@@ -263,7 +263,7 @@ none_kept k linked slots reads writes wholes used first last = record {
   known = λ s c e. absurd (none s c e);
   lanes = λ m p. subst (IsLane k.cells (IsInLane k.rows m p)) (sym (empty m p)) (record { numbered = tt; members = λ x. (λ h. absurd h, λ r. absurd (none x.slot r.0 r.1)) });
   in_use = λ g row. (
-    λ h. absurd (subst (λ l. Has (get_or (map (λ s. s.keys) l) g []) row) used h),
+    λ h. absurd (subst (λ l. Has (get_or l g []) row) used h),
     λ u. absurd (elim u.1.1 [ inl h ↦ subst (λ l. Has l u.1.0) (empty Read row) h | inr h ↦ subst (λ l. Has l u.1.0) (empty Write row) h ]),
   );
 }

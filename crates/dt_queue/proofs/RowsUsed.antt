@@ -10,10 +10,9 @@ use Rattle.dt_access.specs.declared.access.Mode.{Mode}
 use Rattle.dt_access.specs.declared.access.Mode.TheVariants.{Read, Write, Whole}
 use Rattle.dt_queue.specs.declared.cell.Cell.{Cell}
 use Rattle.dt_queue.specs.declared.mark.Mark.{Mark}
-use Rattle.dt_queue.specs.declared.in_use.InUse.{InUse}
 use Rattle.dt_queue.specs.declared.kept.Kept.{Kept}
 use Rattle.dt_queue.specs.declared.rows.Rows.{Rows}
-use Rattle.dt_queue.specs.InUse.{SameRows, UsesRow, rows_at}
+use Rattle.dt_queue.specs.InUse.{InUseView, IsInGranule, SameRows, UsesRow, rows_at}
 use Rattle.dt_queue.specs.Kept.{AreQueuesKept, AreRowsInUse, ChangesLaneOf, IsInUse, LeavesRow, lane, mark_of, place_at}
 use Rattle.dt_queue.specs.Rows.{AreRowsLinked, KeepsRows, granule_at}
 use Rattle.dt_queue.proofs.KeptLanes.{either_place, empty_of, kept_pushed, some_of}
@@ -71,6 +70,10 @@ used_same k n same row = (
   λ u. let a = of_used n row u in to_used k row a.0 a.1 (a.2.0, subst (λ l. Has l a.2.0) (same a.0 row) a.2.1),
 )
 
+-- a row is in use in its own granule alone
+pub own_granule : (k : Kept) → AreQueuesKept k → (r : Rows) → KeepsRows k.rows r → (u : InUseView) → SameRows k.in_use u → (row : ℕ) → IsInGranule (granule_at r row) row u
+own_granule k kept r keeps u same row g h = let b = (kept.in_use g row).0 (subst (λ l. Has l row) (same g) h) in sym b.0 ∙ sym (keeps.granules row (used_known k kept row b.1))
+
 -- ---- one lane was changed
 
 abbrev AreOthers : Kept → Kept → Mode → ℕ → Type 0
@@ -126,12 +129,12 @@ rows_pushed k n mode row mark kept keeps changed others uses g r = (
 -- a mark was taken out of the lane of a row, which is in use no more, where nothing waits to read or write it
 pub rows_removed : (k n : Kept) (mode : Mode) (row number : ℕ) → AreQueuesKept k → n.rows ≡ k.rows
     → lane n mode (place_at k.rows mode row) ≡ filter (λ m. not (m.number == number)) (lane k mode (place_at k.rows mode row)) → AreOthers k n mode (place_at k.rows mode row)
-    → ((g r : ℕ) → Has (rows_at n.in_use g) r ↔ Has (rows_at k.in_use g) r × ¬ ((g ≡ granule_at k.rows row) × (r ≡ row) × ¬ (IsInUse n row))) → AreRowsInUse n
+    → ((g r : ℕ) → Has (rows_at n.in_use g) r ↔ Has (rows_at k.in_use g) r × ¬ ((r ≡ row) × ¬ (IsInUse n row))) → AreRowsInUse n
 rows_removed k n mode row number kept rows changed others leaves g r = (
   λ h. let b = (leaves g r).0 h in
       let u = (kept.in_use g r).0 b.0 in
-      (ap (λ x. granule_at x r) rows ∙ u.0, still r u.1 (λ e none. b.1 (sym u.0 ∙ ap (granule_at k.rows) e, e, none))),
-  λ u. (leaves g r).1 ((kept.in_use g r).1 (ap (λ x. granule_at x r) (sym rows) ∙ u.0, before r u.1), λ b. b.2 (subst (IsInUse n) b.1 u.1)),
+      (ap (λ x. granule_at x r) rows ∙ u.0, still r u.1 (λ e none. b.1 (e, none))),
+  λ u. (leaves g r).1 ((kept.in_use g r).1 (ap (λ x. granule_at x r) (sym rows) ∙ u.0, before r u.1), λ b. b.1 (subst (IsInUse n) b.0 u.1)),
 )
   where
     before : (r : ℕ) → IsInUse n r → IsInUse k r
@@ -175,18 +178,18 @@ push_steps k mid marked n slot c kept linked keeps cells lanes change rows same 
     )
 
 -- rows were put in after all others stayed
-pub uses_as : (granule number row : ℕ) (mode : Mode) (old mid new : InUse) → SameRows old mid → granule ≡ number → UsesRow number row mode mid new → UsesRow granule row mode old new
+pub uses_as : (granule number row : ℕ) (mode : Mode) (old mid new : InUseView) → SameRows old mid → granule ≡ number → UsesRow number row mode mid new → UsesRow granule row mode old new
 uses_as granule number row mode old mid new same e uses g r = (
   λ h. elim ((uses g r).0 h) [ inl o ↦ inl (subst (λ l. Has l r) (same g) o) | inr b ↦ inr (b.0, b.1 ∙ sym e, b.2) ],
   λ h. (uses g r).1 (elim h [ inl o ↦ inl (subst (λ l. Has l r) (sym (same g)) o) | inr b ↦ inr (b.0, b.1 ∙ e, b.2) ]),
 )
 
 -- a row was taken out after its lane was changed
-pub leaves_as : (k marked n : Kept) (row : ℕ) → marked.rows ≡ k.rows → marked.in_use ≡ k.in_use → ((m : Mode) (p : ℕ) → lane n m p ≡ lane marked m p) → LeavesRow row marked n
-    → (g r : ℕ) → Has (rows_at n.in_use g) r ↔ Has (rows_at k.in_use g) r × ¬ ((g ≡ granule_at k.rows row) × (r ≡ row) × ¬ (IsInUse n row))
-leaves_as k marked n row rows used lanes leaves g r = (
-  λ h. let b = (leaves g r).0 h in (subst (λ u. Has (rows_at u g) r) used b.0, λ t. b.1 (t.0 ∙ sym (ap (λ (x : Rows). granule_at x row) rows), t.1, λ u. t.2 ((used_same marked n lanes row).0 u))),
-  λ b. (leaves g r).1 (subst (λ u. Has (rows_at u g) r) (sym used) b.0, λ t. b.1 (t.0 ∙ ap (λ (x : Rows). granule_at x row) rows, t.1, λ u. t.2 ((used_same marked n lanes row).1 u))),
+pub leaves_as : (k marked n : Kept) (row : ℕ) → marked.in_use ≡ k.in_use → ((m : Mode) (p : ℕ) → lane n m p ≡ lane marked m p) → LeavesRow row marked n
+    → (g r : ℕ) → Has (rows_at n.in_use g) r ↔ Has (rows_at k.in_use g) r × ¬ ((r ≡ row) × ¬ (IsInUse n row))
+leaves_as k marked n row used lanes leaves g r = (
+  λ h. let b = (leaves g r).0 h in (subst (λ u. Has (rows_at u g) r) used b.0, λ t. b.1 (t.0, λ u. t.1 ((used_same marked n lanes row).0 u))),
+  λ b. (leaves g r).1 (subst (λ u. Has (rows_at u g) r) (sym used) b.0, λ t. b.1 (t.0, λ u. t.1 ((used_same marked n lanes row).1 u))),
 )
 
 -- where no mark reads, a mark writes or none does

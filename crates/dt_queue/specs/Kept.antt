@@ -1,6 +1,6 @@
 -- Scaffolding: how the queues are kept. Each entry has a cell at its slot, with its row, its mode and the number of its push;
 -- and it has a mark in the lane of its mode, that of its row, or for the mode Whole that of its granule. `waiting_of` is the
--- list of entries that is kept so, and `AreQueuesKept` what all queues keep.
+-- list of entries that is kept so, and `AreQueuesKept` what all queues keep. Read next: `Lanes`, then `Rows` and `InUse`.
 use Rattle.std.specs.Prelude.{◌≡◌, ℕ, ◌<◌, ◌↔◌, ◌⊎◌, ◌^◌, nat_lt, true, false, List, [], ◌∷◌, map, get_or, length, if◌then◌else◌, None, Some}
 use Rattle.slab.specs.Slab.{Slab, Updates, get, entries}
 use Rattle.dt_lists.specs.Lists.{AnyIn, Has}
@@ -69,7 +69,7 @@ AreRowsInUse k = (g row : ℕ) → Has (rows_at k.in_use g) row ↔ (granule_at 
 
 -- a row was taken out of those in use, where nothing waits to read or write it
 abbrev pub LeavesRow : ℕ → Kept → Kept → Type 0
-LeavesRow row old new = (g r : ℕ) → Has (rows_at new.in_use g) r ↔ Has (rows_at old.in_use g) r × ¬ ((g ≡ granule_at old.rows row) × (r ≡ row) × ¬ (IsInUse old row))
+LeavesRow row old new = (g r : ℕ) → Has (rows_at new.in_use g) r ↔ Has (rows_at old.in_use g) r × ¬ ((r ≡ row) × ¬ (IsInUse old row))
 
 -- what all queues keep: a cell has a number that was given, no other has it, and its row is known; its mark is in its lane; and
 -- the rows in use are known

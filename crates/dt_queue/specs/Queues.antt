@@ -1,8 +1,9 @@
 -- Queues of entries that wait for rows. An entry waits at a home for the use of a key, in a mode; the vertex that wants it
--- stands beside. The entries of one home and one granule are a queue. Here all queues together are one list of entries, in
--- the order in which they were pushed: entries that clash are of one queue, so nothing depends on how two queues lie among
--- each other. An entry has to wait for those before it that clash with it; it is enough that it waits for the nearest of them
--- (`neighbours`), since these wait for the others.
+-- stands beside. The entries of one home and one granule are a queue. Here all queues together are one list of entries, in the
+-- order in which they were pushed: entries that clash are of one queue, so nothing depends on how two queues lie among each
+-- other. An entry has to wait for those before it that clash with it; it is enough that it waits for the nearest of them
+-- (`neighbours`), since these wait for the others. Read next: Waits.antt of dt_waits, for what neighbours mean in a region's
+-- view; or `Kept`, for how queues are kept.
 use Rattle.std.specs.Prelude.{◌≡◌, ◌≢◌, ℕ, Bool, ◌&&◌, ◌==◌, not, if◌then◌else◌, List, [], ◌∷◌}
 use Rattle.std.specs.List.{filter, list_any}
 use Rattle.dt_lists.specs.Lists.{AnyIn, EachThen}

@@ -69,7 +69,7 @@ impl Kept {
         let number = self.next_number;
         let row = self.rows.row(alloc, home, key)?;
         let granule = self.rows.granule_of(row);
-        self.in_use.reserve(alloc, granule)?;
+        self.in_use.reserve(alloc, granule, row)?;
         self.cells.reserve(1)?;
         let slot = self.cells.vacant_key();
         self.add_mark(
@@ -198,12 +198,11 @@ impl Kept {
 
     /// Takes a row out of those in use, where nothing waits to read or write it. Takes no memory.
     fn leave_row(&mut self, row: usize)
-        requires row_in { row < length self.old.rows.granule_of.items }
         ensures left { LeavesRow row self.old self.new }
         ensures same { self.new ≡ record self.old { in_use = self.new.in_use } }
     {
         if !self.is_in_use(row) {
-            self.in_use.remove(self.rows.granule_of(row), row);
+            self.in_use.remove(row);
         }
     }
 

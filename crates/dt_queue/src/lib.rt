@@ -18,6 +18,7 @@ mod next;
 mod numbers;
 mod queues;
 mod rows;
+mod spot;
 
 pub use follower::Follower;
 pub use queues::Queues;

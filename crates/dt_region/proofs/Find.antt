@@ -1,11 +1,10 @@
 -- What is found by its id: among transactions, in a map, and among those that a region counted.
 use Rattle.std.proofs.Common.{◌≡◌, ◌≢◌, ◌<◌, ◌+◌, ◌⊎◌, ℕ, zero, suc, true, false, cond, List, [], ◌∷◌, ◌++◌, map, Option, Some, None}
 use Rattle.std.proofs.Common.{slice_get, refl, sym, ap, ap₂, subst, ◌∙◌, inl, inr, is_some, if◌then◌else◌, arith}
+use Rattle.std.proofs.lemmas.Bool.{false≢true}
 use Rattle.std.proofs.lemmas.Option.{same_Some}
 use Rattle.std.specs.Map.{lookup}
-use Rattle.indexmap.specs.IndexMap.{insert_entry}
 use Rattle.dt_lists.specs.Lists.{AllIn, Has}
-use Rattle.dt_lists.proofs.Callers.{all_more}
 use Rattle.dt_lists.proofs.Callers.{all_map}
 use Rattle.dt_access.specs.Ids.{same_id}
 use Rattle.dt_access.specs.declared.TxnId.{TxnId}
@@ -28,31 +27,22 @@ pub hold_there : (es : List (TxnId × Txn)) (txn : Txn) → AreKeyed es → is_s
 hold_there es txn keyed there =
     ap (λ b. cond b (map (λ e. e.1) es) (map (λ e. e.1) es ++ txn ∷ [])) (sym there ∙ ap is_some (find_keyed es txn.id keyed))
 
-pub absent : (es : List (TxnId × Txn)) (txn : Txn) → is_some (lookup (same_id txn.id) es) ≡ false → insert_entry same_id es txn.id txn ≡ es ++ (txn.id, txn) ∷ []
-absent [] txn none = refl
-absent (e ∷ es) txn none =
-    elim (same_id txn.id e.0) as (λ b. is_some (cond b (Some e.1) (lookup (same_id txn.id) es)) ≡ false → cond b ((e.0, txn) ∷ es) (e ∷ insert_entry same_id es txn.id txn) ≡ e ∷ es ++ (txn.id, txn) ∷ []) [
-      | true ↦ λ h. cc
-      | false ↦ λ h. ap (λ l. e ∷ l) (absent es txn h)
-    ] none
-
--- in a map where nothing stands under an id, what is added under it comes last
-pub added_last : {V : Type 0} (es : List (TxnId × V)) (id : TxnId) (v : V) → ¬ (Has (map (λ e. e.0) es) id) → insert_entry same_id es id v ≡ es ++ (id, v) ∷ []
-added_last [] id v none = refl
-added_last (e ∷ es) id v none = rw (test_of_other id e.0 (λ same. none (inl (sym same)))) (ap (λ l. e ∷ l) (added_last es id v (λ h. none (inr h))))
-
-values_more : (es : List (TxnId × Txn)) (txn : Txn) → map (λ e. e.1) (es ++ (txn.id, txn) ∷ []) ≡ map (λ e. e.1) es ++ txn ∷ []
-values_more [] txn = refl
-values_more (e ∷ es) txn = ap (λ l. e.1 ∷ l) (values_more es txn)
+-- an id under which nothing is found stands nowhere
+pub none_there : {V : Type 0} (es : List (TxnId × V)) (id : TxnId) → is_some (lookup (same_id id) es) ≡ false → ¬ (Has (map (λ e. e.0) es) id)
+none_there [] id none h = h
+none_there (e ∷ es) id none h =
+    elim (same_id id e.0) as (λ b. same_id id e.0 ≡ b → is_some (cond b (Some e.1) (lookup (same_id id) es)) ≡ false → ⊥) [
+      | true ↦ λ t n. cc
+      | false ↦ λ t n. elim h [
+        | inl same ↦ false≢true (sym t ∙ test_of_id id e.0 (sym same))
+        | inr later ↦ none_there es id n later
+      ]
+    ] refl none
 
 pub hold_new : (es : List (TxnId × Txn)) (txn : Txn) → AreKeyed es → is_some (lookup (same_id txn.id) es) ≡ false →
-    map (λ e. e.1) (insert_entry same_id es txn.id txn) ≡ (if is_some (find_txn (map (λ e. e.1) es) txn.id) then map (λ e. e.1) es else map (λ e. e.1) es ++ txn ∷ [])
+    map (λ e. e.1) es ++ txn ∷ [] ≡ (if is_some (find_txn (map (λ e. e.1) es) txn.id) then map (λ e. e.1) es else map (λ e. e.1) es ++ txn ∷ [])
 hold_new es txn keyed none =
-    ap (map (λ e. e.1)) (absent es txn none) ∙ values_more es txn
-    ∙ ap (λ b. cond b (map (λ e. e.1) es) (map (λ e. e.1) es ++ txn ∷ [])) (sym none ∙ ap is_some (find_keyed es txn.id keyed))
-
-pub keyed_new : (es : List (TxnId × Txn)) (txn : Txn) → AreKeyed es → is_some (lookup (same_id txn.id) es) ≡ false → AreKeyed (insert_entry same_id es txn.id txn)
-keyed_new es txn keyed none = subst AreKeyed (sym (absent es txn none)) (all_more (λ e. e.0 ≡ e.1.id) es (txn.id, txn) keyed refl)
+    ap (λ b. cond b (map (λ e. e.1) es) (map (λ e. e.1) es ++ txn ∷ [])) (sym none ∙ ap is_some (find_keyed es txn.id keyed))
 
 -- what is found has the id, and stands in the list
 pub found : (txns : List Txn) (id : TxnId) (txn : Txn) → find_txn txns id ≡ Some txn → Has txns txn × (txn.id ≡ id)

@@ -1,4 +1,5 @@
 pub mod Callers
+pub mod ByIdLaws
 pub mod Find
 pub mod HeldTransactions
 pub mod Logs

@@ -2,6 +2,8 @@ pub mod Region
 pub mod Rules
 pub mod Conditions
 pub mod Sound
+pub mod ById
+pub mod ByIdInner
 pub mod Foreign
 pub mod Kept
 pub mod RegionCode

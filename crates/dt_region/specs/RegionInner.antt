@@ -1,7 +1,6 @@
 -- Only proofs need this file: how a region keeps what contracts see of it, and what its type says of its fields. Skip it;
 -- read `Region` for what callers see, and `Sound` for what every region keeps.
 use Rattle.std.specs.Prelude.{◌≡◌, ◌<◌, ◌≤◌, ◌*◌, ◌^◌, ℕ, length, slice_index}
-use Rattle.indexmap.specs.IndexMap.{spare}
 use Rattle.dt_sched.specs.Views.{View, log_at}
 use Rattle.dt_txn.specs.Replica.{Replica}
 use Rattle.dt_sched.specs.Sched.{Sched}
@@ -48,7 +47,7 @@ pub record HasStock (room for_events for_done for_changes for_finishes : ℕ) : 
 -- what the type of a region says of its fields, where the scheduler is seen so and has this room
 pub record IsWell {S : Type 0} (seen : S → Sched) (finishes : S → ℕ) (a : Inside S) : Type 0 where
   pub well : AreWell (state_in seen a) (seen a.scheduler)
-  pub stock : HasStock a.room a.events.spare (spare a.done) a.table.spare (finishes a.scheduler)
+  pub stock : HasStock a.room a.events.spare a.done.spare a.table.spare (finishes a.scheduler)
 
 -- all that was received of these logs is inserted
 abbrev pub HasInsertedAll : View → Replica → Type 0

@@ -1,17 +1,15 @@
-ghost use Rattle.std.specs.Prelude.{◌≡◌, ◌+◌, ◌<◌, ◌≤◌, [], List, OnOk};
+ghost use Rattle.std.specs.Prelude.{◌≡◌, ◌+◌, ◌<◌, ◌≤◌, [], List, length, OnOk};
 ghost use Rattle.std.specs.Option.{option_copied};
-ghost use Rattle.indexmap.specs.IndexMap.{insert_entry, spare};
-ghost use Rattle.dt_access.specs.Ids.{same_id};
 ghost use Rattle.dt_lists.specs.Lists.{Has};
 ghost use Rattle.dt_txn.specs.declared.txn.Txn.{Txn};
 ghost use Rattle.dt_region.specs.Region.{find_txn};
 ghost use Rattle.dt_region.specs.Rules.{keep};
 ghost use Rattle.dt_region.specs.Sound.{AreCounted};
 
+use crate::by_id::ById;
 use dt_access::TxnId;
 use dt_text::{Common, NoMemory};
 use dt_txn::Txn;
-use indexmap::IndexMap;
 use std::alloc::Global;
 use std::marker::Model;
 
@@ -20,17 +18,16 @@ use std::marker::Model;
 /// Contracts see the list, and as `spare` how many more can be kept without memory.
 #[derive(Drop)]
 pub struct Foreign {
-    txns: IndexMap<TxnId, Common<Txn>>,
+    txns: ById<Common<Txn>>,
 }
 
 impl Model for Foreign {
     ghost use Rattle.std.specs.Prelude.{map};
-    ghost use Rattle.indexmap.specs.IndexMap.{spare};
     ghost use Rattle.dt_region.specs.Foreign.{ForeignView, AreKeyed};
 
     ghost Value = { ForeignView };
 
-    ghost view = { λ f. record { txns = map (λ e. e.1) f.txns.entries; spare = spare f.txns } };
+    ghost view = { λ f. record { txns = map (λ e. e.1) f.txns.entries; spare = f.txns.spare } };
 
     ghost invariant = { λ f. AreKeyed f.txns.entries };
 }
@@ -41,7 +38,7 @@ impl Foreign {
         ensures { result.txns ≡ [] }
     {
         Foreign {
-            txns: IndexMap::new(alloc),
+            txns: ById::new(alloc),
         }
     }
 
@@ -49,16 +46,25 @@ impl Foreign {
     pub fn get(&self, id: TxnId) -> Option<&Common<Txn>>
         ensures { option_copied result ≡ find_txn self.now.txns id }
     {
-        self.txns.get(&id)
+        self.txns.get(id)
     }
 
-    /// Makes room for n more.
-    pub fn reserve(&mut self, places: usize) -> Result<(), NoMemory>
+    /// Makes room for one more, that of this id.
+    pub fn reserve_for(&mut self, alloc: Global, id: TxnId) -> Result<(), NoMemory>
         ensures same { self.new.txns ≡ self.old.txns }
-        ensures room { OnOk result (places ≤ self.new.spare) }
+        ensures room { OnOk result (1 ≤ self.new.spare) }
     {
-        self.txns.reserve(places)?;
-        Ok(())
+        self.txns.reserve(1)?;
+        self.txns.prepare(alloc, id)
+    }
+
+    /// Makes room for these.
+    pub fn reserve_all(&mut self, alloc: Global, txns: &[Common<Txn>]) -> Result<(), NoMemory>
+        ensures same { self.new.txns ≡ self.old.txns }
+        ensures room { OnOk result (length txns.now ≤ self.new.spare) }
+    {
+        self.txns.reserve(txns.len())?;
+        prepare_all(alloc, &mut self.txns, txns)
     }
 
     /// Keeps a transaction, unless it is of region `number`, which holds what it submitted, or there is one of its id.
@@ -79,20 +85,23 @@ impl Foreign {
         ensures held { self.new.txns ≡ keep [] self.old.txns txn }
         ensures room { self.old.spare ≤ self.new.spare + 1 }
     {
-        if !self.txns.contains_key(&txn.get().id) {
-            insert(&mut self.txns, txn);
+        let id = txn.get().id;
+        if !self.txns.has(id) {
+            self.txns.add(id, txn);
         }
     }
 }
 
-// Adds a transaction under its id, which takes no memory where there is room.
-fn insert(txns: &mut IndexMap<TxnId, Common<Txn>>, txn: Common<Txn>)
-    requires { 0 < spare txns.old }
-    ensures added { txns.new.entries ≡ insert_entry same_id txns.old.entries txn.id txn }
-    ensures room { spare txns.old ≤ spare txns.new + 1 }
+// Sees to it that these transactions will be found fast once they are kept.
+fn prepare_all(
+    alloc: Global,
+    kept: &mut ById<Common<Txn>>,
+    txns: &[Common<Txn>],
+) -> Result<(), NoMemory>
+    ensures { kept.new ≡ kept.old }
 {
-    match txns.insert(txn.get().id, txn) {
-        Ok(_) => (),
-        Err(_) => unreachable!(),
+    for txn in txns {
+        kept.prepare(alloc, txn.get().id)?;
     }
+    Ok(())
 }

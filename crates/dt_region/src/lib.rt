@@ -35,8 +35,8 @@
 #![tactic(auto)]
 
 mod ascent;
+mod by_id;
 mod entries;
-mod execution;
 mod foreign;
 mod kept;
 mod opening;

@@ -16,8 +16,8 @@ ghost use Rattle.dt_region.specs.Conditions.{IsTableFor, CanAppend, CanDeliver, 
 ghost use Rattle.dt_region.specs.Sound.{IsSoundRegion};
 
 use crate::ascent::are_ascending;
+use crate::by_id::ById;
 use crate::entries::{add, keep_all, parts_and_txns, place};
-use crate::execution::note_outcome;
 use crate::foreign::Foreign;
 use crate::kept::Kept;
 use crate::opening::{no_counts, no_ids, no_parts};
@@ -30,7 +30,6 @@ use dt_sched::Scheduler;
 use dt_table::{Effect, Table};
 use dt_text::{Common, Name, NoMemory};
 use dt_txn::{Body, Entry, Outcome, Txn, annotate, execute, homes, part_at};
-use indexmap::IndexMap;
 use std::alloc::Global;
 use std::marker::Model;
 
@@ -53,7 +52,7 @@ pub struct Region<S: Scheduler> {
     taken: Vec<u32>,
     logs: Vec<Log>,
     inserted: Vec<u32>,
-    done: IndexMap<TxnId, Outcome>,
+    done: ById<Outcome>,
     table: Table,
     scheduler: S,
     events: Kept,
@@ -95,7 +94,7 @@ impl<S: Scheduler> Region<S> {
             taken: no_counts(alloc, regions)?,
             logs: no_parts(alloc, regions)?,
             inserted: no_counts(alloc, regions)?,
-            done: IndexMap::new(alloc),
+            done: ById::new(alloc),
             table,
             scheduler: S::empty(alloc, regions)?,
             events: Kept::new(alloc),
@@ -185,7 +184,7 @@ impl<S: Scheduler> Region<S> {
     pub fn outcome(&self, id: TxnId) -> Option<&Outcome>
         ensures { option_copied result ≡ outcome_of self.now.state id }
     {
-        self.done.get(&id)
+        self.done.get(id)
     }
 
     /// The events that it made, in order, each with its stamp. Takes no memory.
@@ -304,7 +303,7 @@ impl<S: Scheduler> Region<S> {
         let cut = part_at(alloc, txn.get(), home)?;
         let part = Common::new(alloc, cut)?;
         self.events.reserve(self.room as usize + 1)?;
-        self.foreign.reserve(1)?;
+        self.foreign.reserve_for(alloc, txn.get().id)?;
         place(&mut self.logs, part)?;
         self.taken[source as usize] = number + 1;
         self.foreign.keep(home, txn);
@@ -352,7 +351,7 @@ impl<S: Scheduler> Region<S> {
         let (parts, txns) = parts_and_txns(alloc, entries.split_off(known)?)?;
         let new = txns.len();
         self.events.reserve(self.room as usize + 1)?;
-        self.foreign.reserve(new)?;
+        self.foreign.reserve_all(alloc, txns.as_slice())?;
         add(&mut self.logs, home, parts)?;
         keep_all(region, &mut self.foreign, txns);
         let new = new as u32;
@@ -474,14 +473,21 @@ impl<S: Scheduler> Region<S> {
             return Ok(false);
         }
         let (outcome, effect) = self.run(alloc, id, procs)?;
-        self.make_room(alloc, self.room + 1)?;
+        self.make_room_for(alloc, id)?;
         self.finish(id, outcome, effect);
         Ok(true)
     }
 
+    /// Sees to it that the outcome of an id will be found fast once it is executed. Nothing that contracts see changes.
+    pub fn prepare(&mut self, alloc: Global, id: TxnId) -> Result<(), NoMemory>
+        ensures { self.new ≡ self.old }
+    {
+        self.done.prepare(alloc, id)
+    }
+
     /// Makes room for n executions: each unit of it is enough for any one execution that is finished. Nothing else
     /// changes, and after `NoMemory` the region is as before. The changes of 252,645,136 executions are too many for a table to
-    /// count by 32 bits: so many get `NoMemory` whatever memory there is.
+    /// count by 32 bits: so that many or more get `NoMemory` whatever memory there is.
     pub fn reserve(&mut self, alloc: Global, runs: u32) -> Result<(), NoMemory>
         ensures ok { OnOk result (self.new ≡ record self.old { room = max self.old.room runs }) }
         ensures err { OnErr result (self.new ≡ self.old) }
@@ -491,6 +497,15 @@ impl<S: Scheduler> Region<S> {
             return Ok(());
         }
         self.make_room(alloc, runs)
+    }
+
+    // Makes room for one execution more, that of this id.
+    fn make_room_for(&mut self, alloc: Global, id: TxnId) -> Result<(), NoMemory>
+        ensures ok { OnOk result (self.new ≡ record self.old { room = self.old.room + 1 }) }
+        ensures err { OnErr result (self.new ≡ self.old) }
+    {
+        self.prepare(alloc, id)?;
+        self.make_room(alloc, self.room + 1)
     }
 
     // Makes room for n executions, which are more than there is room for.
@@ -528,7 +543,7 @@ impl<S: Scheduler> Region<S> {
         let region = self.number;
         self.room -= 1;
         self.table.apply(effect);
-        note_outcome(&mut self.done, id, outcome);
+        self.done.add(id, outcome);
         self.scheduler.finish(id);
         self.events.keep(stamp, Event::Execute { region, id });
     }

@@ -16,12 +16,13 @@ use Rattle.dt_workload.specs.declared.Workload.{Workload}
 use Rattle.dt_session.specs.World.{World, node_at, opening_world, asked_of, log_of}
 use Rattle.dt_session.specs.Step.{IsLegal, next}
 use Rattle.dt_session.specs.Run.{AreLegal, AreLegalFrom, world_after, world_from}
-use Rattle.dt_agreement.proofs.Callers.{legal_append, legal_keeps, world_from_append, next_keeps, ordered}
+use Rattle.dt_agreement.proofs.Callers.{legal_append, world_from_append, next_keeps, ordered}
 use Rattle.dt_merge.specs.Merge.{AreLater, IsFed, region_at}
 use Rattle.dt_merge.specs.Own.{HaveGrown, IsSupplied, source_of}
 use Rattle.dt_merge.specs.WorldRegions.{HasInvariant}
 use Rattle.dt_node.specs.Packets.{IsToldOf, IsTruePacket}
 use Rattle.dt_node.specs.Turn.{BringsEntries, BringsRequest, IsBroughtBy}
+use Rattle.dt_merge.proofs.Callers.{opening_good}
 use Rattle.dt_run.proofs.Laws.{grown_refl, grown_trans, legal_grows, supply_lasts, two_fronts}
 
 -- worlds grow by any legal events
@@ -34,11 +35,8 @@ module _ {cluster : Cluster} (ok : IsValidCluster cluster) {workload : Workload}
       let rest = worlds_grow events (next cluster workload w e) then legal.1 in
       (rest.0, λ q. grown_trans (node_at w q) (node_at (next cluster workload w e) q) _ (legal_grows cluster workload w e good legal.0 q) (rest.1 q))
 
-  opening : HasInvariant cluster workload (opening_world cluster workload)
-  opening = record { order = []; inv = legal_keeps cluster ok workload fits [] tt }
-
   pub good_after : (items : List Stamped) → AreLegal cluster workload (events_of items) → HasInvariant cluster workload (world_after cluster workload (events_of items))
-  good_after items legal = (worlds_grow (events_of items) (opening_world cluster workload) opening legal).0
+  good_after items legal = (worlds_grow (events_of items) (opening_world cluster workload) (opening_good ok fits) legal).0
 
   -- what an event of a longer list takes is there, if it is wherever the shorter one is cut
   module _ (all more : List Stamped) (legal : AreLegal cluster workload (events_of (all ++ more))) (x : Stamped) (there : Has (all ++ more) x) (q : ℕ) (from : source_of x.event ≡ Some q)

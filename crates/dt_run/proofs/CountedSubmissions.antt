@@ -27,6 +27,7 @@ use Rattle.dt_agreement.proofs.Callers.{Submits, append_cases, legal_more, submi
 use Rattle.dt_merge.specs.Merge.{region_at, those_at}
 use Rattle.dt_merge.specs.Own.{Own, own}
 use Rattle.dt_merge.specs.WorldRegions.{HasInvariant}
+use Rattle.dt_merge.proofs.Callers.{node_there}
 use Rattle.dt_run.proofs.ChronicleGrows.{good_after}
 use Rattle.dt_run.specs.Marks.{places, placings_in, submissions_in, submits as is_submission}
 use Rattle.dt_run.proofs.Laws.{attempt_of_own, frame, own_answered, own_appended, own_delivered, own_moved, own_submitted}
@@ -49,7 +50,7 @@ still e n m s p x y = record {
 
 module _ {cluster : Cluster} (ok : IsValidCluster cluster) (workload : Workload) (w : World) (g : HasInvariant cluster workload w) (region : ℕ) (lr : region < cluster.regions) where
   room : region < length w.nodes
-  room = subst (λ m. region < m) (sym g.inv.nodes) lr
+  room = node_there g region lr
 
   by_own : (e : Event) (v : World) (o : Own) → own workload v region ≡ o → Counts e (node_at w region) o.node → Counts e (node_at w region) (node_at v region)
   by_own e v o is c = subst (λ (p : Own). Counts e (node_at w region) p.node) (sym is) c

@@ -1,6 +1,6 @@
 -- Phases, one after another, keep what was kept.
-use Rattle.std.proofs.Common.{◌≡◌, ◌<◌, refl, sym, subst, ◌∙◌}
-use Rattle.dt_lists.proofs.Callers.{front_refl, front_trans}
+use Rattle.std.proofs.Common.{◌≡◌, ◌<◌, sym, subst, ◌∙◌}
+use Rattle.dt_lists.proofs.Callers.{front_trans}
 use Rattle.dt_node.specs.NodeView.{new_items}
 use Rattle.dt_run.specs.Marks.{kept_by_region}
 use Rattle.dt_run.specs.NodesView.{NodesView, node_in}

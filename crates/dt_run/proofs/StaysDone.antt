@@ -33,6 +33,7 @@ use Rattle.dt_session.specs.World.{opening_world}
 use Rattle.dt_site.specs.SessionsStandIn.{SessionsStandIn, seat_in}
 use Rattle.dt_site.specs.Site.{attempts, node_of}
 use Rattle.dt_site.specs.declared.Origin.{Origin}
+use Rattle.dt_merge.proofs.Callers.{node_there}
 use Rattle.dt_node.specs.NodeView.{NodeView, new_items, number_of}
 use Rattle.dt_node.specs.Standing.{AreTold, NodeFits}
 use Rattle.dt_run.specs.Done.{IsAllDone}
@@ -89,7 +90,7 @@ module _ {cluster : Cluster} (ok : IsValidCluster cluster) {workload : Workload}
         by : (q : ℕ) → Either (q ≡ region) → IsFront (node_at w q).here.done (node_at (with_node w region n) q).here.done
         by q (inl is) =
             subst (λ p. IsFront (node_at w p).here.done (node_at (with_node w region n) p).here.done) (sym is)
-            (subst (λ (x : Node). IsFront (node_at w region).here.done x.here.done) (sym (get_or-set_same w.nodes region n no_node (subst (λ m. region < m) (sym good.inv.nodes) lr))) front)
+            (subst (λ (x : Node). IsFront (node_at w region).here.done x.here.done) (sym (get_or-set_same w.nodes region n no_node (node_there good region lr))) front)
         by q (inr n') =
             subst (λ (x : Node). IsFront (node_at w q).here.done x.here.done) (sym (get_or-set_other w.nodes region q n no_node n')) (front_refl (node_at w q).here.done)
 

@@ -1,12 +1,13 @@
 -- The sessions of a region that stand in a world: what they allow is what the rules allow there, and after each event they
 -- stand in the next world, the one that it is about changed and all others as they were.
-use Rattle.std.proofs.Common.{◌≡◌, ◌≢◌, ◌⊎◌, ◌<◌, ◌+◌, ℕ, Bool, true, false, cond, eq-eqb, List, [], ◌∷◌, length, map, get_or, Some, None, refl, sym, ap, ap₂, subst, ◌∙◌, inl, inr, arith}
+use Rattle.std.proofs.Common.{◌≡◌, ◌≢◌, ◌⊎◌, ◌<◌, ◌+◌, ℕ, Bool, true, false, cond, eq-eqb, List, [], ◌∷◌, length, map, get_or, slice_get, Some, None, refl, sym, ap, ap₂, subst, ◌∙◌, inl, inr, arith}
 use Rattle.std.specs.Prelude.{Option, IsSome, option_map, option_and_then, unwrap_or}
 use Rattle.std.specs.Cmp.Lexicographic.{bytes_decides, texts_ties}
 use Rattle.std.proofs.lemmas.Bool.{cases_Bool, false_from_ne_true}
 use Rattle.std.proofs.lemmas.Cmp.{eq_by_cmp_equiv, nat_list_cmp_total}
+use Rattle.std.proofs.lemmas.List.{length-map}
 use Rattle.std.proofs.lemmas.Map.{lookup-set_value}
-use Rattle.std.proofs.lemmas.Option.{some_pair_parts}
+use Rattle.std.proofs.lemmas.Option.{slice_get_within, some_pair_parts}
 use Rattle.dt_lists.specs.Lists.{Distinct, Has}
 use Rattle.dt_lists.proofs.Callers.{all_get, has_map}
 use Rattle.dt_access.specs.Clash.{Bytes}
@@ -48,6 +49,17 @@ last_in w region waits = option_and_then (outcome_at w region) waits
 -- what a seat waits for, if it is there
 abbrev awaited_id : Option Seat → Option TxnId
 awaited_id o = option_and_then (λ (seat : Seat). option_map (λ (x : Waiting). x.id) seat.waits) o
+
+-- where the session at a place waits for an attempt, one stands there
+pub waits_there : (s : SessionsView) (index : ℕ) (id : TxnId) → option_and_then (waits_of s) (slice_get (map (λ p. p.0) s.seats) index) ≡ Some id → index < length s.seats
+waits_there s index id waits = go (slice_get names index) refl waits
+  where
+    names : List Bytes
+    names = map (λ p. p.0) s.seats
+
+    go : (name : Option Bytes) → slice_get names index ≡ name → option_and_then (waits_of s) name ≡ Some id → index < length s.seats
+    go None at waits = cc
+    go (Some name) at waits = subst (λ n. index < n) (length-map s.seats (λ p. p.0)) (slice_get_within names index name at)
 
 -- what is allowed
 

@@ -1,8 +1,8 @@
 //! The outcome at a region of the attempt that a session waits for, where the session is given by its name, or by its place.
-ghost use Rattle.std.specs.Prelude.{◌≡◌, option_and_then};
+ghost use Rattle.std.specs.Prelude.{◌≡◌, ◌<◌, length, option_and_then, IsSome};
 ghost use Rattle.std.specs.Option.{option_copied};
-ghost use Rattle.dt_region.specs.Region.{outcome_of};
 ghost use Rattle.dt_access.specs.Clash.{Bytes};
+ghost use Rattle.dt_region.specs.Region.{outcome_of};
 ghost use Rattle.dt_session.specs.Sessions.{StandsAt, waits_of};
 
 use dt_region::Region;
@@ -29,7 +29,8 @@ pub fn last_outcome_at<'a, S: Scheduler>(
     region: &'a Region<S>,
     index: u32,
 ) -> Option<&'a Outcome>
-    ensures { (name : Bytes) → StandsAt sessions.now index name → option_copied result ≡ option_and_then (outcome_of region.now.state) (waits_of sessions.now name) }
+    ensures outcome { (name : Bytes) → StandsAt sessions.now index name → option_copied result ≡ option_and_then (outcome_of region.now.state) (waits_of sessions.now name) }
+    ensures there { IsSome result → index < length sessions.now.seats }
 {
     region.outcome(sessions.waits_at(index)?)
 }

@@ -89,13 +89,6 @@ agrees_held s id txn sound homes e =
       own = λ own. own_there s.submitted s.foreign s.number id txn sound.foreign (ap (λ (i : TxnId). i.region) (sym is) ∙ own) e;
     }
 
-pub agrees_new : (s : RegionState) (id : TxnId) (txn : Txn) → HasHomesIn s.regions txn → id.region ≢ s.number → txn.id ≡ id → held s id ≡ None → Agrees s txn
-agrees_new s id txn homes other is e = record {
-  homes = homes;
-  same = λ x f. absurd (none-some x (sym e ∙ ap (held s) (sym is) ∙ f));
-  own = λ own. absurd (other (ap (λ (i : TxnId). i.region) (sym is) ∙ own));
-}
-
 module _ (s : RegionState) (home place : ℕ) (part : Part) (txn : Txn) (there : home < length s.logs) (at : place ≡ length (log_at s.logs home)) where
   abbrev log : List Part
   log = log_at s.logs home

@@ -1,5 +1,5 @@
 -- What a region of a few events does by itself: it submits a call, and places a part in its own log.
-use Rattle.std.proofs.Common.{◌≡◌, ◌⊎◌, ◌<◌, ◌+◌, ℕ, true, false, cond, List, [], ◌∷◌, ◌++◌, length, Some, sym, ap, subst, inl, inr, arith}
+use Rattle.std.proofs.Common.{◌≡◌, ◌⊎◌, ◌<◌, ◌+◌, ℕ, true, false, cond, List, [], ◌∷◌, ◌++◌, length, Some, sym, subst, inl, inr, arith}
 use Rattle.std.proofs.lemmas.List.{length-append}
 use Rattle.std.proofs.lemmas.List.Sums.{sum_by-set}
 use Rattle.std.proofs.lemmas.Option.{same_Some}
@@ -18,7 +18,7 @@ use Rattle.dt_txn.specs.Transaction.{BodyFits, IsValid, homes_of, part_of, uses_
 use Rattle.dt_txn.proofs.Callers.{annotated_uses}
 use Rattle.dt_region.specs.Conditions.{Agrees, CanAppend, HasHomesIn}
 use Rattle.dt_lists.specs.Lists.{Has}
-use Rattle.dt_region.specs.Region.{RegionState, RegionView, find_txn, held}
+use Rattle.dt_region.specs.Region.{RegionState, RegionView, find_txn}
 use Rattle.dt_region.specs.Rules.{after_append, after_submit, txn_for, with_event, with_submission}
 use Rattle.dt_region.specs.Sound.{IsSoundRegion}
 use Rattle.dt_region.proofs.Callers.{latest_more}

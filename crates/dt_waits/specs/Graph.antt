@@ -1,8 +1,8 @@
 -- What the scheduler with queues keeps: of each transaction that has a part a vertex, which is a number; of those that are
--- left in the graph the entries that wait, and how many neighbours these have; of those that are complete, which are ready,
--- as they may be executed, and which are stuck; and of each resolved class its vertices, in the order in which they run.
--- That all of it is right at each moment is `KeepsGraph`; that the answers read off it are right is in proofs/KeepsGraph.antt, and of
--- classes in proofs/Classes.antt.
+-- left in the graph the entries that wait, and how many neighbours these have; of those that are complete, which are ready, as
+-- they may be executed, and which are stuck; and of each resolved class its vertices, in the order in which they run. That all
+-- of it is right at each moment is `KeepsGraph`; that the answers read off it are right is in proofs/KeepsGraph.antt, and of
+-- classes in proofs/Classes.antt. Read next: `Steps`, for what the calls make of it.
 use Rattle.std.specs.Prelude.{◌≡◌, ◌≤◌, ◌<◌, ◌↔◌, ℕ, Bool, not, List, [], length, map, get_or, slice_get, take, drop, Option, None, Some}
 use Rattle.std.specs.List.{filter, list_any}
 use Rattle.dt_lists.specs.Lists.{AnyIn, AllIn, Has, EachThen, Distinct, Pairwise}

@@ -1,7 +1,7 @@
--- How the waiting entries of the queues stand to a view: each use of a row by a part of a left transaction waits, at the
--- home of the part, and the entries of a home stand in the order of its log. The vertex of an entry is a number; a list of
--- ids says of which transaction. What waits for what by the queues alone is `HoldsUp`; that chains of it are the reach of
--- the view is in proofs/HoldsUp.antt.
+-- How the waiting entries of the queues stand to a view: each use of a row by a part of a left transaction waits, at the home
+-- of the part, and the entries of a home stand in the order of its log. The vertex of an entry is a number; a list of ids says
+-- of which transaction. What waits for what by the queues alone is `HoldsUp`; that chains of it are the reach of the view is
+-- in proofs/HoldsUp.antt. Read next: `Graph`, for what is kept of it.
 use Rattle.std.specs.Prelude.{◌≡◌, ◌≢◌, ◌<◌, ℕ, Bool, ◌==◌, not, if◌then◌else◌, List, length, map, get_or, sum_by}
 use Rattle.std.specs.List.{filter, list_any}
 use Rattle.dt_lists.specs.Lists.{AnyIn, AllIn, EachThen, Has}

@@ -1,27 +1,29 @@
-use Rattle.std.proofs.Common.{◌<◌, ◌+◌, ◌^◌, ◌++◌, ◌∷◌, [], length, ap, sym, subst, ◌∙◌}
-use Rattle.std.proofs.lemmas.List.{length-append}
-use Rattle.indexmap.specs.IndexSet.{spare}
+use Rattle.std.proofs.Common.{◌≡◌, ◌<◌, ◌+◌, ◌^◌, length, cond, Some, ap, sym, subst, arith, ◌∙◌}
+use Rattle.indexmap.specs.IndexMap.{get}
 use Rattle.dt_lists.specs.Lists.{Has}
-use Rattle.dt_lists.proofs.Callers.{distinct_push}
 use Rattle.dt_access.specs.Ids.{same_id}
-use Rattle.dt_queue.proofs.Callers.{settled}
-use Rattle.dt_graph.proofs.Search.{added_new, tells_id}
+use Rattle.dt_graph.specs.Names.{PutsNumber}
+use Rattle.dt_graph.proofs.NumbersOfIds.{numbered_far, numbered_near}
 use Rattle.dt_graph.proofs.names.Names.add.Goals as goal
 
 pub invariant_of-self : goal.invariant_of-self
 invariant_of-self c =
-    let ids = c.self.inside.ids.keys in
-    let fresh : ¬ (Has ids c.args.id) = λ h. c.requires.fresh (subst (λ l. Has l c.args.id) (ap (λ n. n.ids) c.self.view_is) h) in
-    let room : 0 < spare c.self.inside.ids = subst (λ n. 0 < n) (sym (ap (λ n. n.spare) c.self.view_is)) c.requires.room in
-    let keys = settled c.insert.result (c.insert.ensures.succeeds room) c.insert.ensures.keys ∙ added_new same_id tells_id c.args.id ids fresh in
-    rw keys (
-      subst (λ n. n < 2 ^ 32) (sym (length-append ids (c.args.id ∷ []) ∙ ap (λ n. length n.ids + 1) c.self.view_is)) c.requires.few,
-      distinct_push ids c.args.id c.self.invariant.1 fresh,
-    )
+    let n = c.self.inside in
+    let ids = n.ids.items in
+    let fresh : ¬ (Has ids c.args.id) = λ h. c.requires.fresh (subst (λ l. Has l c.args.id) (ap (λ v. v.ids) c.self.view_is) h) in
+    let few : length ids + 1 < 2 ^ 32 = subst (λ m. m + 1 < 2 ^ 32) (sym (ap (λ v. length v.ids) c.self.view_is)) c.requires.few in
+    let number : c.len-number.result ≡ length ids = omega (arith, c.len-number.ensures, n.ids.ok.0) in
+    rw c.push_reserved.ensures.added
+    (numbered_far ids n.near.items (get same_id n.far) c.self.invariant c.args.id fresh few c.put.new.near.items (c.put.ensures.same c.if-not-put.true) (get same_id c.put_far.new.far)
+    (λ q. c.put_far.ensures.0 q ∙ ap (λ i. cond (same_id c.args.id q) (Some i) (get same_id n.far q)) number))
 
-pub returns : goal.returns
-returns c =
-    let ids = c.self.inside.ids.keys in
-    let fresh : ¬ (Has ids c.args.id) = λ h. c.requires.fresh (subst (λ l. Has l c.args.id) (ap (λ n. n.ids) c.self.view_is) h) in
-    let room : 0 < spare c.self.inside.ids = subst (λ n. 0 < n) (sym (ap (λ n. n.spare) c.self.view_is)) c.requires.room in
-    settled c.insert.result (c.insert.ensures.succeeds room) c.insert.ensures.keys ∙ added_new same_id tells_id c.args.id ids fresh ∙ ap (λ n. n.ids ++ c.args.id ∷ []) c.self.view_is
+pub invariant_of-self-else-not-put : goal.invariant_of-self-else-not-put
+invariant_of-self-else-not-put c =
+    let n = c.self.inside in
+    let ids = n.ids.items in
+    let fresh : ¬ (Has ids c.args.id) = λ h. c.requires.fresh (subst (λ l. Has l c.args.id) (ap (λ v. v.ids) c.self.view_is) h) in
+    let few : length ids + 1 < 2 ^ 32 = subst (λ m. m + 1 < 2 ^ 32) (sym (ap (λ v. length v.ids) c.self.view_is)) c.requires.few in
+    let number : c.len-number.result ≡ length ids = omega (arith, c.len-number.ensures, n.ids.ok.0) in
+    rw c.push_reserved.ensures.added
+    (numbered_near ids n.near.items (get same_id n.far) c.self.invariant c.args.id fresh few c.put.new.near.items
+    (subst (λ i. PutsNumber c.args.id i n.near.items c.put.new.near.items) number (c.put.ensures.put c.if-not-put.false)))

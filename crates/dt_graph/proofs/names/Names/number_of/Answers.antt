@@ -1,9 +1,18 @@
+use Rattle.std.proofs.Common.{ap, sym, ◌∙◌}
+use Rattle.indexmap.specs.IndexMap.{get}
 use Rattle.dt_access.specs.Ids.{same_id}
-use Rattle.dt_graph.proofs.Search.{found_at, missed, tells_id}
+use Rattle.dt_graph.specs.Names.{number_at}
+use Rattle.dt_graph.proofs.NumbersOfIds.{number_far, number_near}
 use Rattle.dt_graph.proofs.names.Names.number_of.Goals as goal
 
-pub returns-in_err-number-clause-number : goal.returns-in_err-number-clause-number
-returns-in_err-number-clause-number c = rw (c.from_residual.ensures, ← c.self.view_is) (missed same_id tells_id c.args.id c.self.inside.ids.keys c.in_err-number.ensures.index)
+pub returns-in-Some-clause-number : goal.returns-in-Some-clause-number
+returns-in-Some-clause-number c =
+    let n = c.self.inside in
+    rw (← c.self.view_is)
+    (number_near n.ids.items n.near.items (get same_id n.far) c.self.invariant c.args.id c.in-Some.number (ap (λ l. number_at l c.args.id) (sym c.as_slice.ensures.value) ∙ sym c.number_at.ensures ∙ c.in-Some.is))
 
-pub returns-clause-number : goal.returns-clause-number
-returns-clause-number c = rw (← c.self.view_is) (found_at same_id tells_id c.args.id c.self.inside.ids.keys c.in_ok-number.number c.in_ok-number.ensures.index)
+pub returns-in-None-clause-number : goal.returns-in-None-clause-number
+returns-in-None-clause-number c =
+    let n = c.self.inside in
+    rw (← c.self.view_is, c.copied.ensures ∙ c.get.ensures.value)
+    (number_far n.ids.items n.near.items (get same_id n.far) c.self.invariant c.args.id (ap (λ l. number_at l c.args.id) (sym c.as_slice.ensures.value) ∙ sym c.number_at.ensures ∙ c.in-None.is))

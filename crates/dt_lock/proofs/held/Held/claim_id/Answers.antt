@@ -47,7 +47,7 @@ invariant_of-self-2 g c =
     let same = ap length c.in_ok-reserve.ensures.items in
     let runs : c.len.result + 1 ≡ length c.self.inside.running.items + 1 = omega (arith, counted, stored, same) in
     claim_noted g.N.Named.procs g.N.Named.before _ c.self.invariant c.args.id c.in_ok-txn.txn c.in_ok-txn.seen can free c.in_ok-txn.ensures.held sees c.reserve-2.new.self c.note.new.running.items
-    (c.in_ok-reserve-2.ensures.ok ∙ ap (λ n. record c.self.inside.region { room = max c.self.inside.region.room n }) runs)
+    (c.in_ok-reserve-2.ensures.ok ∙ ap₂ (λ r n. record r { room = max r.room n }) c.prepare.ensures runs)
     (c.note.ensures ∙ ap₂ (λ l s. l ++ record { id = c.args.id; seen = s } ∷ []) c.in_ok-reserve.ensures.items c.in_ok-noted.ensures)
 
 pub returns-clause-ok : goal.returns-clause-ok
@@ -60,7 +60,7 @@ returns-clause-ok g c =
     let same = ap length c.in_ok-reserve.ensures.items in
     let runs : c.len.result + 1 ≡ length c.self.inside.running.items + 1 = omega (arith, counted, stored, same) in
     let claimed = is_claimed g.N.Named.procs g.N.Named.before _ c.self.invariant c.args.id c.in_ok-txn.txn c.in_ok-txn.seen can free c.in_ok-txn.ensures.held sees c.reserve-2.new.self c.note.new.running.items
-    (c.in_ok-reserve-2.ensures.ok ∙ ap (λ n. record c.self.inside.region { room = max c.self.inside.region.room n }) runs)
+    (c.in_ok-reserve-2.ensures.ok ∙ ap₂ (λ r n. record r { room = max r.room n }) c.prepare.ensures runs)
     (c.note.ensures ∙ ap₂ (λ l s. l ++ record { id = c.args.id; seen = s } ∷ []) c.in_ok-reserve.ensures.items c.in_ok-noted.ensures) in
     subst (λ (h : HeldView). IsClaimed h c.new.result (record { region = c.reserve-2.new.self; running = c.note.new.running.items })) c.self.view_is
     (subst (λ k. IsClaimed (record { region = c.self.inside.region; running = c.self.inside.running.items }) k (record { region = c.reserve-2.new.self; running = c.note.new.running.items })) (sym c.new.ensures) claimed)

@@ -15,8 +15,8 @@ returns-clause-moved g c =
     let name = c.in-Some.name.now in
     let stands = sym c.in-Some.ensures.place in
     rw (← c.self.view_is, ← c.self-inside.view_is)
-    (call_moves (opened is) name (c.last_outcome_at-last.ensures name stands) ((c.may_answer_at.ensures.may name stands).0 c.if-not-may_answer_at.false) c.answer.new.self c.in_ok-answer.ensures.makes
-    (c.last_outcome_at-last-2.ensures name stands) c.answer_at.new.self (λ m. c.answer_at.ensures.answered ((c.answer_at.ensures.legal name stands).1 m) name stands))
+    (call_moves (opened is) name (c.last_outcome_at-last.ensures.outcome name stands) ((c.may_answer_at.ensures.may name stands).0 c.if-not-may_answer_at.false) c.answer.new.self c.in_ok-answer.ensures.makes
+    (c.last_outcome_at-last-2.ensures.outcome name stands) c.answer_at.new.self (λ m. c.answer_at.ensures.answered ((c.answer_at.ensures.legal name stands).1 m) name stands))
 
 pub returns-clause-seats : goal.returns-clause-seats
 returns-clause-seats g c =
@@ -24,8 +24,8 @@ returns-clause-seats g c =
     let name = c.in-Some.name.now in
     let stands = sym c.in-Some.ensures.place in
     rw (← c.self.view_is, ← c.self-inside.view_is)
-    (call_seats (opened is) name (c.last_outcome_at-last.ensures name stands) ((c.may_answer_at.ensures.may name stands).0 c.if-not-may_answer_at.false) c.answer.new.self c.in_ok-answer.ensures.makes
-    (c.last_outcome_at-last-2.ensures name stands) c.answer_at.new.self (λ m. c.answer_at.ensures.answered ((c.answer_at.ensures.legal name stands).1 m) name stands))
+    (call_seats (opened is) name (c.last_outcome_at-last.ensures.outcome name stands) ((c.may_answer_at.ensures.may name stands).0 c.if-not-may_answer_at.false) c.answer.new.self c.in_ok-answer.ensures.makes
+    (c.last_outcome_at-last-2.ensures.outcome name stands) c.answer_at.new.self (λ m. c.answer_at.ensures.answered ((c.answer_at.ensures.legal name stands).1 m) name stands))
 
 pub returns-clause-ends : goal.returns-clause-ends
 returns-clause-ends g c =
@@ -33,8 +33,8 @@ returns-clause-ends g c =
     let name = c.in-Some.name.now in
     let stands = sym c.in-Some.ensures.place in
     rw (← c.self.view_is, ← c.self-inside.view_is)
-    (call_on (opened is) name (c.last_outcome_at-last.ensures name stands) ((c.may_answer_at.ensures.may name stands).0 c.if-not-may_answer_at.false) c.answer.new.self c.in_ok-answer.ensures.makes
-    (c.last_outcome_at-last-2.ensures name stands) c.answer_at.new.self (λ m. c.answer_at.ensures.answered ((c.answer_at.ensures.legal name stands).1 m) name stands))
+    (call_on (opened is) name (c.last_outcome_at-last.ensures.outcome name stands) ((c.may_answer_at.ensures.may name stands).0 c.if-not-may_answer_at.false) c.answer.new.self c.in_ok-answer.ensures.makes
+    (c.last_outcome_at-last-2.ensures.outcome name stands) c.answer_at.new.self (λ m. c.answer_at.ensures.answered ((c.answer_at.ensures.legal name stands).1 m) name stands))
 
 pub returns-clause-one : goal.returns-clause-one
 returns-clause-one g c =
@@ -44,6 +44,6 @@ returns-clause-one g c =
     rw (← c.self.view_is, ← c.self-inside.view_is) (
       name,
       stands,
-      call_step (opened is) name (c.last_outcome_at-last.ensures name stands) ((c.may_answer_at.ensures.may name stands).0 c.if-not-may_answer_at.false) c.answer.new.self c.in_ok-answer.ensures.makes
-          (c.last_outcome_at-last-2.ensures name stands) c.answer_at.new.self (λ m. c.answer_at.ensures.answered ((c.answer_at.ensures.legal name stands).1 m) name stands),
+      call_step (opened is) name (c.last_outcome_at-last.ensures.outcome name stands) ((c.may_answer_at.ensures.may name stands).0 c.if-not-may_answer_at.false) c.answer.new.self c.in_ok-answer.ensures.makes
+          (c.last_outcome_at-last-2.ensures.outcome name stands) c.answer_at.new.self (λ m. c.answer_at.ensures.answered ((c.answer_at.ensures.legal name stands).1 m) name stands),
     )

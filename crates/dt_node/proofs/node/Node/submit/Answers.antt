@@ -25,7 +25,8 @@ wait_at-requires g c =
     let t = rw (← c.self.view_is) at c.requires.next in
     let e = c.self-inside.view_is in
     let place = subst (λ s. StandsAt s c.args.index c.args.origin.session) (sym (ap (λ x. x.sessions) e)) (rw (← c.self.view_is) at c.requires.place) in
-    (c.args.origin.session, place, waits_next c.args.procs.now t c.in_ok-id.id c.submit.new.self c.in_ok-id.ensures.makes (ap (λ x. x.sessions) e) (ap (λ x. x.site) e) _ (c.last_outcome_at-last.ensures c.args.origin.session place))
+    let last = c.last_outcome_at-last.ensures.outcome c.args.origin.session place in
+    (c.args.origin.session, place, waits_next c.args.procs.now t c.in_ok-id.id c.submit.new.self c.in_ok-id.ensures.makes (ap (λ x. x.sessions) e) (ap (λ x. x.site) e) _ last)
 
 pub returns-clause-moved : goal.returns-clause-moved
 returns-clause-moved g c =

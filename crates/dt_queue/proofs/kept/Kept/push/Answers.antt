@@ -3,15 +3,14 @@ use Rattle.std.proofs.lemmas.Option.{get_or_from_slice_get}
 use Rattle.slab.specs.Slab.{Slab, Updates, get}
 use Rattle.dt_lists.proofs.Callers.{place_within}
 use Rattle.dt_queue.specs.declared.cell.Cell.{Cell}
-use Rattle.dt_queue.specs.declared.in_use.InUse.{InUse}
 use Rattle.dt_queue.specs.declared.kept.Kept.{Kept}
 use Rattle.dt_lists.specs.Lists.{IsFront}
 use Rattle.dt_queue.specs.declared.rows.Rows.{Rows}
-use Rattle.dt_queue.specs.InUse.{UsesRow, rows_at}
+use Rattle.dt_queue.specs.InUse.{InUseView, UsesRow, rows_at}
 use Rattle.dt_queue.specs.Rows.{AreRowsLinked, KeepsRows, granule_at, name_at}
 use Rattle.dt_queue.specs.Kept.{place_at}
 use Rattle.dt_queue.proofs.KeptLanes.{all_before, kept_same, same_lanes, to_err}
-use Rattle.dt_queue.proofs.RowsUsed.{push_steps, rows_same, used_same, uses_as}
+use Rattle.dt_queue.proofs.RowsUsed.{own_granule, push_steps, rows_same, used_same, uses_as}
 use Rattle.dt_queue.proofs.kept.Kept.push.Goals as goal
 
 pub returns-in_err-row-clause-kept : goal.returns-in_err-row-clause-kept
@@ -58,10 +57,14 @@ returns-in_err-add_mark-clause-kept c =
     let longer : KeepsRows k.rows n.rows = subst (KeepsRows k.rows) (sym same.rows) c.in_ok-row.ensures.kept in
     kept_same k n c.requires.kept (subst AreRowsLinked (sym same.rows) c.in_ok-row.ensures.linked) longer
     (λ s. ap (λ (x : Slab Cell). get x s) same.cells ∙ ap (λ (x : Slab Cell). get x s) c.in_ok-reserve-2.ensures.rest_kept) same.number (λ m p. same.lanes m p ∙ same_lanes mid k refl refl refl m p)
-    (rows_same k n c.requires.kept longer (λ g. ap (λ (u : InUse). rows_at u g) same.in_use ∙ c.in_ok-reserve.ensures.same g) (used_same k n (λ m p. same.lanes m p ∙ same_lanes mid k refl refl refl m p)))
+    (rows_same k n c.requires.kept longer (λ g. ap (λ (u : InUseView). rows_at u g) same.in_use ∙ c.in_ok-reserve.ensures.same g) (used_same k n (λ m p. same.lanes m p ∙ same_lanes mid k refl refl refl m p)))
 
 pub add_in_mode-requires : goal.add_in_mode-requires
-add_in_mode-requires c = rw c.in_ok-add_mark.ensures.added.in_use c.in_ok-reserve.ensures.room
+add_in_mode-requires c = record {
+  room = rw c.in_ok-add_mark.ensures.added.in_use c.in_ok-reserve.ensures.room;
+  own = rw (c.in_ok-add_mark.ensures.added.in_use, c.granule_of-granule.ensures)
+      (own_granule c.args.self.now c.requires.kept c.row.new.self c.in_ok-row.ensures.kept c.reserve.new.self c.in_ok-reserve.ensures.same c.in_ok-row.row);
+}
 
 pub returns-in_err-add_mark-clause-rows : goal.returns-in_err-add_mark-clause-rows
 returns-in_err-add_mark-clause-rows c = subst (λ (r : Rows). IsFront c.args.self.now.rows.names.keys r.names.keys) (sym c.in_err-add_mark.ensures.same.rows) c.in_ok-row.ensures.kept.names
@@ -83,7 +86,7 @@ returns-clause-kept c =
     let e = c.insert_reserved.ensures.key ∙ ap (λ (x : Slab Cell). x.vacant_key) added.cells ∙ sym c.vacant_key-slot.ensures.value in
     let within : k.next_number + 1 < 2 ^ 64 = omega (arith, c.requires.left) in
     let uses : UsesRow (granule_at n.rows cell.row) cell.row cell.mode k.in_use n.in_use =
-    uses_as (granule_at n.rows cell.row) c.granule_of-granule.result cell.row cell.mode k.in_use marked.in_use n.in_use (λ g. ap (λ (u : InUse). rows_at u g) added.in_use ∙ c.in_ok-reserve.ensures.same g)
+    uses_as (granule_at n.rows cell.row) c.granule_of-granule.result cell.row cell.mode k.in_use marked.in_use n.in_use (λ g. ap (λ (u : InUseView). rows_at u g) added.in_use ∙ c.in_ok-reserve.ensures.same g)
     (ap (λ (r : Rows). granule_at r cell.row) added.rows ∙ sym c.granule_of-granule.ensures) c.add_in_mode.ensures in
     (push_steps k mid marked n c.vacant_key-slot.result cell c.requires.kept c.in_ok-row.ensures.linked c.in_ok-row.ensures.kept (λ s. ap (λ (x : Slab Cell). get x s) c.in_ok-reserve-2.ensures.rest_kept)
     (λ m p. same_lanes mid k refl refl refl m p) added refl (λ m p. same_lanes n marked refl refl refl m p) (subst (λ s. Updates marked.cells n.cells s (Some cell)) e c.insert_reserved.ensures.updates)

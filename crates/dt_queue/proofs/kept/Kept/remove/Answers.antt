@@ -11,11 +11,6 @@ use Rattle.dt_queue.proofs.kept.Kept.remove.Goals as goal
 pub remove_mark-requires : goal.remove_mark-requires
 remove_mark-requires c = let k = c.args.self.now in omega (arith, c.requires.kept.known c.args.slot c.remove-cell.result c.remove-cell.ensures.value, c.requires.kept.linked.each_row)
 
-pub leave_row-requires : goal.leave_row-requires
-leave_row-requires c =
-    let k = c.args.self.now in
-    rw c.remove_mark.ensures.rows (omega (arith, c.requires.kept.known c.args.slot c.remove-cell.result c.remove-cell.ensures.value, c.requires.kept.linked.each_row))
-
 pub returns : goal.returns
 returns c =
     let k : Kept = c.args.self.now in
@@ -33,7 +28,7 @@ returns c =
     let others = λ (m : Mode) (p : ℕ) (ne : ¬ ((m ≡ x.mode) × (p ≡ place_at k.rows x.mode x.row))). lanes m p ∙ change.others m p ne in
     record {
       kept = kept_removed k n c.args.slot x c.requires.kept rows c.remove-cell.ensures.value updates (ap (λ (y : Kept). y.next_number) same ∙ change.number) changed others
-          (rows_removed k n x.mode x.row x.number c.requires.kept rows changed others (leaves_as k marked n x.row change.rows change.in_use lanes left));
+          (rows_removed k n x.mode x.row x.number c.requires.kept rows changed others (leaves_as k marked n x.row change.in_use lanes left));
       updates = updates;
       rows = rows;
     }

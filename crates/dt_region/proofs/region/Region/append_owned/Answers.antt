@@ -24,7 +24,7 @@ invariant_of-self-2 g c =
     let part_is = c.in_ok-part.ensures ∙ c.in_ok-cut.ensures ∙ ap (λ txn. part_of txn c.self.inside.number) c.get.ensures in
     let turn = c.if-number-taken.false ∙ c.taken.ensures.taken in
     let seen = seen_as c.self.view_is c.self.invariant.well in
-    let kept = append_kept _ _ _ _ _ _ seen c.args.source c.args.number c.args.txn c.requires.source c.requires.can turn c.reserve-2.ensures.same c.keep.ensures.kept in
+    let kept = append_kept _ _ _ _ _ _ seen c.args.source c.args.number c.args.txn c.requires.source c.requires.can turn c.reserve_for.ensures.same c.keep.ensures.kept in
     record {
       well = append_keeps _ _ _ _ _ _ seen c.args.source c.args.number c.args.txn c.requires.source c.requires.can turn _ _ kept (c.in_ok-place.ensures.ok ∙ ap (with_part c.self.inside.logs.items) part_is);
       stock = stock_kept c.self.invariant.stock c.in_ok-reserve.ensures.room c.keep-2.ensures.spare (omega arith);
@@ -35,7 +35,7 @@ returns-clause-makes g c =
     let part_is = c.in_ok-part.ensures ∙ c.in_ok-cut.ensures ∙ ap (λ txn. part_of txn c.self.inside.number) c.get.ensures in
     let turn = c.if-number-taken.false ∙ c.taken.ensures.taken in
     let seen = seen_as c.self.view_is c.self.invariant.well in
-    let kept = append_kept _ _ _ _ _ _ seen c.args.source c.args.number c.args.txn c.requires.source c.requires.can turn c.reserve-2.ensures.same c.keep.ensures.kept in
+    let kept = append_kept _ _ _ _ _ _ seen c.args.source c.args.number c.args.txn c.requires.source c.requires.can turn c.reserve_for.ensures.same c.keep.ensures.kept in
     append_made _ _ _ _ _ _ seen c.args.source c.args.number c.args.txn c.requires.source c.requires.can turn _ _ kept (c.in_ok-place.ensures.ok ∙ ap (with_part c.self.inside.logs.items) part_is)
     _ c.next_stamp-stamp.ensures _ (c.keep-2.ensures.kept ∙ ap (λ es. es ++ under c.next_stamp-stamp.result (Append c.self.inside.number c.args.source c.args.number) ∷ []) c.reserve.ensures.same)
 

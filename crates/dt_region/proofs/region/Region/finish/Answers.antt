@@ -36,17 +36,17 @@ invariant_of-self g c =
     let few : places_for c.args.effect ≤ 17 = execute_few run.procs _ _ _ _ _ _ seen run.comes.holds c.args.id can c.args.outcome c.args.effect run.comes.values in
     let room : 1 ≤ c.self.inside.room = subst (λ n. 1 ≤ n) (sym (ap (λ (x : RegionView). x.room) c.self.view_is)) c.requires.room in
     record {
-      well = execute_keeps run.procs _ _ _ _ _ _ seen run.comes.holds c.args.id can c.args.outcome c.args.effect run.comes.values (g.S.Scheduler.seen c.finish.new.self) c.note_outcome.new.done.entries c.apply.new.self.state
-          c.finish.ensures.done c.note_outcome.ensures.noted c.apply.ensures.state;
-      stock = stock_spent c.self.invariant.stock room c.keep.ensures.spare c.note_outcome.ensures.room c.apply.ensures.spare few c.finish.ensures.spare;
+      well = execute_keeps run.procs _ _ _ _ _ _ seen run.comes.holds c.args.id can c.args.outcome c.args.effect run.comes.values (g.S.Scheduler.seen c.finish.new.self) c.add.new.self.entries c.apply.new.self.state
+          c.finish.ensures.done c.add.ensures.added c.apply.ensures.state;
+      stock = stock_spent c.self.invariant.stock room c.keep.ensures.spare c.add.ensures.room c.apply.ensures.spare few c.finish.ensures.spare;
     }
 
 pub returns-clause-makes : goal.returns-clause-makes
 returns-clause-makes g c procs comes =
     let seen = seen_as c.self.view_is c.self.invariant.well in
     let can = can_seen seen c.args.id c.requires.executable in
-    finish_made procs _ _ _ _ _ _ seen comes.holds c.args.id can c.args.outcome c.args.effect comes.values (g.S.Scheduler.seen c.finish.new.self) c.note_outcome.new.done.entries c.apply.new.self.state
-    c.finish.ensures.done c.note_outcome.ensures.noted c.apply.ensures.state c.next_stamp-stamp.result c.next_stamp-stamp.ensures c.keep.new.self.events c.keep.ensures.kept
+    finish_made procs _ _ _ _ _ _ seen comes.holds c.args.id can c.args.outcome c.args.effect comes.values (g.S.Scheduler.seen c.finish.new.self) c.add.new.self.entries c.apply.new.self.state
+    c.finish.ensures.done c.add.ensures.added c.apply.ensures.state c.next_stamp-stamp.result c.next_stamp-stamp.ensures c.keep.new.self.events c.keep.ensures.kept
 
 pub returns-clause-sound : goal.returns-clause-sound
 returns-clause-sound g c = (invariant_of-self g c).well.0

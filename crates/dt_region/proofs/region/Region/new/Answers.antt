@@ -11,7 +11,7 @@ invariant_of-result-2 g c =
           c.in_ok-no_parts.field-0.items c.in_ok-no_counts-2.field-0.items c.new-3.result.entries k.state) (g.S.Scheduler.seen c.in_ok-empty.field-0)) (sym c.table.view_is)
           (opening_keeps c.args.number c.args.regions c.args.table.state c.requires.number c.requires.regions c.requires.table (g.S.Scheduler.seen c.in_ok-empty.field-0) c.in_ok-empty.ensures
           c.new.result.items c.new-2.result.txns c.in_ok-no_ids.field-0.items c.in_ok-no_counts.field-0.items c.in_ok-no_parts.field-0.items c.in_ok-no_counts-2.field-0.items c.new-3.result.entries
-          c.new.ensures.items c.new-2.ensures c.in_ok-no_ids.ensures c.in_ok-no_counts.ensures c.in_ok-no_parts.ensures c.in_ok-no_counts-2.ensures c.new-3.ensures.empty);
+          c.new.ensures.items c.new-2.ensures c.in_ok-no_ids.ensures c.in_ok-no_counts.ensures c.in_ok-no_parts.ensures c.in_ok-no_counts-2.ensures c.new-3.ensures);
       stock = stock_none;
     }
 
