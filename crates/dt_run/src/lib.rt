@@ -29,7 +29,6 @@ mod nodes;
 mod seat;
 mod sites;
 mod to_end;
-mod turns;
 
 pub use counts::Counts;
 pub use end_laws::{

@@ -22,12 +22,12 @@ use crate::links::{beside_all, link_all};
 use crate::merge::merged;
 use crate::seat::Seat;
 use crate::sites::sites_of;
-use crate::turns::turn_with;
 use dt_cluster::Cluster;
 use dt_events::Event;
-use dt_lock::Gate;
+use dt_lock::{By, Gate, round};
 use dt_node::Node;
-use dt_pool::{Helper, Named};
+use dt_proc::Procs;
+use dt_region::Region;
 use dt_report::Report;
 use dt_sched::Scheduler;
 use dt_site::opening_of;
@@ -37,8 +37,9 @@ use dt_text::NoMemory;
 use dt_workload::Workload;
 use dt_world::{report_of_sites, text_of_sites};
 use std::alloc::Global;
-use std::marker::{Brand, Model};
-use std::sync::{Arc, Wait};
+use std::marker::Model;
+use std::sync::Wait;
+use std::thread;
 use std::thread::Threads;
 
 /// All nodes of a cluster, and the links between them, with the cluster and the workload.
@@ -47,7 +48,7 @@ use std::thread::Threads;
 /// many events it had kept after each phase, and as `broken` whether a phase has run out of memory.
 #[derive(Drop)]
 pub struct Nodes<S: Scheduler + Drop> {
-    cluster: Arc<Cluster>,
+    cluster: Cluster,
     workload: Workload,
     /// The seat of each region's node, by its number.
     seats: Vec<Seat<S>>,
@@ -93,25 +94,13 @@ impl<S: Scheduler + Drop> Nodes<S> {
         let mut seats = seats(alloc, &cluster, &workload)?;
         link_all(alloc, seats.as_mut_slice())?;
         Ok(Nodes {
-            cluster: Arc::new(alloc, cluster)?,
+            cluster,
             workload,
             seats,
             broken: false,
             counts: Counts::none(),
             grown: 0,
         })
-    }
-
-    /// The cluster, to be had in common with these nodes. Takes no memory.
-    pub(crate) fn cluster(&self) -> &Arc<Cluster>
-        ensures { result.now.value ≡ self.now.cluster }
-    {
-        &self.cluster
-    }
-
-    /// For how many helpers there is a turn in each phase, beside that of the caller. Takes no memory.
-    pub(crate) fn helpers(&self) -> usize {
-        self.seats.len().saturating_sub(1)
     }
 
     /// How many phases were made, how many events all regions have kept, and how many silent phases were made since the last
@@ -143,7 +132,7 @@ impl<S: Scheduler + Drop> Nodes<S> {
         let sites = sites_of(alloc, self.seats.as_slice())?;
         report_of_sites(
             alloc,
-            &*self.cluster,
+            &self.cluster,
             &self.workload,
             sites.as_slice(),
             events,
@@ -168,7 +157,7 @@ impl<S: Scheduler + Drop> Nodes<S> {
         let sites = sites_of(alloc, seats.as_slice())?;
         text_of_sites(
             alloc,
-            taken_out(alloc, cluster)?,
+            cluster,
             workload,
             sites.as_slice(),
             merged.as_slice(),
@@ -217,36 +206,15 @@ impl<S: Scheduler + Drop + Send> Nodes<S> {
         ensures broken { OnErr result (self.new.broken ≡ true) }
         ensures nodes { AreNodes self.new }
     {
-        self.phase_with::<R, G, Brand>(rt, alloc, gate, &mut [])
-    }
-
-    /// The same phase, in which helpers that there are make as many of the turns; without any it starts threads of its own.
-    pub(crate) fn phase_with<R: Threads + Wait + Sync, G: Gate, N: Named<Seat<S>>>(
-        &mut self,
-        rt: &R,
-        alloc: Global,
-        gate: &G,
-        helpers: &mut [Helper<Seat<S>, N>],
-    ) -> Result<(), NoMemory>
-        requires sound { self.old.broken ≡ false }
-        requires turns { AskForTurns self.old.cluster.procs N.can N.goes }
-        ensures phase { IsPhase self.old self.new }
-        ensures in_step { OnOk result (EndsInStep self.old self.new) }
-        ensures counted { OnOk result (PhaseIsCounted self.old self.new) }
-        ensures ends { OnOk result (ComesToAnEnd self.new) }
-        ensures broken { OnErr result (self.new.broken ≡ true) }
-        ensures nodes { AreNodes self.new }
-    {
         let threads = threads_for(self.grown);
-        turn_with(
+        turn_all(
             rt,
             alloc,
-            &mut self.seats,
+            self.seats.as_mut_slice(),
             &self.cluster.procs,
             self.cluster.workers,
             gate,
             threads,
-            helpers,
         );
         if some_failed(self.seats.as_slice()) {
             self.broken = true;
@@ -271,14 +239,53 @@ fn threads_for(events: u64) -> usize
     if events < MANY { 2 } else { 8 }
 }
 
-/// A cluster that nothing else holds any more, or a copy of it.
-fn taken_out(alloc: Global, cluster: Arc<Cluster>) -> Result<Cluster, NoMemory>
-    ensures { IfOk result (λ taken. taken ≡ cluster.value) }
+/// One turn at every seat, in n threads where they can be made.
+fn turn_all<S: Scheduler + Drop + Send, R: Threads + Wait + Sync, G: Gate>(
+    rt: &R,
+    alloc: Global,
+    seats: &mut [Seat<S>],
+    procs: &Procs,
+    workers: u32,
+    gate: &G,
+    threads: usize,
+)
+    requires threads { 0 < threads }
+    requires can { All (SeatCan procs.now) seats.old }
+    ensures { EachGoes procs.now seats.old seats.new }
 {
-    match Arc::try_unwrap(cluster) {
-        Ok(cluster) => Ok(cluster),
-        Err(shared) => shared.copy(alloc),
-    }
+    thread::for_each_mut(
+        rt,
+        seats,
+        threads,
+        &|_, seat: &mut Seat<S>|
+            requires { SeatCan procs.now seat.now }
+            ensures { SeatGoes procs.entry.now seat.entry.now seat.exit.now }
+        {
+            turn_seat(rt, alloc, seat, procs, workers, gate);
+        },
+    );
+}
+
+/// One turn at a seat, with rounds of n workers.
+fn turn_seat<S: Scheduler + Drop + Send, R: Threads + Wait + Sync, G: Gate>(
+    rt: &R,
+    alloc: Global,
+    seat: &mut Seat<S>,
+    procs: &Procs,
+    workers: u32,
+    gate: &G,
+)
+    requires { SeatCan procs.now seat.old }
+    ensures { SeatGoes procs.now seat.old seat.new }
+{
+    let rounds = By {
+        by: |alloc: Global, region: &mut Region<S>, procs: &Procs| -> Result<(), NoMemory>
+            requires { CanRound procs.now region.now }
+            ensures continues { Continues procs.now region.entry.now region.exit.now }
+            ensures drained { OnOk result (IsDrained region.exit.now.state.logs region.exit.now.state.here) }
+        { round(rt, alloc, region, procs, workers, gate) },
+    };
+    seat.turn(alloc, procs, &rounds);
 }
 
 /// Whether the last turn at some seat failed.
