@@ -1,6 +1,0 @@
-use Rattle.std.proofs.Common.{◌≡◌, false}
-use Rattle.dt_test_nodes.proofs.phases.go_on.Given as goal
-
--- no phase has failed
-abbrev pub invariant-loop-phase : goal.invariant-loop-phase
-invariant-loop-phase g l = l.nodes.broken ≡ false
