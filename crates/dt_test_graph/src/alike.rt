@@ -1,19 +1,18 @@
-//! The scheduler with queues beside the plain one: after each call both answer alike.
-ghost use Rattle.std.specs.Prelude.{◌≡◌, ◌<◌, [], OnOk, replicate};
+//! The scheduler with queues beside the plain one: after each call both answer alike, and what they have to where that is known.
+ghost use Rattle.std.specs.Prelude.{◌≡◌, ◌<◌, ◌↔◌, [], IfOk, IsTrue, replicate};
 ghost use Rattle.dt_access.specs.Ids.{AreAscending};
 
-use crate::queues::key_of;
-use crate::schedulers::{Row, check_fit, empty_logs, part_of, ready};
-use dt_access::{Homes, Keys, Mode, Part, TxnId};
+use crate::calls::{Call, make, ready};
+use dt_access::{Part, TxnId, put_id};
 use dt_graph::QueueSched;
 use dt_plain::PlainSched;
 use dt_sched::Scheduler;
-use dt_text::Listed;
+use dt_text::{Listed, NoMemory};
 use std::alloc::Global;
 use std::test::Fail;
 
 /// A number below a bound, and the seed of the next one.
-fn drawn(seed: &mut u64, bound: u64) -> u64
+pub fn drawn(seed: &mut u64, bound: u64) -> u64
     requires { 0 < bound }
     ensures { result < bound }
 {
@@ -21,118 +20,40 @@ fn drawn(seed: &mut u64, bound: u64) -> u64
     *seed % bound
 }
 
-/// A key and its mode.
-type Use = (&'static [u8], Mode);
+/// A call, and what both answer after it, where that is known.
+pub type Step = (Call, Option<&'static [u8]>);
 
-/// A part with a second key, which counts where it is greater than the first one, and whether its transaction has all three
-/// homes.
-type Wide = (Row<'static>, Use, bool);
-
-const USES: [Use; 12] = [
-    (b"a", Mode::Whole),
-    (b"a", Mode::Read),
-    (b"a/x", Mode::Read),
-    (b"a/x", Mode::Write),
-    (b"a/y", Mode::Write),
-    (b"b", Mode::Whole),
-    (b"b/x", Mode::Write),
-    (b"b/x", Mode::Read),
-    (b"c", Mode::Read),
-    (b"c", Mode::Write),
-    (b"d", Mode::Write),
-    (b"d", Mode::Write),
-];
-
-/// One of the uses.
-fn a_use(seed: &mut u64) -> Use {
-    USES[drawn(seed, 12) as usize]
+/// What is done at schedulers of n regions, the ids that are asked of after each call, and how many choices of them are asked as a class: 4
+/// for all choices of the first two, 32 of the first five.
+pub struct Run<'a> {
+    pub regions: u8,
+    pub steps: &'a [Step],
+    pub ids: &'a [TxnId],
+    pub choices: u32,
 }
 
-/// Adds a part, not far from the end.
-fn add(seed: &mut u64, parts: &mut Vec<Wide>, part: Wide) -> Result<(), Fail> {
-    let behind = drawn(seed, 7) as usize;
-    let count = parts.len();
-    if behind < count {
-        parts.insert(count - behind, part)?;
-    } else {
-        parts.push(part)?;
+/// Adds a word and ids.
+fn put_ids(alloc: Global, out: &mut Vec<u8>, word: &[u8], ids: &[TxnId]) -> Result<(), NoMemory> {
+    out.extend_from_slice(word)?;
+    for id in ids {
+        out.push(b' ')?;
+        put_id(alloc, out, *id)?;
     }
     Ok(())
 }
 
-/// Adds the parts of a transaction, of which each has one or two keys. It has one home, two or all three.
-fn add_all(seed: &mut u64, parts: &mut Vec<Wide>, seq: u32) -> Result<(), Fail> {
-    let (region, rank) = (drawn(seed, 3) as u8, drawn(seed, 3) as u8);
-    let (least, greatest) = (drawn(seed, 3) as u8, drawn(seed, 3) as u8);
-    let all = drawn(seed, 4) == 0;
-    for home in 0..3 {
-        if all || home == least || home == greatest && least < greatest {
-            let (key, mode) = a_use(seed);
-            let row = (seq, region, rank, home, key, mode, least, greatest);
-            let second = a_use(seed);
-            add(seed, parts, (row, second, all))?;
-        }
+/// All that is ready, and the class that may be resolved.
+fn told<S: Scheduler + Drop>(alloc: Global, sched: &S) -> Result<Vec<u8>, Fail> {
+    let mut out = Vec::new(alloc);
+    put_ids(alloc, &mut out, b"ready", ready(alloc, sched)?.as_slice())?;
+    if let Some(class) = sched.next_class(alloc)? {
+        put_ids(alloc, &mut out, b", class", class.as_slice())?;
     }
-    Ok(())
-}
-
-/// The parts of n transactions, in some order.
-fn some_parts(alloc: Global, seed: &mut u64, txns: u32) -> Result<Vec<Wide>, Fail> {
-    let mut parts = Vec::new(alloc);
-    for seq in 0..txns {
-        add_all(seed, &mut parts, seq)?;
-    }
-    Ok(parts)
-}
-
-/// The ids of the parts, in ascending order.
-fn ids_of(alloc: Global, parts: &[Wide]) -> Result<Vec<TxnId>, Fail> {
-    let mut ids = Vec::new(alloc);
-    for (row, _, _) in parts {
-        let (seq, region, _, _, _, _, _, _) = *row;
-        let id = TxnId { seq, region };
-        if !ids.contains(&id) {
-            ids.push(id)?;
-        }
-    }
-    ids.sort()?;
-    Ok(ids)
-}
-
-/// One or two keys: the second one counts where it is greater.
-fn keys_of(alloc: Global, first: Use, second: Use) -> Result<Keys, Fail> {
-    let (key, other) = (key_of(alloc, first.0)?, key_of(alloc, second.0)?);
-    let ascend = key < other;
-    let mut keys = Keys::new(alloc);
-    keys.push((key, first.1))?;
-    if ascend {
-        keys.push((other, second.1))?;
-    }
-    Ok(keys)
-}
-
-/// All three homes.
-fn all_homes(alloc: Global) -> Result<Homes, Fail> {
-    let mut homes = Homes::new(alloc);
-    homes.push(0)?;
-    homes.push(1)?;
-    homes.push(2)?;
-    Ok(homes)
-}
-
-fn wide_part(alloc: Global, wide: &Wide) -> Result<Part, Fail> {
-    let (row, second, all) = *wide;
-    let (_, _, _, _, key, mode, _, _) = row;
-    let mut part = part_of(alloc, &row)?;
-    part.keys = keys_of(alloc, (key, mode), second)?;
-    if all {
-        part.homes = all_homes(alloc)?;
-    }
-    Ok(part)
+    Ok(out)
 }
 
 /// Whether both answer alike, of each id and of those that differ from it in the region, whether it is executable.
-pub fn same_executable(
+fn same_executable(
     alloc: Global,
     plain: &PlainSched,
     queue: &QueueSched,
@@ -165,49 +86,57 @@ fn same_class(alloc: Global, plain: &PlainSched, queue: &QueueSched) -> Result<b
     }
 }
 
-/// Whether both answer alike whether some ids are a class that may be resolved.
-pub fn same_resolvable(
-    alloc: Global,
-    plain: &PlainSched,
-    queue: &QueueSched,
-    ids: &[TxnId],
-) -> Result<bool, Fail>
-    requires { AreAscending ids.now }
-{
-    Ok(plain.resolvable(alloc, ids)? == queue.resolvable(alloc, ids)?)
+/// The ids at the places of the bits that are set in a number.
+fn chosen(alloc: Global, ids: &[TxnId], bits: u64) -> Result<Vec<TxnId>, NoMemory> {
+    let mut some = Vec::new(alloc);
+    let mut left = bits;
+    for id in ids {
+        if left % 2 == 1 {
+            some.push(*id)?;
+        }
+        left /= 2;
+    }
+    Ok(some)
 }
 
-/// The same of the first one, two, three of four ids and of all four, where they ascend: mostly they are no class, but a part
-/// of one, two together, or nothing of the kind.
-fn same_of_some(
+/// Whether the ids stand in ascending order, none of them twice.
+fn are_ascending(ids: &[TxnId]) -> bool
+    ensures { IsTrue result ↔ AreAscending ids.now }
+{
+    let Some((mut last, mut rest)) = ids.split_first() else {
+        return true;
+    };
+    while let Some((next, later)) = rest.split_first() {
+        if !last.before(next) {
+            return false;
+        }
+        last = next;
+        rest = later;
+    }
+    true
+}
+
+/// Whether both answer alike whether some ids are a class that may be resolved: n choices of the first ids, together with a choice of
+/// the others that is drawn. Mostly they are no class, but a part of one, two together, or nothing of the kind.
+fn same_classes(
     alloc: Global,
+    seed: &mut u64,
     plain: &PlainSched,
     queue: &QueueSched,
-    ids: [TxnId; 4],
+    run: &Run,
 ) -> Result<bool, Fail> {
-    let [first, second, third, fourth] = ids;
-    if first.seq < second.seq && second.seq < third.seq && third.seq < fourth.seq {
-        let one = same_resolvable(alloc, plain, queue, &[first])?;
-        let two = same_resolvable(alloc, plain, queue, &[first, second])?;
-        let three = same_resolvable(alloc, plain, queue, &[first, second, third])?;
-        let four = same_resolvable(alloc, plain, queue, &[first, second, third, fourth])?;
-        return Ok(one && two && three && four);
+    let choices = u64::from(run.choices);
+    let others = drawn(seed, 64) * choices;
+    for first in 0..choices {
+        let some = chosen(alloc, run.ids, first + others)?;
+        if are_ascending(some.as_slice())
+            && plain.resolvable(alloc, some.as_slice())?
+                != queue.resolvable(alloc, some.as_slice())?
+        {
+            return Ok(false);
+        }
     }
     Ok(true)
-}
-
-/// Four of the ids.
-fn four_of(seed: &mut u64, ids: &[TxnId]) -> Option<[TxnId; 4]> {
-    let first = drawn(seed, 3) as usize;
-    let second = first + 1 + drawn(seed, 2) as usize;
-    let third = second + 1 + drawn(seed, 2) as usize;
-    let fourth = third + 1 + drawn(seed, 2) as usize;
-    Some([
-        *ids.get(first)?,
-        *ids.get(second)?,
-        *ids.get(third)?,
-        *ids.get(fourth)?,
-    ])
 }
 
 /// Whether both answer alike.
@@ -216,180 +145,65 @@ fn agree(
     seed: &mut u64,
     plain: &PlainSched,
     queue: &QueueSched,
-    ids: &[TxnId],
+    run: &Run,
 ) -> Result<bool, Fail> {
     let same = ready(alloc, plain)?.as_slice() == ready(alloc, queue)?.as_slice();
-    let executable = same_executable(alloc, plain, queue, ids)?;
+    let executable = same_executable(alloc, plain, queue, run.ids)?;
     let class = same_class(alloc, plain, queue)?;
-    let resolvable = match four_of(seed, ids) {
-        Some(some) => same_of_some(alloc, plain, queue, some)?,
-        None => true,
-    };
-    Ok(same && executable && class && resolvable)
+    Ok(same && executable && class && same_classes(alloc, seed, plain, queue, run)?)
 }
 
-/// Resolves a class, which has to be resolvable.
-fn resolve<S: Scheduler + Drop>(alloc: Global, sched: &mut S, ids: &[TxnId]) -> Result<(), Fail>
-    requires { AreAscending ids.now }
-    ensures { (S.seen sched.new).logs ≡ (S.seen sched.old).logs }
-{
-    if !sched.resolvable(alloc, ids)? {
-        return Err(Fail::from("the class is resolvable"));
-    }
-    sched.resolve(alloc, ids)?;
-    Ok(())
-}
-
-/// Executes an id, which has to be executable.
-pub fn execute<S: Scheduler + Drop>(alloc: Global, sched: &mut S, id: TxnId) -> Result<(), Fail>
-    ensures { (S.seen sched.new).logs ≡ (S.seen sched.old).logs }
-{
-    if !sched.executable(alloc, id)? {
-        return Err(Fail::from("the id is executable"));
-    }
-    sched.reserve(alloc, 1)?;
-    sched.finish(id);
-    Ok(())
-}
-
-/// Resolves at both the class that the one with queues chooses, if there is one.
-pub fn resolve_some(
+/// Whether both answer this, where it is known.
+fn answer(
     alloc: Global,
-    plain: &mut PlainSched,
-    queue: &mut QueueSched,
-) -> Result<(), Fail>
-    ensures plain { plain.new.seen.logs ≡ plain.old.seen.logs }
-    ensures queue { queue.new.logs ≡ queue.old.logs }
-{
-    if let Some(class) = queue.next_class(alloc)? {
-        resolve(alloc, plain, class.as_slice())?;
-        resolve(alloc, queue, class.as_slice())?;
-    }
-    Ok(())
-}
-
-/// Executes at both the first or the last of what is ready, if there is any.
-fn execute_some(
-    alloc: Global,
-    last: bool,
-    plain: &mut PlainSched,
-    queue: &mut QueueSched,
-) -> Result<(), Fail>
-    ensures plain { plain.new.seen.logs ≡ plain.old.seen.logs }
-    ensures queue { queue.new.logs ≡ queue.old.logs }
-{
-    let ready = ready(alloc, queue)?;
-    let chosen = if last { ready.last() } else { ready.first() };
-    if let Some(id) = chosen {
-        execute(alloc, plain, *id)?;
-        execute(alloc, queue, *id)?;
-    }
-    Ok(())
-}
-
-/// Resolves or executes something at both, if there is anything.
-fn step(
-    alloc: Global,
-    seed: &mut u64,
-    plain: &mut PlainSched,
-    queue: &mut QueueSched,
-) -> Result<(), Fail>
-    ensures plain { plain.new.seen.logs ≡ plain.old.seen.logs }
-    ensures queue { queue.new.logs ≡ queue.old.logs }
-{
-    match drawn(seed, 4) {
-        0 | 1 => resolve_some(alloc, plain, queue),
-        2 => execute_some(alloc, true, plain, queue),
-        _ => execute_some(alloc, false, plain, queue),
+    plain: &PlainSched,
+    queue: &QueueSched,
+    want: Option<&[u8]>,
+) -> Result<bool, Fail> {
+    match want {
+        Some(want) => Ok(
+            told(alloc, plain)?.as_slice() == want && told(alloc, queue)?.as_slice() == want,
+        ),
+        None => Ok(true),
     }
 }
 
-/// Whether both answer alike now and after each of n steps.
-fn steps(
-    alloc: Global,
-    seed: &mut u64,
-    plain: &mut PlainSched,
-    queue: &mut QueueSched,
-    ids: &[TxnId],
-    count: u32,
-) -> Result<bool, Fail>
-    ensures plain { plain.new.seen.logs ≡ plain.old.seen.logs }
-    ensures queue { queue.new.logs ≡ queue.old.logs }
+/// An empty log for each region.
+fn empty_logs(alloc: Global, regions: u8) -> Result<Vec<Listed<Part>>, NoMemory>
+    ensures { IfOk result (λ logs. logs.items ≡ replicate regions []) }
 {
-    for _step in 0..count {
-        if !agree(alloc, seed, plain, queue, ids)? {
-            return Ok(false);
-        }
-        step(alloc, seed, plain, queue)?;
+    let mut logs = Vec::new(alloc);
+    for _region in 0..regions {
+        logs.push(Listed::new(alloc))?;
     }
-    agree(alloc, seed, plain, queue, ids)
+    Ok(logs)
 }
 
-/// Inserts a part at both, and keeps it in the logs, where it has to fit.
-pub fn insert(
-    alloc: Global,
-    logs: &mut Vec<Listed<Part>>,
-    plain: &mut PlainSched,
-    queue: &mut QueueSched,
-    wide: &Wide,
-) -> Result<(), Fail>
-    requires plain { plain.old.seen.logs ≡ logs.old.items }
-    requires queue { queue.old.logs ≡ logs.old.items }
-    ensures plain { OnOk result (plain.new.seen.logs ≡ logs.new.items) }
-    ensures queue { OnOk result (queue.new.logs ≡ logs.new.items) }
-{
-    let part = wide_part(alloc, wide)?;
-    check_fit(logs.as_slice(), &part)?;
-    plain.insert(alloc, part.copy(alloc)?)?;
-    queue.insert(alloc, part.copy(alloc)?)?;
-    let log = &mut logs[part.home as usize];
-    log.push(part)?;
-    Ok(())
-}
-
-/// Whether both answer alike after each part and a few steps, and then until nothing is left to do.
+/// Whether both answer alike after each call, and what they have to.
 fn go_on(
     alloc: Global,
     seed: &mut u64,
     plain: &mut PlainSched,
     queue: &mut QueueSched,
-    parts: &[Wide],
-    ids: &[TxnId],
+    run: &Run,
 ) -> Result<bool, Fail>
-    requires plain { plain.old.seen.logs ≡ replicate 3 [] }
-    requires queue { queue.old.logs ≡ replicate 3 [] }
+    requires plain { plain.old.seen.logs ≡ replicate run.now.regions [] }
+    requires queue { queue.old.logs ≡ replicate run.now.regions [] }
 {
-    let mut logs = empty_logs(alloc, 3)?;
-    for wide in parts {
-        insert(alloc, &mut logs, plain, queue, wide)?;
-        if !steps(alloc, seed, plain, queue, ids, 2)? {
+    let mut logs = empty_logs(alloc, run.regions)?;
+    for (call, want) in run.steps {
+        make(alloc, &mut logs, plain, queue, call)?;
+        if !agree(alloc, seed, plain, queue, run)? || !answer(alloc, plain, queue, *want)? {
             return Ok(false);
         }
     }
-    steps(alloc, seed, plain, queue, ids, 40)
+    Ok(true)
 }
 
-/// Whether both answer alike in a drawn run of n transactions.
-fn are_alike(alloc: Global, start: u64, txns: u32) -> Result<bool, Fail> {
+/// Whether both schedulers, which are made and dropped here alone, answer alike after each call, and what they have to.
+pub fn are_alike(alloc: Global, start: u64, run: &Run) -> Result<bool, Fail> {
     let mut seed = start;
-    let parts = some_parts(alloc, &mut seed, txns)?;
-    let ids = ids_of(alloc, parts.as_slice())?;
-    let mut plain = PlainSched::empty(alloc, 3)?;
-    let mut queue = QueueSched::empty(alloc, 3)?;
-    go_on(
-        alloc,
-        &mut seed,
-        &mut plain,
-        &mut queue,
-        parts.as_slice(),
-        ids.as_slice(),
-    )
-}
-
-#[test]
-fn both_schedulers_answer_alike(rt: HostRuntime) -> Result<(), Fail> {
-    for seed in 1..6 {
-        assert!(rt; are_alike(rt.alloc(), seed * 7919, 8)?);
-    }
-    Ok(())
+    let mut plain = PlainSched::empty(alloc, run.regions)?;
+    let mut queue = QueueSched::empty(alloc, run.regions)?;
+    go_on(alloc, &mut seed, &mut plain, &mut queue, run)
 }

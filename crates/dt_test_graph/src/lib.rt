@@ -1,18 +1,22 @@
 //! Tests of the schedulers and of their graph: what a vertex reaches, its class, queues, what is ready and what is resolved,
 //! and that the two schedulers answer alike.
-//! Most are tables of expected values that were worked out independently, each with one loop and one assertion; `alike.rt` draws parts
-//! at random.
+//! Most are tables of expected values that were worked out independently, each with one loop; `drawn.rt` draws parts and calls at
+//! random. The schedulers are made and dropped in one function (`alike.rt`), which is given its calls as a list.
 #![tactic(auto)]
 
 #[cfg(test)]
 mod alike;
 #[cfg(test)]
+mod calls;
+#[cfg(test)]
 mod classes;
+#[cfg(test)]
+mod drawn;
 #[cfg(test)]
 mod fitting;
 #[cfg(test)]
-mod queues;
+mod parts;
 #[cfg(test)]
-mod schedulers;
+mod queues;
 #[cfg(test)]
 mod worked;

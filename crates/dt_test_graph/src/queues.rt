@@ -34,32 +34,6 @@ fn queued(alloc: Global, uses: &[Use]) -> Result<(Queues, Vec<usize>), Fail>
     Ok((queues, slots))
 }
 
-/// The neighbours of the entry at a place; nothing past the last one.
-fn neighbours(alloc: Global, uses: &[Use], place: usize) -> Result<Vec<u32>, Fail> {
-    let (queues, slots) = queued(alloc, uses)?;
-    match slots.get(place) {
-        Some(slot) => Ok(queues.neighbours(alloc, *slot)?),
-        None => Ok(Vec::new(alloc)),
-    }
-}
-
-/// The same after another entry was taken out.
-fn neighbours_without(
-    alloc: Global,
-    uses: &[Use],
-    gone: usize,
-    place: usize,
-) -> Result<Vec<u32>, Fail> {
-    let (mut queues, slots) = queued(alloc, uses)?;
-    match (slots.get(gone), slots.get(place)) {
-        (Some(gone), Some(slot)) if *gone != *slot => {
-            queues.remove(*gone);
-            Ok(queues.neighbours(alloc, *slot)?)
-        }
-        _ => Ok(Vec::new(alloc)),
-    }
-}
-
 /// The followers of an entry, one after the other, as far as there are no more than n.
 fn followers_of(alloc: Global, queues: &Queues, slot: usize, most: usize) -> Result<Vec<u32>, Fail>
     requires { IsQueued queues.now slot }
@@ -76,12 +50,51 @@ fn followers_of(alloc: Global, queues: &Queues, slot: usize, most: usize) -> Res
     Ok(vertices)
 }
 
-/// The followers of the entry at a place; nothing past the last one.
-fn followers(alloc: Global, uses: &[Use], place: usize) -> Result<Vec<u32>, Fail> {
-    let (queues, slots) = queued(alloc, uses)?;
-    match slots.get(place) {
-        Some(slot) => followers_of(alloc, &queues, *slot, uses.len()),
-        None => Ok(Vec::new(alloc)),
+/// What is asked of an entry.
+#[derive(Clone, Copy)]
+enum Ask {
+    Neighbours,
+    Followers,
+}
+
+/// What queues answer for an entry; of its followers n at most.
+fn asked(
+    alloc: Global,
+    queues: &Queues,
+    slot: usize,
+    ask: Ask,
+    most: usize,
+) -> Result<Vec<u32>, Fail>
+    requires { IsQueued queues.now slot }
+{
+    match ask {
+        Ask::Neighbours => Ok(queues.neighbours(alloc, slot)?),
+        Ask::Followers => followers_of(alloc, queues, slot, most),
+    }
+}
+
+/// What queues of these entries answer for the entry at a place, after another one was taken out or not; nothing for one that there
+/// isn't. The queues are made and dropped here alone.
+fn told(
+    alloc: Global,
+    uses: &[Use],
+    gone: Option<usize>,
+    ask: Ask,
+    place: usize,
+) -> Result<Vec<u32>, Fail> {
+    let (mut queues, slots) = queued(alloc, uses)?;
+    let Some(slot) = slots.get(place) else {
+        return Ok(Vec::new(alloc));
+    };
+    let Some(gone) = gone else {
+        return asked(alloc, &queues, *slot, ask, uses.len());
+    };
+    match slots.get(gone) {
+        Some(gone) if *gone != *slot => {
+            queues.remove(*gone);
+            asked(alloc, &queues, *slot, ask, uses.len())
+        }
+        _ => Ok(Vec::new(alloc)),
     }
 }
 
@@ -103,58 +116,48 @@ const GRANULE: [Use; 8] = [
     (0, b"a", Mode::Whole, 7),
 ];
 
-#[test]
-fn neighbours_are_the_nearest_that_clash(rt: HostRuntime) -> Result<(), Fail> {
-    let rows: [(&[Use], usize, &[u32]); 10] = [
-        (&ROW, 0, &[]),
-        (&ROW, 1, &[]),
-        (&ROW, 2, &[0, 1]),
-        (&ROW, 3, &[2]),
-        (&GRANULE, 2, &[]),
-        (&GRANULE, 3, &[]),
-        (&GRANULE, 4, &[0, 1, 3]),
-        (&GRANULE, 5, &[4]),
-        (&GRANULE, 6, &[5]),
-        (&GRANULE, 7, &[6]),
-    ];
-    for (uses, place, expected) in rows {
-        assert_eq!(rt; neighbours(rt.alloc(), uses, place)?.as_slice(), expected);
+/// Entries, one that is taken out or none, what is asked of the one at a place, and what is answered.
+const ROWS: &[(&[Use], Option<usize>, Ask, usize, &[u32])] = &[
+    // Neighbours are the nearest before it that clash.
+    (&ROW, None, Ask::Neighbours, 0, &[]),
+    (&ROW, None, Ask::Neighbours, 1, &[]),
+    (&ROW, None, Ask::Neighbours, 2, &[0, 1]),
+    (&ROW, None, Ask::Neighbours, 3, &[2]),
+    (&GRANULE, None, Ask::Neighbours, 2, &[]),
+    (&GRANULE, None, Ask::Neighbours, 3, &[]),
+    (&GRANULE, None, Ask::Neighbours, 4, &[0, 1, 3]),
+    (&GRANULE, None, Ask::Neighbours, 5, &[4]),
+    (&GRANULE, None, Ask::Neighbours, 6, &[5]),
+    (&GRANULE, None, Ask::Neighbours, 7, &[6]),
+    // Followers are those that wait for it.
+    (&ROW, None, Ask::Followers, 0, &[2]),
+    (&ROW, None, Ask::Followers, 2, &[3]),
+    (&ROW, None, Ask::Followers, 3, &[]),
+    (&GRANULE, None, Ask::Followers, 0, &[4]),
+    (&GRANULE, None, Ask::Followers, 2, &[]),
+    (&GRANULE, None, Ask::Followers, 4, &[5]),
+    (&GRANULE, None, Ask::Followers, 5, &[6]),
+    (&GRANULE, None, Ask::Followers, 6, &[7]),
+    // What was taken out is no neighbour.
+    (&ROW, Some(0), Ask::Neighbours, 2, &[1]),
+    (&ROW, Some(2), Ask::Neighbours, 3, &[]),
+    (&GRANULE, Some(4), Ask::Neighbours, 5, &[0]),
+    (&GRANULE, Some(5), Ask::Neighbours, 6, &[4]),
+    (&GRANULE, Some(6), Ask::Neighbours, 7, &[5]),
+];
+
+/// Whether each row is answered as it says.
+fn all_told(alloc: Global) -> Result<bool, Fail> {
+    for (uses, gone, ask, place, want) in ROWS {
+        if told(alloc, uses, *gone, *ask, *place)?.as_slice() != *want {
+            return Ok(false);
+        }
     }
-    Ok(())
+    Ok(true)
 }
 
 #[test]
-fn followers_are_those_that_wait_for_it(rt: HostRuntime) -> Result<(), Fail> {
-    let rows: [(&[Use], usize, &[u32]); 8] = [
-        (&ROW, 0, &[2]),
-        (&ROW, 2, &[3]),
-        (&ROW, 3, &[]),
-        (&GRANULE, 0, &[4]),
-        (&GRANULE, 2, &[]),
-        (&GRANULE, 4, &[5]),
-        (&GRANULE, 5, &[6]),
-        (&GRANULE, 6, &[7]),
-    ];
-    for (uses, place, expected) in rows {
-        assert_eq!(rt; followers(rt.alloc(), uses, place)?.as_slice(), expected);
-    }
-    Ok(())
-}
-
-#[test]
-fn what_was_taken_out_is_no_neighbour(rt: HostRuntime) -> Result<(), Fail> {
-    let rows: [(&[Use], usize, usize, &[u32]); 5] = [
-        (&ROW, 0, 2, &[1]),
-        (&ROW, 2, 3, &[]),
-        (&GRANULE, 4, 5, &[0]),
-        (&GRANULE, 5, 6, &[4]),
-        (&GRANULE, 6, 7, &[5]),
-    ];
-    for (uses, gone, place, expected) in rows {
-        assert_eq!(rt;
-            neighbours_without(rt.alloc(), uses, gone, place)?.as_slice(),
-            expected
-        );
-    }
+fn entries_have_their_neighbours_and_followers(rt: HostRuntime) -> Result<(), Fail> {
+    assert!(rt; all_told(rt.alloc())?);
     Ok(())
 }

@@ -2,7 +2,7 @@ use Rattle.std.proofs.Common.{◌≡◌, ℕ, zero, suc, ◌<◌, List, [], ◌�
 use Rattle.dt_lists.specs.Lists.{AllIn}
 use Rattle.dt_queue.specs.Queues.{IsQueued}
 use Rattle.dt_queue.proofs.Callers.{waits_without}
-use Rattle.dt_test_graph.proofs.queues.neighbours_without.Goals as goal
+use Rattle.dt_test_graph.proofs.queues.told.Goals as goal
 
 -- what all of a list have, the one at a place has
 at : {A : Type 0} (P : A → Type 0) (xs : List A) (i : ℕ) (x : A) → i < length xs → ((d : A) → x ≡ get_or xs i d) → AllIn P xs → P x

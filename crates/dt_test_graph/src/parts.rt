@@ -1,0 +1,57 @@
+//! Parts, as tests write them down.
+use crate::queues::key_of;
+use dt_access::{Homes, Keys, Mode, Part, TxnId};
+use std::alloc::Global;
+use std::test::Fail;
+
+/// A part with one key: the sequence number and the region of its id, its rank, its home, the key with its mode, and the
+/// least and the greatest of its homes.
+pub type Row = (u32, u8, u8, u8, &'static [u8], Mode, u8, u8);
+
+/// A key and its mode.
+pub type Use = (&'static [u8], Mode);
+
+/// A part with a second key, which counts where it is greater than the first one, and whether its transaction has all three
+/// homes.
+pub type Wide = (Row, Use, bool);
+
+/// One or two keys: the second one counts where it is greater.
+fn keys_of(alloc: Global, first: Use, second: Use) -> Result<Keys, Fail> {
+    let (key, other) = (key_of(alloc, first.0)?, key_of(alloc, second.0)?);
+    let ascend = key < other;
+    let mut keys = Keys::new(alloc);
+    keys.push((key, first.1))?;
+    if ascend {
+        keys.push((other, second.1))?;
+    }
+    Ok(keys)
+}
+
+/// The least and the greatest home, or all three.
+fn homes_of(alloc: Global, least: u8, greatest: u8, all: bool) -> Result<Homes, Fail> {
+    let mut homes = Homes::new(alloc);
+    if all {
+        homes.push(0)?;
+        homes.push(1)?;
+        homes.push(2)?;
+        return Ok(homes);
+    }
+    homes.push(least)?;
+    if least < greatest {
+        homes.push(greatest)?;
+    }
+    Ok(homes)
+}
+
+/// The part.
+pub fn part_of(alloc: Global, wide: &Wide) -> Result<Part, Fail> {
+    let (row, second, all) = *wide;
+    let (seq, region, rank, home, key, mode, least, greatest) = row;
+    Ok(Part {
+        id: TxnId { seq, region },
+        rank,
+        home,
+        keys: keys_of(alloc, (key, mode), second)?,
+        homes: homes_of(alloc, least, greatest, all)?,
+    })
+}
