@@ -1,12 +1,40 @@
 //! Reports: the words of each outcome, and reports of hundreds of lines.
+use crate::rows::key_of;
 use dt_access::TxnId;
 use dt_eval::{Cause, Values};
 use dt_report::{EventList, Ran, Rans, Replies, Reply, Report, Tables, print};
 use dt_table::{Shown, ShownList};
-use dt_text::{Common, Key, Name, Str, Value};
+use dt_text::{Common, Name, Str, Value};
 use dt_txn::Outcome;
 use std::alloc::Global;
+use std::mem::forget;
 use std::test::Fail;
+
+/// A report of nothing.
+pub(crate) fn empty_report(alloc: Global) -> Report {
+    Report {
+        replies: Replies::new(alloc),
+        order: Rans::new(alloc),
+        tables: Tables::new(alloc),
+        events: EventList::new(alloc),
+    }
+}
+
+/// The text of a few bytes.
+pub(crate) fn text_of(alloc: Global, bytes: &[u8]) -> Result<Str, Fail> {
+    if bytes.len() > Str::LONGEST {
+        return Err(Fail::from("a text has few bytes"));
+    }
+    Ok(Str::read(alloc, bytes)?)
+}
+
+/// The name of a few bytes.
+fn name_of(alloc: Global, bytes: &[u8]) -> Result<Name, Fail> {
+    if bytes.len() > Name::LONGEST {
+        return Err(Fail::from("a name has few bytes"));
+    }
+    Ok(Name::read(alloc, bytes)?)
+}
 
 /// An outcome of a test.
 #[derive(Clone, Copy)]
@@ -27,20 +55,29 @@ fn outcome_of(alloc: Global, what: What) -> Result<Outcome, Fail> {
     match what {
         What::Gave => Ok(Outcome::Gave(some_values(alloc)?)),
         What::GaveNothing => Ok(Outcome::Gave(Values::new(alloc))),
-        What::Funds => Ok(Outcome::Aborted(Cause::Word(Common::new(
-            alloc,
-            Str::read(alloc, b"funds")?,
-        )?))),
+        What::Funds => Ok(Outcome::Aborted(funds(alloc)?)),
         What::Overflow => Ok(Outcome::Aborted(Cause::Overflow)),
         What::Zero => Ok(Outcome::Aborted(Cause::Zero)),
         What::Kind => Ok(Outcome::Aborted(Cause::Kind)),
         What::Long => Ok(Outcome::Aborted(Cause::Long)),
-        What::Stale => Ok(Outcome::Stale {
-            key: Common::new(alloc, Key::read(alloc, b"b")?)?,
-            had: 0,
-            by: TxnId { seq: 1, region: 5 },
-        }),
+        What::Stale => stale(alloc),
     }
+}
+
+/// The cause of a word.
+fn funds(alloc: Global) -> Result<Cause, Fail> {
+    let word = text_of(alloc, b"funds")?;
+    Ok(Cause::Word(Common::new(alloc, word)?))
+}
+
+/// What comes of a stale attempt.
+fn stale(alloc: Global) -> Result<Outcome, Fail> {
+    let key = key_of(alloc, b"b")?;
+    Ok(Outcome::Stale {
+        key: Common::new(alloc, key)?,
+        had: 0,
+        by: TxnId { seq: 1, region: 5 },
+    })
 }
 
 /// Values of each kind, and none.
@@ -49,65 +86,77 @@ fn some_values(alloc: Global) -> Result<Values, Fail> {
     values.push(Some(Value::Int(7)))?;
     values.push(Some(Value::Int(-13)))?;
     values.push(None)?;
-    values.push(Some(Value::Text(Str::read(alloc, b"x\"\\y")?)))?;
+    values.push(Some(Value::Text(text_of(alloc, b"x\"\\y")?)))?;
     Ok(values)
 }
 
-/// Answers of a session `a`, n of them, each with a copy of an outcome.
-fn replies_of(alloc: Global, outcome: &Outcome, count: u32) -> Result<Replies, Fail> {
-    let mut replies = Replies::new(alloc);
-    for _ in 0..count {
-        replies.push(Reply {
-            session: Name::read(alloc, b"a")?,
-            call: 1,
-            outcome: outcome.copy(alloc)?,
-        })?;
-    }
-    Ok(replies)
+/// Adds an answer of a session `a` with a copy of an outcome.
+fn add_reply(alloc: Global, replies: &mut Replies, outcome: &Outcome) -> Result<(), Fail> {
+    replies.push(Reply {
+        session: name_of(alloc, b"a")?,
+        call: 1,
+        outcome: outcome.copy(alloc)?,
+    })?;
+    Ok(())
 }
 
-/// Executed attempts of a session `p`, n of them, each with a copy of an outcome.
-fn rans_of(alloc: Global, outcome: &Outcome, count: u32) -> Result<Rans, Fail> {
-    let mut order = Rans::new(alloc);
-    for _ in 0..count {
-        order.push(Ran {
-            id: TxnId { seq: 2, region: 0 },
-            session: Name::read(alloc, b"p")?,
-            call: 1,
-            attempt: 3,
-            outcome: outcome.copy(alloc)?,
-        })?;
-    }
-    Ok(order)
+/// Adds an executed attempt of a session `p` with a copy of an outcome.
+fn add_ran(alloc: Global, order: &mut Rans, outcome: &Outcome) -> Result<(), Fail> {
+    order.push(Ran {
+        id: TxnId { seq: 2, region: 0 },
+        session: name_of(alloc, b"p")?,
+        call: 1,
+        attempt: 3,
+        outcome: outcome.copy(alloc)?,
+    })?;
+    Ok(())
 }
 
-/// Two tables: one with n rows, each without a value, and one with none.
-fn tables_of(alloc: Global, count: u32) -> Result<Tables, Fail> {
+/// Adds a row without a value.
+fn add_row(alloc: Global, rows: &mut ShownList) -> Result<(), Fail> {
+    rows.push(Shown {
+        key: key_of(alloc, b"c")?,
+        value: None,
+        home: 1,
+        moves: 2,
+    })?;
+    Ok(())
+}
+
+/// Adds two tables: one with n rows, and one with none.
+fn add_tables(alloc: Global, tables: &mut Tables, count: u32) -> Result<(), Fail> {
     let mut rows = ShownList::new(alloc);
     for _ in 0..count {
-        rows.push(Shown {
-            key: Key::read(alloc, b"c")?,
-            value: None,
-            home: 1,
-            moves: 2,
-        })?;
+        add_row(alloc, &mut rows)?;
     }
-    let mut tables = Tables::new(alloc);
     tables.push(rows)?;
     tables.push(ShownList::new(alloc))?;
-    Ok(tables)
+    Ok(())
 }
 
-/// The report of n answers, attempts and rows, with this outcome.
-fn told(alloc: Global, what: What, count: u32) -> Result<Vec<u8>, Fail> {
+/// Adds n answers, attempts and rows, with this outcome.
+fn fill(alloc: Global, report: &mut Report, outcome: &Outcome, count: u32) -> Result<(), Fail> {
+    for _ in 0..count {
+        add_reply(alloc, &mut report.replies, outcome)?;
+        add_ran(alloc, &mut report.order, outcome)?;
+    }
+    add_tables(alloc, &mut report.tables, count)
+}
+
+/// A report that is filled so, in words.
+fn printed(alloc: Global, report: &mut Report, what: What, count: u32) -> Result<Vec<u8>, Fail> {
     let outcome = outcome_of(alloc, what)?;
-    let report = Report {
-        replies: replies_of(alloc, &outcome, count)?,
-        order: rans_of(alloc, &outcome, count)?,
-        tables: tables_of(alloc, count)?,
-        events: EventList::new(alloc),
-    };
-    Ok(print(alloc, &report)?)
+    fill(alloc, report, &outcome, count)?;
+    Ok(print(alloc, report)?)
+}
+
+/// The report of n answers, attempts and rows, with this outcome. It is left to the end of the process: that it may be dropped would be
+/// proved here.
+fn told(alloc: Global, what: What, count: u32) -> Result<Vec<u8>, Fail> {
+    let mut report = empty_report(alloc);
+    let told = printed(alloc, &mut report, what, count);
+    forget(report);
+    told
 }
 
 /// The report that is wanted of one answer, attempt and row, with the words of an outcome.
@@ -118,7 +167,7 @@ fn wanted(alloc: Global, words: &str) -> Result<String, Fail> {
 }
 
 /// Outcomes, each with its words.
-const WORDS: [(What, &str); 8] = [
+const WORDS: &[(What, &str)] = &[
     (What::Gave, "done 7 -13 none \"x\\\"\\\\y\""),
     (What::GaveNothing, "done"),
     (What::Funds, "abort \"funds\""),
@@ -129,32 +178,38 @@ const WORDS: [(What, &str); 8] = [
     (What::Stale, "stale b had 0 by 1.5"),
 ];
 
-#[test]
-fn each_outcome_has_its_words_in_a_report(rt: HostRuntime) -> Result<(), Fail> {
+/// Whether each outcome has its words in a report.
+fn all_worded(alloc: Global) -> Result<bool, Fail> {
     for (what, words) in WORDS {
-        assert_eq!(rt;
-            told(rt.alloc(), what, 1)?.as_slice(),
-            wanted(rt.alloc(), words)?.as_bytes()
-        );
+        if told(alloc, *what, 1)?.as_slice() != wanted(alloc, words)?.as_bytes() {
+            return Ok(false);
+        }
     }
-    Ok(())
+    Ok(true)
+}
+
+/// Numbers of rows, and the bytes of the report: 37 of headings; an answer, an attempt and a row have 15, 15 and 24.
+const LENGTHS: &[(u32, usize)] = &[
+    (0, 37),
+    (255, 13807),
+    (256, 13861),
+    (257, 13915),
+    (600, 32437),
+];
+
+/// Whether each report is as long as it says.
+fn all_long(alloc: Global) -> Result<bool, Fail> {
+    for (count, want) in LENGTHS {
+        if told(alloc, What::GaveNothing, *count)?.len() != *want {
+            return Ok(false);
+        }
+    }
+    Ok(true)
 }
 
 #[test]
-fn a_report_has_hundreds_of_lines(rt: HostRuntime) -> Result<(), Fail> {
-    // 37 bytes of headings; an answer, an attempt and a row have 15, 15 and 24.
-    for (count, want) in [
-        (0, 37),
-        (255, 13807),
-        (256, 13861),
-        (257, 13915),
-        (600, 32437),
-    ] {
-        assert_eq!(rt;
-            told(rt.alloc(), What::GaveNothing, count)?.len(),
-            want,
-            "{count} rows"
-        );
-    }
+fn each_outcome_has_its_words_and_a_report_hundreds_of_lines(rt: HostRuntime) -> Result<(), Fail> {
+    assert!(rt; all_worded(rt.alloc())?);
+    assert!(rt; all_long(rt.alloc())?);
     Ok(())
 }

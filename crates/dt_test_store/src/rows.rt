@@ -1,9 +1,10 @@
 //! Rows: their values, homes and moves after changes, and which of them are shown.
 
 use dt_access::{TxnId, Writes, is_unit};
-use dt_table::{Effect, Table, UnitName};
+use dt_table::{Effect, Shown, Table, UnitName};
 use dt_text::{Key, NoMemory, Value, put_u64, put_value};
 use std::alloc::Global;
+use std::mem::forget;
 use std::test::Fail;
 
 /// What is done to a key.
@@ -25,10 +26,10 @@ pub(crate) fn key_of(alloc: Global, bytes: &[u8]) -> Result<Key, Fail> {
     Ok(Key::read(alloc, bytes)?)
 }
 
-/// A table of three regions in this version, with a row `b` and a home for `ab`.
-fn opened(alloc: Global, version: u8) -> Result<Table, Fail> {
-    let homes = [(Key::read(alloc, b"ab")?, 0)];
-    let rows = [(Key::read(alloc, b"b")?, Value::Int(7))];
+/// A table of three regions in this version, with a row `b` that has 7, and a home for `ab`.
+pub(crate) fn opened(alloc: Global, version: u8) -> Result<Table, Fail> {
+    let homes = [(key_of(alloc, b"ab")?, 0)];
+    let rows = [(key_of(alloc, b"b")?, Value::Int(7))];
     Ok(Table::new(alloc, version, 3, homes.as_slice(), rows.as_slice())?)
 }
 
@@ -44,18 +45,24 @@ fn put(table: &mut Table, alloc: Global, key: Key, value: Option<Value>) -> Resu
     Ok(())
 }
 
-/// Moves a unit, by the transaction of this number in region 0.
-fn move_to(table: &mut Table, alloc: Global, key: Key, target: u8, seq: u32) -> Result<(), Fail> {
-    if !is_unit(table.version(), &key) {
+/// Moves a unit, by this transaction.
+pub(crate) fn move_to(
+    table: &mut Table,
+    alloc: Global,
+    key: &Key,
+    target: u8,
+    by: TxnId,
+) -> Result<(), Fail> {
+    if !is_unit(table.version(), key) {
         return Err(Fail::from("a unit is moved"));
     }
-    if table.mastership(&key).counter > 1000 {
+    if table.mastership(key).counter > 1000 {
         return Err(Fail::from("a unit has few moves"));
     }
     table.reserve(1)?;
     table.apply(Effect {
         writes: Writes::new(alloc),
-        moved: Some((UnitName::of(alloc, &key)?, target, TxnId { seq, region: 0 })),
+        moved: Some((UnitName::of(alloc, key)?, target, by)),
     });
     Ok(())
 }
@@ -66,12 +73,16 @@ fn make(table: &mut Table, alloc: Global, key: &[u8], change: Change) -> Result<
     match change {
         Change::Put(number) => put(table, alloc, key, Some(Value::Int(number))),
         Change::Clear => put(table, alloc, key, None),
-        Change::Move(target, seq) => move_to(table, alloc, key, target, seq),
+        Change::Move(target, seq) => move_to(table, alloc, &key, target, TxnId { seq, region: 0 }),
     }
 }
 
 /// Adds a value, or `none`.
-fn put_option(alloc: Global, out: &mut Vec<u8>, value: Option<&Value>) -> Result<(), NoMemory> {
+pub(crate) fn put_option(
+    alloc: Global,
+    out: &mut Vec<u8>,
+    value: Option<&Value>,
+) -> Result<(), NoMemory> {
     match value {
         Some(value) => put_value(alloc, out, value)?,
         None => out.extend_from_slice(b"none")?,
@@ -79,73 +90,112 @@ fn put_option(alloc: Global, out: &mut Vec<u8>, value: Option<&Value>) -> Result
     Ok(())
 }
 
+/// Adds these pieces.
+pub(crate) fn put_all(out: &mut Vec<u8>, pieces: &[&[u8]]) -> Result<(), NoMemory> {
+    for piece in pieces {
+        out.extend_from_slice(*piece)?;
+    }
+    Ok(())
+}
+
+/// Adds a few bytes and a number behind them.
+pub(crate) fn put_number(
+    alloc: Global,
+    out: &mut Vec<u8>,
+    before: &[u8],
+    number: u64,
+) -> Result<(), NoMemory> {
+    out.extend_from_slice(before)?;
+    put_u64(alloc, out, number)
+}
+
+/// Adds who made a move, or `-`.
+fn put_mover(alloc: Global, out: &mut Vec<u8>, mover: Option<TxnId>) -> Result<(), NoMemory> {
+    match mover {
+        Some(mover) => put_number(alloc, out, b" ", u64::from(mover.seq)),
+        None => put_all(out, &[b" -"]),
+    }
+}
+
 /// A key in words: its value, its home, how often it was moved, and by whom, from move 0 to the one that is not there yet.
 fn put_row(alloc: Global, out: &mut Vec<u8>, table: &Table, key: &Key) -> Result<(), NoMemory> {
     put_option(alloc, out, table.get(key))?;
     let mastership = table.mastership(key);
-    out.push(b'@')?;
-    put_u64(alloc, out, u64::from(mastership.home))?;
+    put_number(alloc, out, b"@", u64::from(mastership.home))?;
     for number in 0..mastership.counter.saturating_add(2) {
-        match table.mover(key, number) {
-            Some(mover) => {
-                out.push(b' ')?;
-                put_u64(alloc, out, u64::from(mover.seq))?;
-            }
-            None => out.extend_from_slice(b" -")?,
-        }
+        put_mover(alloc, out, table.mover(key, number))?;
     }
     Ok(())
+}
+
+/// A row that is shown, in words.
+fn put_shown_row(alloc: Global, out: &mut Vec<u8>, row: &Shown) -> Result<(), NoMemory> {
+    put_all(out, &[b"; ", row.key.bytes(), b"="])?;
+    put_option(alloc, out, row.value.as_ref())?;
+    put_number(alloc, out, b"@", u64::from(row.home))?;
+    put_number(alloc, out, b"*", u64::from(row.moves))
 }
 
 /// The rows that a table shows, in words.
 fn put_shown(alloc: Global, out: &mut Vec<u8>, table: &Table) -> Result<(), NoMemory> {
     for row in table.shown(alloc)?.as_slice() {
-        out.extend_from_slice(b"; ")?;
-        out.extend_from_slice(row.key.bytes())?;
-        out.push(b'=')?;
-        put_option(alloc, out, row.value.as_ref())?;
-        out.push(b'@')?;
-        put_u64(alloc, out, u64::from(row.home))?;
-        out.push(b'*')?;
-        put_u64(alloc, out, u64::from(row.moves))?;
+        put_shown_row(alloc, out, row)?;
     }
     Ok(())
 }
 
-/// What a key has, and what a table of this version shows, after these changes of keys.
-fn told(
-    alloc: Global,
-    version: u8,
-    changes: &[(&[u8], Change)],
-    key: &[u8],
-) -> Result<Vec<u8>, Fail> {
-    let mut table = opened(alloc, version)?;
-    for (changed, how) in changes {
-        make(&mut table, alloc, changed, *how)?;
-    }
+/// What a key has, and what a table shows.
+fn seen(alloc: Global, table: &Table, key: &[u8]) -> Result<Vec<u8>, Fail> {
     let mut out = Vec::new(alloc);
-    put_row(alloc, &mut out, &table, &key_of(alloc, key)?)?;
-    put_shown(alloc, &mut out, &table)?;
+    put_row(alloc, &mut out, table, &key_of(alloc, key)?)?;
+    put_shown(alloc, &mut out, table)?;
     Ok(out)
 }
 
-/// Changes, a key, and what is reported of them.
-const ROWS: [(&[(&[u8], Change)], &[u8], &[u8]); 10] = [
+/// Keys, and what is done to each.
+type Changes<'a> = &'a [(&'a [u8], Change)];
+
+/// Makes these changes, and tells what a key has then, and what the table shows.
+fn seen_after(
+    alloc: Global,
+    table: &mut Table,
+    changes: Changes,
+    key: &[u8],
+) -> Result<Vec<u8>, Fail> {
+    for (changed, how) in changes {
+        make(table, alloc, changed, *how)?;
+    }
+    seen(alloc, table, key)
+}
+
+/// What a key has, and what a table of this version shows, after these changes. The table is left to the end of the process: that it
+/// may be dropped would be proved again in each function that owns one.
+fn told(alloc: Global, version: u8, changes: Changes, key: &[u8]) -> Result<Vec<u8>, Fail> {
+    let mut table = opened(alloc, version)?;
+    let told = seen_after(alloc, &mut table, changes, key);
+    forget(table);
+    told
+}
+
+/// A version, changes, a key, and what is reported of them.
+const ROWS: &[(u8, Changes<'static>, &[u8], &[u8])] = &[
     // A key has its listed home, or its first byte modulo the regions.
-    (&[], b"ab", b"none@0 - -; b=7@2*0"),
-    (&[], b"ac", b"none@1 - -; b=7@2*0"),
-    (&[], b"ba", b"none@2 - -; b=7@2*0"),
-    (&[], b"cb", b"none@0 - -; b=7@2*0"),
+    (1, &[], b"ab", b"none@0 - -; b=7@2*0"),
+    (1, &[], b"ac", b"none@1 - -; b=7@2*0"),
+    (1, &[], b"ba", b"none@2 - -; b=7@2*0"),
+    (1, &[], b"cb", b"none@0 - -; b=7@2*0"),
     // And the value that was listed or written last.
-    (&[], b"b", b"7@2 - -; b=7@2*0"),
-    (&[(b"b", Change::Put(8))], b"b", b"8@2 - -; b=8@2*0"),
+    (1, &[], b"b", b"7@2 - -; b=7@2*0"),
+    (1, &[(b"b", Change::Put(8))], b"b", b"8@2 - -; b=8@2*0"),
     (
+        1,
         &[(b"b", Change::Put(8)), (b"b", Change::Clear)],
         b"b",
         b"none@2 - -",
     ),
     // Each move has its mover, past a move of another key and a write.
     (
+        1,
         &[
             (b"c", Change::Move(1, 4)),
             (b"d", Change::Move(2, 5)),
@@ -157,6 +207,7 @@ const ROWS: [(&[(&[u8], Change)], &[u8], &[u8]); 10] = [
     ),
     // Shown is each key with a value or a move, in byte order.
     (
+        1,
         &[
             (b"z", Change::Clear),
             (b"a/", Change::Put(5)),
@@ -167,22 +218,11 @@ const ROWS: [(&[(&[u8], Change)], &[u8], &[u8]); 10] = [
         b"none@2 - -; a=none@0*1; a.=6@1*0; a/=5@1*0; b=7@2*0",
     ),
     (
+        1,
         &[(b"b", Change::Move(2, 9)), (b"b", Change::Clear)],
         b"b",
         b"none@2 - 9 -; b=none@2*1",
     ),
-];
-
-#[test]
-fn rows_have_what_the_changes_gave_them(rt: HostRuntime) -> Result<(), Fail> {
-    for (changes, key, want) in ROWS {
-        assert_eq!(rt; told(rt.alloc(), 1, changes, key)?.as_slice(), want);
-    }
-    Ok(())
-}
-
-/// A version, changes, a key, and what is reported of them.
-const UNITS: [(u8, &[(&[u8], Change)], &[u8], &[u8]); 6] = [
     // In version 1 a move of `b` leaves `b/1` where it is.
     (
         1,
@@ -230,32 +270,55 @@ const UNITS: [(u8, &[(&[u8], Change)], &[u8], &[u8]); 6] = [
     ),
 ];
 
-#[test]
-fn a_move_takes_along_all_keys_of_its_unit(rt: HostRuntime) -> Result<(), Fail> {
-    for (version, changes, key, want) in UNITS {
-        assert_eq!(rt; told(rt.alloc(), version, changes, key)?.as_slice(), want);
+/// Whether each row has what the changes gave it.
+fn all_told(alloc: Global) -> Result<bool, Fail> {
+    for (version, changes, key, want) in ROWS {
+        if told(alloc, *version, changes, key)?.as_slice() != *want {
+            return Ok(false);
+        }
     }
+    Ok(true)
+}
+
+#[test]
+fn rows_have_what_changes_and_moves_of_their_units_gave_them(rt: HostRuntime) -> Result<(), Fail> {
+    assert!(rt; all_told(rt.alloc())?);
     Ok(())
 }
 
-/// How much is reported of a key after n moves of it, each with a write of another key.
-fn length_of_many(alloc: Global, count: u32) -> Result<usize, Fail> {
-    let mut table = opened(alloc, 1)?;
+/// Moves a key n times, each with a write of another key, and tells what it has then, and what the table shows.
+fn seen_after_moves(alloc: Global, table: &mut Table, count: u32) -> Result<Vec<u8>, Fail> {
     for number in 0..count {
         let key = format!(in alloc; "k{number}")?;
-        make(&mut table, alloc, key.as_bytes(), Change::Put(1))?;
-        make(&mut table, alloc, b"m", Change::Move(1, 7))?;
+        make(table, alloc, key.as_bytes(), Change::Put(1))?;
+        make(table, alloc, b"m", Change::Move(1, 7))?;
     }
-    let mut out = Vec::new(alloc);
-    put_row(alloc, &mut out, &table, &Key::read(alloc, b"m")?)?;
-    put_shown(alloc, &mut out, &table)?;
-    Ok(out.len())
+    seen(alloc, table, b"m")
+}
+
+/// How much is reported of a key after n moves of it.
+fn length_of_many(alloc: Global, count: u32) -> Result<usize, Fail> {
+    let mut table = opened(alloc, 1)?;
+    let told = seen_after_moves(alloc, &mut table, count);
+    forget(table);
+    Ok(told?.len())
+}
+
+/// Numbers of moves, and how much is reported.
+const LENGTHS: &[(u32, usize)] = &[(1, 43), (255, 3493), (256, 3507), (257, 3521), (600, 8323)];
+
+/// Whether as much is reported of each number of moves as it says.
+fn all_long(alloc: Global) -> Result<bool, Fail> {
+    for (count, want) in LENGTHS {
+        if length_of_many(alloc, *count)? != *want {
+            return Ok(false);
+        }
+    }
+    Ok(true)
 }
 
 #[test]
 fn a_table_has_hundreds_of_rows_and_moves(rt: HostRuntime) -> Result<(), Fail> {
-    for (count, want) in [(1, 43), (255, 3493), (256, 3507), (257, 3521), (600, 8323)] {
-        assert_eq!(rt; length_of_many(rt.alloc(), count)?, want, "{count} moves");
-    }
+    assert!(rt; all_long(rt.alloc())?);
     Ok(())
 }
