@@ -1,7 +1,10 @@
 //! Tests of what runs come to: all regions at once, until nothing is left.
-//! Each runs clusters until nothing is left, and compares what they report.
+//! A case is a cluster, a workload, and what is to hold of their run (`cases.rt`). Nodes, clusters and workloads are made in one function
+//! each, which lends them to the others.
 #![tactic(auto)]
 
+#[cfg(test)]
+mod cases;
 #[cfg(test)]
 mod generated;
 #[cfg(test)]

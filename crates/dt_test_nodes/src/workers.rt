@@ -1,14 +1,17 @@
 //! That the workers of a run are at work at once, and pass its gate.
-ghost use Rattle.std.specs.Prelude.{◌≡◌, false, IfOk};
+ghost use Rattle.std.specs.Prelude.{◌≡◌, false};
 
-use crate::phases::{cluster_of, workload_of};
+use crate::cases::{Want, holds_in};
 use dt_access::TxnId;
 use dt_graph::QueueSched;
 use dt_lock::Gate;
 use dt_run::{Nodes, run};
 use std::alloc::Global;
+use std::mem::forget;
+use std::sync::Wait;
 use std::sync::atomic::{AtomicU64, Ordering};
 use std::test::Fail;
+use std::thread::Threads;
 
 /// Notes how many workers passed, the numbers of their ids added up, and how many of them met no other one.
 #[derive(Drop)]
@@ -53,33 +56,41 @@ impl Gate for Meeting {
     }
 }
 
-/// The nodes of a cluster of one region with two calls, of which neither waits for the other.
-fn apart(alloc: Global) -> Result<Nodes<QueueSched>, Fail>
-    ensures { IfOk result (λ nodes. nodes.broken ≡ false) }
+/// Whether two workers of a run to the end meet.
+pub fn meet_in_run<R: Threads + Wait + Sync>(
+    rt: &R,
+    alloc: Global,
+    nodes: &mut Nodes<QueueSched>,
+) -> Result<bool, Fail>
+    requires { nodes.old.broken ≡ false }
 {
-    let cluster = cluster_of(alloc, b"regions = 1\n")?;
-    let workload = workload_of(
-        alloc,
-        &cluster,
-        b"session x at 0\ncall put \"b\" 1\nsession y at 0\ncall put \"c\" 2\n",
-    )?;
-    Ok(Nodes::new(alloc, &cluster, &workload)?)
+    let gate = Meeting::new();
+    forget(run(rt, alloc, nodes, &gate)?);
+    Ok(gate.has_seen_two())
 }
 
-#[test]
-fn two_workers_of_a_run_meet(rt: HostRuntime) -> Result<(), Fail> {
-    let mut nodes = apart(rt.alloc())?;
+/// Whether two workers of a phase meet, after which all is done.
+pub fn meet_in_phase<R: Threads + Wait + Sync>(
+    rt: &R,
+    alloc: Global,
+    nodes: &mut Nodes<QueueSched>,
+) -> Result<bool, Fail>
+    requires { nodes.old.broken ≡ false }
+{
     let gate = Meeting::new();
-    let _report = run(&rt, rt.alloc(), &mut nodes, &gate)?;
-    assert!(rt; gate.has_seen_two());
-    Ok(())
+    nodes.phase(rt, alloc, &gate)?;
+    Ok(nodes.finished() && gate.has_seen_two())
 }
 
+/// One region.
+const ALONE: &[u8] = b"regions = 1\n";
+
+/// Two calls, of which neither waits for the other.
+const APART: &[u8] = b"session x at 0\ncall put \"b\" 1\nsession y at 0\ncall put \"c\" 2\n";
+
 #[test]
-fn two_workers_of_a_phase_meet(rt: HostRuntime) -> Result<(), Fail> {
-    let mut nodes = apart(rt.alloc())?;
-    let gate = Meeting::new();
-    nodes.phase(&rt, rt.alloc(), &gate)?;
-    assert!(rt; nodes.finished() && gate.has_seen_two());
+fn two_workers_of_a_run_and_of_a_phase_meet(rt: HostRuntime) -> Result<(), Fail> {
+    assert!(rt; holds_in(&rt, rt.alloc(), ALONE, APART, Want::MeetInRun)?);
+    assert!(rt; holds_in(&rt, rt.alloc(), ALONE, APART, Want::MeetInPhase)?);
     Ok(())
 }
