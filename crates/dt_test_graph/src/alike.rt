@@ -42,14 +42,25 @@ fn put_ids(alloc: Global, out: &mut Vec<u8>, word: &[u8], ids: &[TxnId]) -> Resu
     Ok(())
 }
 
-/// All that is ready, and the class that may be resolved.
-fn told<S: Scheduler + Drop>(alloc: Global, sched: &S) -> Result<Vec<u8>, Fail> {
-    let mut out = Vec::new(alloc);
-    put_ids(alloc, &mut out, b"ready", ready(alloc, sched)?.as_slice())?;
-    if let Some(class) = sched.next_class(alloc)? {
-        put_ids(alloc, &mut out, b", class", class.as_slice())?;
+/// Adds the class that may be resolved, if there is one.
+fn put_class<S: Scheduler + Drop>(
+    alloc: Global,
+    out: &mut Vec<u8>,
+    sched: &S,
+) -> Result<(), NoMemory> {
+    match sched.next_class(alloc)? {
+        Some(class) => put_ids(alloc, out, b", class", class.as_slice()),
+        None => Ok(()),
     }
-    Ok(out)
+}
+
+/// Whether this is all that is ready, and the class that may be resolved.
+fn tells<S: Scheduler + Drop>(alloc: Global, sched: &S, want: &[u8]) -> Result<bool, Fail> {
+    let ready = ready(alloc, sched)?;
+    let mut out = Vec::new(alloc);
+    put_ids(alloc, &mut out, b"ready", ready.as_slice())?;
+    put_class(alloc, &mut out, sched)?;
+    Ok(out.as_slice() == want)
 }
 
 /// Whether both answer alike, of each id and of those that differ from it in the region, whether it is executable.
@@ -71,19 +82,6 @@ fn same_executable(
         }
     }
     Ok(true)
-}
-
-/// Whether each lets resolve what the other one chose, and both choose none where one of them does.
-fn same_class(alloc: Global, plain: &PlainSched, queue: &QueueSched) -> Result<bool, Fail> {
-    match (plain.next_class(alloc)?, queue.next_class(alloc)?) {
-        (Some(left), Some(right)) => {
-            let here = plain.resolvable(alloc, right.as_slice())?;
-            let there = queue.resolvable(alloc, left.as_slice())?;
-            Ok(here && there)
-        }
-        (None, None) => Ok(true),
-        _ => Ok(false),
-    }
 }
 
 /// The ids at the places of the bits that are set in a number.
@@ -116,6 +114,27 @@ fn are_ascending(ids: &[TxnId]) -> bool
     true
 }
 
+/// Whether the ids ascend and are a class that may be resolved.
+fn is_resolvable<S: Scheduler + Drop>(
+    alloc: Global,
+    sched: &S,
+    ids: &[TxnId],
+) -> Result<bool, Fail> {
+    Ok(are_ascending(ids) && sched.resolvable(alloc, ids)?)
+}
+
+/// Whether a scheduler lets resolve what the other one chose, and chooses none where that one does.
+fn lets_resolve<S: Scheduler + Drop, T: Scheduler + Drop>(
+    alloc: Global,
+    sched: &S,
+    other: &T,
+) -> Result<bool, Fail> {
+    match other.next_class(alloc)? {
+        Some(class) => is_resolvable(alloc, sched, class.as_slice()),
+        None => Ok(sched.next_class(alloc)?.is_none()),
+    }
+}
+
 /// Whether both answer alike whether some ids are a class that may be resolved: n choices of the first ids, together with a choice of
 /// the others that is drawn. Mostly they are no class, but a part of one, two together, or nothing of the kind.
 fn same_classes(
@@ -129,14 +148,18 @@ fn same_classes(
     let others = drawn(seed, 64) * choices;
     for first in 0..choices {
         let some = chosen(alloc, run.ids, first + others)?;
-        if are_ascending(some.as_slice())
-            && plain.resolvable(alloc, some.as_slice())?
-                != queue.resolvable(alloc, some.as_slice())?
-        {
+        let here = is_resolvable(alloc, plain, some.as_slice())?;
+        if is_resolvable(alloc, queue, some.as_slice())? != here {
             return Ok(false);
         }
     }
     Ok(true)
+}
+
+/// Whether the same is ready at both.
+fn same_ready(alloc: Global, plain: &PlainSched, queue: &QueueSched) -> Result<bool, Fail> {
+    let here = ready(alloc, plain)?;
+    Ok(ready(alloc, queue)? == here)
 }
 
 /// Whether both answer alike.
@@ -147,10 +170,13 @@ fn agree(
     queue: &QueueSched,
     run: &Run,
 ) -> Result<bool, Fail> {
-    let same = ready(alloc, plain)?.as_slice() == ready(alloc, queue)?.as_slice();
-    let executable = same_executable(alloc, plain, queue, run.ids)?;
-    let class = same_class(alloc, plain, queue)?;
-    Ok(same && executable && class && same_classes(alloc, seed, plain, queue, run)?)
+    Ok(
+        same_ready(alloc, plain, queue)?
+            && same_executable(alloc, plain, queue, run.ids)?
+            && lets_resolve(alloc, plain, queue)?
+            && lets_resolve(alloc, queue, plain)?
+            && same_classes(alloc, seed, plain, queue, run)?,
+    )
 }
 
 /// Whether both answer this, where it is known.
@@ -161,9 +187,7 @@ fn answer(
     want: Option<&[u8]>,
 ) -> Result<bool, Fail> {
     match want {
-        Some(want) => Ok(
-            told(alloc, plain)?.as_slice() == want && told(alloc, queue)?.as_slice() == want,
-        ),
+        Some(want) => Ok(tells(alloc, plain, want)? && tells(alloc, queue, want)?),
         None => Ok(true),
     }
 }

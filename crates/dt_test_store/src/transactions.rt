@@ -32,11 +32,11 @@ fn a_move(alloc: Global, procs: &Procs, table: &Table, key: &[u8], target: u8) -
 }
 
 /// A letter for each mode.
-fn letter(mode: Mode) -> &'static [u8] {
+fn letter(mode: Mode) -> u8 {
     match mode {
-        Mode::Read => b"r",
-        Mode::Write => b"w",
-        Mode::Whole => b"W",
+        Mode::Read => b'r',
+        Mode::Write => b'w',
+        Mode::Whole => b'W',
     }
 }
 
@@ -44,7 +44,8 @@ fn letter(mode: Mode) -> &'static [u8] {
 fn put_keys(out: &mut Vec<u8>, keys: &[(Key, Mode)]) -> Result<(), NoMemory> {
     out.push(b':')?;
     for (key, mode) in keys {
-        put_all(out, &[letter(*mode), key.bytes()])?;
+        out.push(letter(*mode))?;
+        out.extend_from_slice(key.bytes())?;
     }
     Ok(())
 }
