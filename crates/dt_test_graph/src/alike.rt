@@ -25,6 +25,7 @@ pub type Step = (Call, Option<&'static [u8]>);
 
 /// What is done at schedulers of n regions, the ids that are asked of after each call, and how many choices of them are asked as a class: 4
 /// for all choices of the first two, 32 of the first five.
+#[derive(Clone, Copy)]
 pub struct Run<'a> {
     pub regions: u8,
     pub steps: &'a [Step],
