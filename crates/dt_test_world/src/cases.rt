@@ -1,14 +1,12 @@
 //! Cases of worlds, each with what comes of its events.
-use crate::scripts::{File, Play};
+use crate::scripts::Play;
 use crate::worlds::Asked;
 use std::alloc::Global;
+use std::mem::forget;
 use std::test::Fail;
 
 /// A cluster, its sessions, their events, and what is to come of them, a line each.
-#[derive(Clone, Copy)]
 struct Case {
-    /// What the case shows.
-    shows: &'static str,
     cluster: &'static [&'static str],
     workload: &'static [&'static str],
     /// The events. Behind a `!` stands the rule by which the event is refused.
@@ -19,7 +17,7 @@ struct Case {
 
 /// The case of what is repeated.
 const REPEATING: Case = Case {
-    shows: "repeated requests and deliveries change nothing, and none is made up",
+    // Repeated requests and deliveries change nothing, and none is made up.
     cluster: &["regions = 2"],
     workload: TWO_PUTS,
     events: REPEATED,
@@ -38,10 +36,10 @@ const REPEATING: Case = Case {
 };
 
 /// The cases.
-const CASES: [Case; 5] = [
+const CASES: &[Case] = &[
     REPEATING,
     Case {
-        shows: "a session is answered by its own region alone",
+        // A session is answered by its own region alone.
         cluster: &["regions = 2"],
         workload: &["session x at 0", "call put \"b\" 1"],
         events: &[
@@ -73,7 +71,7 @@ const CASES: [Case; 5] = [
         ],
     },
     Case {
-        shows: "there are no events of other regions and sessions",
+        // There are no events of other regions and sessions.
         cluster: &["regions = 2"],
         workload: &["session x at 0", "call put \"b\" 1"],
         events: &[
@@ -100,7 +98,7 @@ const CASES: [Case; 5] = [
         report: &["replies", "order", "table 0", "table 1"],
     },
     Case {
-        shows: "moves that wait for each other are resolved",
+        // Moves that wait for each other are resolved.
         cluster: &["regions = 2"],
         workload: &[
             "session n at 0",
@@ -140,7 +138,7 @@ const CASES: [Case; 5] = [
         ],
     },
     Case {
-        shows: "a granule moves with its rows, and nothing else does",
+        // A granule moves with its rows, and nothing else does.
         cluster: &[
             "regions = 2",
             "version = 2",
@@ -253,45 +251,56 @@ const KEPT: &[&str] = &[
 ];
 
 /// The case, as it is tried.
-fn play_of(alloc: Global, case: &Case) -> Result<Play, Fail> {
-    let mut play = Play::new(alloc);
-    fill(&mut play, case)?;
-    Ok(play)
-}
-
 fn fill(play: &mut Play, case: &Case) -> Result<(), Fail> {
     play.cluster.add_all(case.cluster)?;
     play.workload.add_all(case.workload)?;
-    for line in case.events {
-        play.events.add(line, &[])?;
-    }
+    play.events.add_all(case.events)?;
     play.report.add_all(case.report)
+}
+
+/// Whether a case that is tried in this play is reported as it says.
+fn is_reported(alloc: Global, play: &mut Play, case: &Case) -> Result<bool, Fail> {
+    fill(play, case)?;
+    Ok(play.told(alloc, Asked::Report)? == play.wanted(alloc)?)
+}
+
+/// Whether each case is reported as it says. Plays are left to the end of the process: that they may be dropped would be proved here.
+fn all_reported(alloc: Global) -> Result<bool, Fail> {
+    for case in CASES {
+        let mut play = Play::new(alloc);
+        let reported = is_reported(alloc, &mut play, case);
+        forget(play);
+        if !reported? {
+            return Ok(false);
+        }
+    }
+    Ok(true)
 }
 
 #[test]
 fn events_are_refused_by_their_rules_and_the_others_reported(rt: HostRuntime) -> Result<(), Fail> {
-    for case in CASES {
-        let play = play_of(rt.alloc(), &case)?;
-        assert_eq!(rt;
-            play.told(rt.alloc(), Asked::Report)?,
-            play.wanted(rt.alloc())?,
-            "{}",
-            case.shows
-        );
-    }
+    assert!(rt; all_reported(rt.alloc())?);
     Ok(())
 }
 
-/// A text of these lines.
-fn file_of(alloc: Global, lines: &[&str]) -> Result<Vec<u8>, Fail> {
-    let mut file = File::new(alloc);
-    file.add_all(lines)?;
-    file.bytes()
+/// Whether the regions keep these lines of the case that is tried in this play.
+fn are_kept(alloc: Global, play: &mut Play, lines: &[&str]) -> Result<bool, Fail> {
+    fill(play, &REPEATING)?;
+    let kept = play.told(alloc, Asked::Kept)?;
+    play.order.add_all(lines)?;
+    Ok(kept == play.order.bytes()?)
+}
+
+/// Whether they keep their own events that took effect.
+fn own_are_kept(alloc: Global) -> Result<bool, Fail> {
+    let mut play = Play::new(alloc);
+    let kept = are_kept(alloc, &mut play, KEPT);
+    forget(play);
+    kept
 }
 
 #[test]
 fn a_region_keeps_its_own_events_that_took_effect(rt: HostRuntime) -> Result<(), Fail> {
-    let kept = play_of(rt.alloc(), &REPEATING)?.told(rt.alloc(), Asked::Kept)?;
-    assert_eq!(rt; kept, file_of(rt.alloc(), KEPT)?);
+    assert!(rt; own_are_kept(rt.alloc())?);
     Ok(())
 }

@@ -145,13 +145,14 @@ fn place_ranks(events: &mut Script) -> Result<(), Fail> {
 fn run_ranks(events: &mut Script) -> Result<(), Fail> {
     events.add("deliver 0 1 0 10", &[])?;
     for _ in 0..10 {
-        events.add("insert 0 0", &[])?;
-        events.add("insert 0 1", &[])?;
+        events.add_all(&["insert 0 0", "insert 0 1"])?;
     }
-    events.add("execute 0 5.1 !6", &[])?;
-    events.add("resolve 0 1.0 1.1 !5", &[])?;
-    events.add("resolve 0 5.1 5.0 4.1 4.0 3.1 3.0 2.1 2.0 1.1 1.0 !5", &[])?;
-    events.add("resolve 0 1.0 1.1 2.0 2.1 3.0 3.1 4.0 4.1 5.0 5.1", &[])?;
+    events.add_all(&[
+        "execute 0 5.1 !6",
+        "resolve 0 1.0 1.1 !5",
+        "resolve 0 5.1 5.0 4.1 4.0 3.1 3.0 2.1 2.0 1.1 1.0 !5",
+        "resolve 0 1.0 1.1 2.0 2.1 3.0 3.1 4.0 4.1 5.0 5.1",
+    ])?;
     for behind in 0..5 {
         let id = 5 - behind;
         events.add("execute 0 #.0 !6", &[id])?;

@@ -37,6 +37,14 @@ impl File {
         Ok(())
     }
 
+    /// Adds these lines, in which each `$` stands for this name.
+    pub fn add_all_named(&mut self, lines: &[&str], name: &str) -> Result<(), Fail> {
+        for line in lines {
+            self.add_named(line, name, &[])?;
+        }
+        Ok(())
+    }
+
     /// Adds what another text holds.
     pub fn extend(&mut self, other: &File) -> Result<(), Fail> {
         self.bytes.extend_from_slice(other.bytes.as_slice())?;
@@ -92,6 +100,14 @@ impl Script {
     /// Adds an event, in which each `#` stands for the next of these numbers. Behind a `!` stands the rule by which it is refused.
     pub fn add(&mut self, line: &str, numbers: &[u32]) -> Result<(), Fail> {
         self.add_named(line, "", numbers)
+    }
+
+    /// Adds these events.
+    pub fn add_all(&mut self, lines: &[&str]) -> Result<(), Fail> {
+        for line in lines {
+            self.add(line, &[])?;
+        }
+        Ok(())
     }
 
     /// Adds an event, in which also each `$` stands for this name.

@@ -1,19 +1,16 @@
 //! The sessions of one region by themselves: which there are, and when all are answered.
+ghost use Rattle.dt_cluster.specs.Valid.{IsValidCluster};
+
 use crate::worlds::{cluster_of, workload_of};
 use dt_access::TxnId;
+use dt_cluster::Cluster;
 use dt_eval::Values;
 use dt_session::Sessions;
 use dt_text::Name;
 use dt_txn::Outcome;
 use std::alloc::Global;
+use std::mem::forget;
 use std::test::Fail;
-
-/// The sessions of region 0 of two.
-fn sessions_of(alloc: Global, workload: &[u8]) -> Result<Sessions, Fail> {
-    let cluster = cluster_of(alloc, b"regions = 2\n")?;
-    let workload = workload_of(alloc, &cluster, workload)?;
-    Ok(Sessions::new(alloc, &workload, 0, cluster.tries)?)
-}
 
 /// The name of these bytes.
 fn name_of(alloc: Global, bytes: &[u8]) -> Result<Name, Fail> {
@@ -35,7 +32,9 @@ fn submit(sessions: &mut Sessions, name: &Name, seq: u32) -> Result<(), Fail> {
 /// A session is answered.
 fn answer(alloc: Global, sessions: &mut Sessions, name: &Name) -> Result<(), Fail> {
     let outcome = Outcome::Gave(Values::new(alloc));
-    if !sessions.answer(name, Some(&outcome)) {
+    let is_answered = sessions.answer(name, Some(&outcome));
+    forget(outcome);
+    if !is_answered {
         return Err(Fail::from("the session is answered"));
     }
     Ok(())
@@ -74,13 +73,39 @@ fn seen_of(alloc: Global, sessions: &Sessions) -> Result<Vec<u8>, Fail> {
     Ok(seen)
 }
 
-/// What is seen of the sessions of region 0 after these steps. The sessions are made and dropped here alone.
-fn seen_after(alloc: Global, workload: &[u8], steps: &[Step]) -> Result<Vec<u8>, Fail> {
-    let mut sessions = sessions_of(alloc, workload)?;
+/// What is seen of the sessions after these steps.
+fn seen_by(alloc: Global, sessions: &mut Sessions, steps: &[Step]) -> Result<Vec<u8>, Fail> {
     for step in steps {
-        make(alloc, &mut sessions, *step)?;
+        make(alloc, sessions, *step)?;
     }
-    seen_of(alloc, &sessions)
+    seen_of(alloc, sessions)
+}
+
+/// What is seen of the sessions of region 0 of a cluster after these steps.
+fn seen_on(
+    alloc: Global,
+    cluster: &Cluster,
+    workload: &[u8],
+    steps: &[Step],
+) -> Result<Vec<u8>, Fail>
+    requires { IsValidCluster cluster.now }
+{
+    let workload = workload_of(alloc, cluster, workload)?;
+    let sessions = Sessions::new(alloc, &workload, 0, cluster.tries);
+    forget(workload);
+    let mut sessions = sessions?;
+    let seen = seen_by(alloc, &mut sessions, steps);
+    forget(sessions);
+    seen
+}
+
+/// What is seen of the sessions of region 0 of two after these steps. Sessions, workload and cluster are left to the end of the process:
+/// that they may be dropped would be proved in each function that owns one.
+fn seen_after(alloc: Global, workload: &[u8], steps: &[Step]) -> Result<Vec<u8>, Fail> {
+    let cluster = cluster_of(alloc, b"regions = 2\n")?;
+    let seen = seen_on(alloc, &cluster, workload, steps);
+    forget(cluster);
+    seen
 }
 
 /// A session with a call.
@@ -91,7 +116,7 @@ const TWO: &[u8] =
     b"session y at 0\ncall get \"b\"\ncall get \"b\"\nsession x at 0\ncall get \"b\"\nsession z at 1\ncall get \"b\"\n";
 
 /// Sessions, steps of theirs, and what is seen then.
-const CASES: [(&[u8], &[Step], &[u8]); 14] = [
+const CASES: &[(&[u8], &[Step], &[u8])] = &[
     // There are those of the region alone, in the order of their names.
     (
         b"session y at 0\ncall put \"b\" 1\nsession z at 1\nsession x at 0\n",
@@ -160,12 +185,20 @@ const CASES: [(&[u8], &[Step], &[u8]); 14] = [
     ),
 ];
 
+/// Whether in each case is seen what it says.
+fn all_seen(alloc: Global) -> Result<bool, Fail> {
+    for (workload, steps, want) in CASES {
+        if seen_after(alloc, workload, steps)?.as_slice() != *want {
+            return Ok(false);
+        }
+    }
+    Ok(true)
+}
+
 #[test]
 fn sessions_stand_by_their_names_with_what_they_wait_for_until_all_are_answered(
     rt: HostRuntime,
 ) -> Result<(), Fail> {
-    for (workload, steps, want) in CASES {
-        assert_eq!(rt; seen_after(rt.alloc(), workload, steps)?.as_slice(), want);
-    }
+    assert!(rt; all_seen(rt.alloc())?);
     Ok(())
 }

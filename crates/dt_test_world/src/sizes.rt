@@ -4,10 +4,11 @@ use crate::scripts::{File, Play, Script};
 use crate::tries::tries_of_a_call;
 use crate::worlds::Asked;
 use std::alloc::Global;
+use std::mem::forget;
 use std::test::Fail;
 
 /// What is many.
-#[derive(Clone, Copy, Debug)]
+#[derive(Clone, Copy)]
 enum Size {
     /// Transfers in a circle, one at each of n regions; their ids, and whether their ranks descend while their ids ascend.
     Circle(u32, &'static str, bool),
@@ -23,13 +24,7 @@ enum Size {
     Rows(u32, &'static str),
 }
 
-/// The world of this size.
-fn play_of(alloc: Global, size: Size) -> Result<Play, Fail> {
-    let mut play = Play::new(alloc);
-    fill(&mut play, size)?;
-    Ok(play)
-}
-
+/// The world of this size, as it is tried.
 fn fill(play: &mut Play, size: Size) -> Result<(), Fail> {
     match size {
         Size::Circle(regions, ids, descending) => circle(play, regions, ids, descending),
@@ -48,10 +43,24 @@ const LONG_NAME: &str =
 const LONGEST_NAME: &str =
     "bbbbbbbbbbbbbbbbbbbbbbbbbbbbbbbbbbbbbbbbbbbbbbbbbbbbbbbbbbbbbbbbbbbbbbbbbbbbbbbbbbbbbbbbbbbbbbbbbbbbbbbbbbbbbbbbbbbbbbbbbbbbbbbb";
 
-/// Whether all comes of the world of this size that is to come of it.
-fn comes_as_wanted(alloc: Global, size: Size) -> Result<bool, Fail> {
-    let play = play_of(alloc, size)?;
+/// Whether all comes of the world of this size, which is tried in this play, that is to come of it.
+fn comes_as_wanted(alloc: Global, play: &mut Play, size: Size) -> Result<bool, Fail> {
+    fill(play, size)?;
     Ok(play.told(alloc, Asked::Report)? == play.wanted(alloc)?)
+}
+
+/// Whether all comes of the worlds of these sizes. Plays are left to the end of the process: that they may be dropped would be proved
+/// here.
+fn all_come(alloc: Global, sizes: &[Size]) -> Result<bool, Fail> {
+    for size in sizes {
+        let mut play = Play::new(alloc);
+        let comes = comes_as_wanted(alloc, &mut play, *size);
+        forget(play);
+        if !comes? {
+            return Ok(false);
+        }
+    }
+    Ok(true)
 }
 
 /// Groups that are resolved.
@@ -66,9 +75,7 @@ const GROUPS: [Size; 6] = [
 
 #[test]
 fn groups_have_many_members(rt: HostRuntime) -> Result<(), Fail> {
-    for size in GROUPS {
-        assert!(rt; comes_as_wanted(rt.alloc(), size)?, "{size:?}");
-    }
+    assert!(rt; all_come(rt.alloc(), &GROUPS)?);
     Ok(())
 }
 
@@ -90,9 +97,7 @@ const OTHERS: [Size; 11] = [
 
 #[test]
 fn there_are_many_homes_tries_calls_sessions_and_rows(rt: HostRuntime) -> Result<(), Fail> {
-    for size in OTHERS {
-        assert!(rt; comes_as_wanted(rt.alloc(), size)?, "{size:?}");
-    }
+    assert!(rt; all_come(rt.alloc(), &OTHERS)?);
     Ok(())
 }
 
@@ -267,15 +272,9 @@ const MOVED: [&str; 18] = [
 /// A granule of this name, of n rows. It is moved, and the name itself, which is a key of it too, gets a value.
 fn rows_of_a_granule(play: &mut Play, rows: u32, name: &str) -> Result<(), Fail> {
     play.cluster.add("regions = 2\nversion = 2\n[rows]", &[])?;
-    for line in MOVED_WORKLOAD {
-        play.workload.add_named(line, name, &[])?;
-    }
-    for line in MOVED {
-        play.events.add(line, &[])?;
-    }
-    for line in MOVED_REPORT {
-        play.report.add_named(line, name, &[])?;
-    }
+    play.workload.add_all_named(&MOVED_WORKLOAD, name)?;
+    play.events.add_all(&MOVED)?;
+    play.report.add_all_named(&MOVED_REPORT, name)?;
     play.order.add("table 1", &[])?;
     put_rows(play, rows, name)
 }

@@ -16,8 +16,7 @@ pub fn tries_of_a_call(play: &mut Play, tries: u32, moves: u32) -> Result<(), Fa
     if moves < tries {
         try_alone(&mut play.events, moves)?;
     }
-    play.events.add("submit 0 p !1", &[])?;
-    play.events.add("answer 0 p", &[])?;
+    play.events.add_all(&["submit 0 p !1", "answer 0 p"])?;
     report_tries(play, tries, moves)
 }
 
@@ -46,9 +45,7 @@ fn take(events: &mut Script, home: u32, number: u32) -> Result<(), Fail> {
 fn move_meanwhile(events: &mut Script, tries: u32, number: u32) -> Result<(), Fail> {
     let (first, second) = requests_of(number);
     let (id, last) = ids_of(number);
-    events.add("submit 0 m", &[])?;
-    events.add("submit 0 p", &[])?;
-    events.add("submit 0 p !1", &[])?;
+    events.add_all(&["submit 0 m", "submit 0 p", "submit 0 p !1"])?;
     take(events, 0, first)?;
     take(events, 1, second)?;
     if number % 2 == 0 {
@@ -56,14 +53,19 @@ fn move_meanwhile(events: &mut Script, tries: u32, number: u32) -> Result<(), Fa
     } else {
         take(events, 1, second.saturating_add(1))?;
     }
-    events.add("execute 0 #.0 !6", &[last])?;
-    events.add("execute 0 #.0", &[id])?;
-    events.add("execute 0 #.0", &[last])?;
+    execute_both(events, id, last)?;
     events.add("answer 0 m", &[])?;
     if number.saturating_add(1) < tries {
         events.add("answer 0 p !7", &[])?;
     }
     Ok(())
+}
+
+/// Region 0 executes a move, and then the try that goes with it.
+fn execute_both(events: &mut Script, id: u32, last: u32) -> Result<(), Fail> {
+    events.add("execute 0 #.0 !6", &[last])?;
+    events.add("execute 0 #.0", &[id])?;
+    events.add("execute 0 #.0", &[last])
 }
 
 /// A try after n moves, and no move meanwhile.

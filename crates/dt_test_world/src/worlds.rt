@@ -13,6 +13,7 @@ use dt_text::NoMemory;
 use dt_workload::{Workload, WorkloadError, read_workload};
 use dt_world::{StepError, World};
 use std::alloc::Global;
+use std::mem::forget;
 use std::test::Fail;
 
 /// More bytes and more events than a test has.
@@ -114,7 +115,46 @@ pub enum Asked {
     Kept,
 }
 
-/// What comes of events on a cluster and its workload. The world is made and dropped here alone.
+/// What comes of events in a world before anything happens, of n regions.
+fn told_by(
+    world: &mut World<PlainSched>,
+    alloc: Global,
+    regions: u8,
+    events: &[u8],
+    asked: Asked,
+) -> Result<Vec<u8>, Fail>
+    requires led { HasLed world.old [] }
+    requires steps { world.old.steps ≡ 0 }
+    requires regions { regions ≡ world.old.cluster.regions }
+{
+    let (made, refused) = play(world, alloc, events)?;
+    match asked {
+        Asked::Report => reported(alloc, world, made, refused),
+        Asked::Kept => kept(alloc, world, regions),
+    }
+}
+
+/// What comes of events on a cluster and a workload of it.
+fn told_on(
+    alloc: Global,
+    cluster: &Cluster,
+    workload: &[u8],
+    events: &[u8],
+    asked: Asked,
+) -> Result<Vec<u8>, Fail>
+    requires { IsValidCluster cluster.now }
+{
+    let workload = workload_of(alloc, cluster, workload)?;
+    let world = World::begin(alloc, cluster, &workload);
+    forget(workload);
+    let mut world = world?;
+    let told = told_by(&mut world, alloc, cluster.regions, events, asked);
+    forget(world);
+    told
+}
+
+/// What comes of events on a cluster and its workload. The world, the workload and the cluster are left to the end of the process: that
+/// they may be dropped would be proved in each function that owns one.
 pub fn told(
     alloc: Global,
     cluster: &[u8],
@@ -123,13 +163,9 @@ pub fn told(
     asked: Asked,
 ) -> Result<Vec<u8>, Fail> {
     let cluster = cluster_of(alloc, cluster)?;
-    let workload = workload_of(alloc, &cluster, workload)?;
-    let mut world = World::begin(alloc, &cluster, &workload)?;
-    let (made, refused) = play(&mut world, alloc, events)?;
-    match asked {
-        Asked::Report => reported(alloc, &world, made, refused),
-        Asked::Kept => kept(alloc, &world, cluster.regions),
-    }
+    let told = told_on(alloc, &cluster, workload, events, asked);
+    forget(cluster);
+    told
 }
 
 /// The report of the events that led to a world, behind these lines.
@@ -142,8 +178,10 @@ fn reported(
     requires { HasLed world.now made.items }
 {
     let report = world.report(alloc, made)?;
+    let text = print(alloc, &report);
+    forget(report);
     let mut told = lines;
-    told.extend_from_slice(print(alloc, &report)?.as_slice())?;
+    told.extend_from_slice(text?.as_slice())?;
     Ok(told)
 }
 
