@@ -11,7 +11,7 @@ pub use Rattle.dt_agreement.proofs.Annotations.{unmoved_at_first, body_fits, ver
 pub use Rattle.dt_agreement.proofs.AllAgree.{lookup_has, answered_done}
 pub use Rattle.dt_agreement.proofs.WaitingSessions.{WaitsAt}
 pub use Rattle.dt_agreement.proofs.Rule1Submit.{Submits}
-pub use Rattle.dt_agreement.proofs.Rule2Append.{IsRequest, IsNextRequest}
+pub use Rattle.dt_agreement.proofs.Rule2Append.{IsRequest}
 use Rattle.std.proofs.Common.{◌≡◌, ◌<◌, ◌≤◌, ◌⊎◌, ℕ, List, [], ◌∷◌, ◌++◌, length, set, slice_get, Some, subst}
 use Rattle.dt_lists.specs.Lists.{AllIn, Has, Distinct}
 use Rattle.dt_lists.proofs.Callers.{all_get}
@@ -39,6 +39,7 @@ use Rattle.dt_agreement.proofs.Logs.{log_once}
 use Rattle.dt_agreement.proofs.RegionViews as views
 use Rattle.dt_agreement.proofs.Rule1Submit as rule1
 use Rattle.dt_agreement.proofs.WaitingSessions as waiting
+use Rattle.dt_agreement.proofs.Rule2Append.{IsNextRequest}
 use Rattle.dt_agreement.proofs.Rule2Append as rule2
 use Rattle.dt_agreement.proofs.Rule6Execute as rule6
 use Rattle.dt_agreement.proofs.LegalWorlds as worlds

@@ -1,6 +1,6 @@
 -- What is found by its id: among transactions, in a map, and among those that a region counted.
 use Rattle.std.proofs.Common.{◌≡◌, ◌≢◌, ◌<◌, ◌+◌, ◌⊎◌, ℕ, zero, suc, true, false, cond, List, [], ◌∷◌, ◌++◌, map, Option, Some, None}
-use Rattle.std.proofs.Common.{slice_get, refl, sym, ap, ap₂, subst, ◌∙◌, inl, inr, is_some, if◌then◌else◌, arith}
+use Rattle.std.proofs.Common.{slice_get, refl, sym, ap, ap₂, ◌∙◌, inl, inr, is_some, if◌then◌else◌, arith}
 use Rattle.std.proofs.lemmas.Bool.{false≢true}
 use Rattle.std.proofs.lemmas.Option.{same_Some}
 use Rattle.std.specs.Map.{lookup}

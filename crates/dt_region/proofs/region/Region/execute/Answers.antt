@@ -1,4 +1,4 @@
-use Rattle.std.proofs.Common.{◌+◌, sym, ap, subst, ◌∙◌}
+use Rattle.std.proofs.Common.{sym, subst}
 use Rattle.dt_region.specs.Region.{RegionView}
 use Rattle.dt_region.specs.Conditions.{ComesTo, HasRun}
 use Rattle.dt_region.proofs.Rule6Execute.{can_shown, execute_held, execute_made}
