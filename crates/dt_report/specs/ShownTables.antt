@@ -1,5 +1,5 @@
--- What tables show that are lent and not listed first: one learns here what `print_shown` reports of the tables of all regions,
--- whose rows it writes one by one, since a list of all of them would take much memory. Read next: Report.antt, for their text.
+-- What tables show that are lent and not listed first: one learns here what `put_all_shown` writes of the tables of all regions,
+-- row by row, since a list of all rows would take much memory. Read next: Report.antt, for their text.
 use Rattle.std.specs.Prelude.{List, map}
 use Rattle.std.specs.Borrow.{Bor}
 use Rattle.dt_table.specs.Table.{TableView, shown}

@@ -9,7 +9,7 @@ use dt_text::NoMemory;
 use std::alloc::Global;
 
 /// Appends the line of a reply.
-pub(crate) fn put_reply(alloc: Global, out: &mut Vec<u8>, reply: &Reply) -> Result<(), NoMemory>
+pub fn put_reply(alloc: Global, out: &mut Vec<u8>, reply: &Reply) -> Result<(), NoMemory>
     ensures { OnOk result (out.new.items ≡ out.old.items ++ reply_line reply.now) }
 {
     out.extend_from_slice(b"reply")?;
@@ -21,7 +21,7 @@ pub(crate) fn put_reply(alloc: Global, out: &mut Vec<u8>, reply: &Reply) -> Resu
 }
 
 /// Appends the line of an executed attempt.
-pub(crate) fn put_ran(alloc: Global, out: &mut Vec<u8>, ran: &Ran) -> Result<(), NoMemory>
+pub fn put_ran(alloc: Global, out: &mut Vec<u8>, ran: &Ran) -> Result<(), NoMemory>
     ensures { OnOk result (out.new.items ≡ out.old.items ++ ran_line ran.now) }
 {
     put_id(alloc, out, ran.id)?;

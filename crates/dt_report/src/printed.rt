@@ -30,24 +30,14 @@ pub fn print(alloc: Global, report: &Report) -> Result<Vec<u8>, NoMemory>
     Ok(text)
 }
 
-/// The text of the report with these replies, this order, what these tables show, and these events. One row is written at a time, so
-/// that no list is made of what the tables show. The only error is running out of memory.
-pub fn print_shown(
-    alloc: Global,
-    replies: &[Reply],
-    order: &[Ran],
-    tables: &[&Table],
-    events: &[Event],
-) -> Result<Vec<u8>, NoMemory>
-    ensures { IfOk result (λ text. text.items ≡ report_text (record { replies = replies.now; order = order.now; tables = all_shown tables.now; events = events.now })) }
+/// The first line of a report, in a text that has room for about as much as most reports of so many events have, so that it is
+/// moved as seldom as may be while it grows. The only error is running out of memory.
+pub fn begin_text(alloc: Global, events: usize) -> Result<Vec<u8>, NoMemory>
+    ensures { IfOk result (λ text. text.items ≡ replies_text []) }
 {
-    // Room for about as much as most reports have, so that the text is moved as seldom as may be while it grows.
-    let room = events.len().saturating_mul(BYTES_OF_AN_EVENT);
+    let room = events.saturating_mul(BYTES_OF_AN_EVENT);
     let mut text = Vec::with_capacity(alloc, room)?;
-    put_replies(alloc, &mut text, replies)?;
-    put_order(alloc, &mut text, order)?;
-    put_all_shown(alloc, &mut text, tables)?;
-    put_events(alloc, &mut text, events)?;
+    begin_replies(&mut text)?;
     Ok(text)
 }
 
@@ -55,10 +45,18 @@ pub fn print_shown(
 fn put_replies(alloc: Global, out: &mut Vec<u8>, replies: &[Reply]) -> Result<(), NoMemory>
     ensures { OnOk result (out.new.items ≡ out.old.items ++ replies_text replies.now) }
 {
-    out.extend_from_slice(b"replies\n")?;
+    begin_replies(out)?;
     for reply in replies {
         put_reply(alloc, out, reply)?;
     }
+    Ok(())
+}
+
+/// Appends the line before the answers.
+fn begin_replies(out: &mut Vec<u8>) -> Result<(), NoMemory>
+    ensures { OnOk result (out.new.items ≡ out.old.items ++ replies_text []) }
+{
+    out.extend_from_slice(b"replies\n")?;
     Ok(())
 }
 
@@ -66,10 +64,18 @@ fn put_replies(alloc: Global, out: &mut Vec<u8>, replies: &[Reply]) -> Result<()
 fn put_order(alloc: Global, out: &mut Vec<u8>, order: &[Ran]) -> Result<(), NoMemory>
     ensures { OnOk result (out.new.items ≡ out.old.items ++ order_text order.now) }
 {
-    out.extend_from_slice(b"order\n")?;
+    begin_order(out)?;
     for ran in order {
         put_ran(alloc, out, ran)?;
     }
+    Ok(())
+}
+
+/// Appends the line before the executed attempts.
+pub fn begin_order(out: &mut Vec<u8>) -> Result<(), NoMemory>
+    ensures { OnOk result (out.new.items ≡ out.old.items ++ order_text []) }
+{
+    out.extend_from_slice(b"order\n")?;
     Ok(())
 }
 
@@ -94,8 +100,9 @@ fn put_table(alloc: Global, out: &mut Vec<u8>, region: u64, rows: &[Shown]) -> R
     Ok(())
 }
 
-/// Appends the section of what each region's table shows.
-fn put_all_shown(alloc: Global, out: &mut Vec<u8>, tables: &[&Table]) -> Result<(), NoMemory>
+/// Appends the section of what each region's table shows. One row is written at a time, so that no list is made of what the tables
+/// show.
+pub fn put_all_shown(alloc: Global, out: &mut Vec<u8>, tables: &[&Table]) -> Result<(), NoMemory>
     ensures { OnOk result (out.new.items ≡ out.old.items ++ tables_text 0 (all_shown tables.now)) }
 {
     for (region, table) in tables.iter().enumerate() {
@@ -126,8 +133,8 @@ fn put_head(alloc: Global, out: &mut Vec<u8>, region: u64) -> Result<(), NoMemor
     Ok(())
 }
 
-/// Appends the section of the events.
-fn put_events(alloc: Global, out: &mut Vec<u8>, events: &[Event]) -> Result<(), NoMemory>
+/// Appends the section of the events, which is the last.
+pub fn put_events(alloc: Global, out: &mut Vec<u8>, events: &[Event]) -> Result<(), NoMemory>
     ensures { OnOk result (out.new.items ≡ out.old.items ++ events_text events.now) }
 {
     out.extend_from_slice(b"events\n")?;
