@@ -34,7 +34,7 @@ use Rattle.dt_session.specs.World.{no_node, opening_node, opening_table}
 use Rattle.dt_session.proofs.Callers.{seat_found}
 use Rattle.dt_site.proofs.Callers.{opening_sessions_stand}
 use Rattle.dt_node.specs.NodeView.{NodeView, new_items, number_of}
-use Rattle.dt_node.specs.Standing.{NodeFits}
+use Rattle.dt_node.specs.NodeInWorld.{NodeFits}
 use Rattle.dt_node.specs.Turn.{BeginsEagerly, HasGone, HasPlacedOwn, MayAnswerAt, MaySubmitAt, last_at}
 use Rattle.dt_node.specs.Steps.{AllWhoMight, is_own, own_to_place, placings}
 use Rattle.dt_node.specs.StepsInner.{IsAnswering, IsSubmission, StepsAt}

@@ -23,7 +23,7 @@ use Rattle.dt_session.specs.World.{asked_of}
 use Rattle.dt_session.specs.Run.{world_after}
 use Rattle.dt_site.specs.Site.{in_region}
 use Rattle.dt_node.specs.NodeView.{NodeView, number_of}
-use Rattle.dt_node.specs.Standing.{AreTold}
+use Rattle.dt_node.specs.NodeInWorld.{AreTold}
 use Rattle.dt_node.specs.Steps.{receipt}
 use Rattle.dt_node.specs.StepsInner.{HasPlaced, HasReceived, IsPlacedTo}
 use Rattle.dt_node.specs.TurnInner.{CanTake, MovesOn, asking_packet, logging_packet}

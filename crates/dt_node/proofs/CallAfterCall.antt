@@ -17,7 +17,7 @@ use Rattle.dt_cluster.specs.declared.Cluster.{Cluster}
 use Rattle.dt_workload.specs.declared.Workload.{Workload}
 use Rattle.dt_merge.specs.Merge.{region_at}
 use Rattle.dt_node.specs.NodeView.{NodeView, new_items, number_of}
-use Rattle.dt_node.specs.Standing.{AreTold, NodeFits}
+use Rattle.dt_node.specs.NodeInWorld.{AreTold, NodeFits}
 use Rattle.dt_node.specs.Turn.{GoesAfter, HasGone, IsBroughtBy, greatest}
 use Rattle.dt_node.specs.TurnInner.{MovesOn}
 use Rattle.dt_node.proofs.EventsGoOn.{goes_more, goes_none}

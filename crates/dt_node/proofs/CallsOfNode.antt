@@ -28,7 +28,7 @@ use Rattle.dt_session.specs.Sessions.{after_answer, after_wait}
 use Rattle.dt_site.specs.declared.Origin.{Origin}
 use Rattle.dt_site.specs.Site.{SiteView, MakesAttempt, in_region}
 use Rattle.dt_node.specs.NodeView.{NodeView, number_of}
-use Rattle.dt_node.specs.Standing.{AreTold, NodeFits}
+use Rattle.dt_node.specs.NodeInWorld.{AreTold, NodeFits}
 use Rattle.dt_node.specs.Turn.{GoesAfter, IsBroughtBy, MayAnswerAt}
 use Rattle.dt_node.specs.Steps.{IsNextAt}
 use Rattle.dt_node.specs.TurnInner.{MovesOn}

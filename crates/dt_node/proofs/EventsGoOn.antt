@@ -16,7 +16,7 @@ use Rattle.dt_site.specs.Site.{node_of}
 use Rattle.dt_site.specs.StandsIn.{IsReached, StandsIn}
 use Rattle.dt_site.proofs.Callers.{Steps, after_more, run_more}
 use Rattle.dt_node.specs.NodeView.{NodeView, number_of}
-use Rattle.dt_node.specs.Standing.{KnowsNoMore, NodeFits}
+use Rattle.dt_node.specs.NodeInWorld.{KnowsNoMore, NodeFits}
 use Rattle.dt_node.specs.Turn.{GoesAfter}
 
 pub change_append : (cluster : Cluster) (workload : Workload) (w : World) (xs ys : List Event) → AllChange cluster workload w xs → AllChange cluster workload (world_from cluster workload w xs) ys

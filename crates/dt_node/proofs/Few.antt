@@ -8,7 +8,7 @@ use Rattle.dt_merge.specs.Weight.{most_events}
 use Rattle.dt_merge.specs.WorldRegions.{HasInvariant}
 use Rattle.dt_merge.proofs.Callers.{events_few, most_few, opening_good}
 use Rattle.dt_node.specs.NodeView.{NodeView}
-use Rattle.dt_node.specs.Standing.{NodeFits}
+use Rattle.dt_node.specs.NodeInWorld.{NodeFits}
 
 -- the events after which a node stands in the world
 pub few_events : {cluster : Cluster} {workload : Workload} {events : List Event} {n : NodeView} → NodeFits cluster workload events n → length events ≤ 24640000

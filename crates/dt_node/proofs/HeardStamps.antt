@@ -13,7 +13,7 @@ use Rattle.dt_workload.specs.declared.Workload.{Workload}
 use Rattle.dt_session.specs.World.{World, received_of, taken_of}
 use Rattle.dt_session.specs.Run.{world_after}
 use Rattle.dt_node.specs.NodeView.{NodeView, heard_by, number_of}
-use Rattle.dt_node.specs.Standing.{AreTold, KnowsNoMore, NodeFits}
+use Rattle.dt_node.specs.NodeInWorld.{AreTold, KnowsNoMore, NodeFits}
 use Rattle.dt_node.specs.Turn.{HasHeard}
 use Rattle.dt_node.specs.TurnInner.{MovesOn, noted}
 use Rattle.dt_node.proofs.CallAfterCall.{made_none}

@@ -20,7 +20,7 @@ use Rattle.dt_agreement.proofs.Callers.{IsRequest, request_is, txn_id}
 use Rattle.dt_site.specs.Site.{in_region}
 use Rattle.dt_site.proofs.Callers.{attempts_have, find_some, inv, order}
 use Rattle.dt_node.specs.NodeView.{NodeView, number_of}
-use Rattle.dt_node.specs.Standing.{NodeFits}
+use Rattle.dt_node.specs.NodeInWorld.{NodeFits}
 use Rattle.dt_node.specs.Turn.{HasPlacedOwn}
 use Rattle.dt_node.specs.TurnInner.{CanTake, MovesOn}
 use Rattle.dt_node.proofs.EventsGoOn.{reached}

@@ -16,7 +16,7 @@ use Rattle.dt_node.proofs.CallAfterCall.{moves_more}
 use Rattle.dt_node.proofs.RisingStamps.{rise_same, rise_with}
 use Rattle.dt_node.specs.NodeView.{NodeView, new_items, number_of}
 use Rattle.dt_node.specs.Packets.{IsToldOf}
-use Rattle.dt_node.specs.Standing.{AreTold}
+use Rattle.dt_node.specs.NodeInWorld.{AreTold}
 use Rattle.dt_node.specs.Turn.{BringsEntries, BringsRequest, HasGone, IsBroughtBy}
 use Rattle.dt_node.specs.TurnInner.{CanTake, MovesOn, asking_packet, logging_packet}
 

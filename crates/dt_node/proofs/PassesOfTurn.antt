@@ -18,7 +18,7 @@ use Rattle.dt_packet.specs.declared.packet.Packet.{Packet}
 use Rattle.dt_node.specs.Measure.{left_for}
 use Rattle.dt_node.specs.NodeView.{NodeView, new_items, number_of}
 use Rattle.dt_node.specs.Sending.{IsReady}
-use Rattle.dt_node.specs.Standing.{NodeStands}
+use Rattle.dt_node.specs.NodeInWorld.{NodeStands}
 use Rattle.dt_node.specs.Turn.{BeginsEagerly, HasPlacedOwn, HasTaken, IsSettled, MayAnswerAt, MaySubmitAt}
 use Rattle.dt_node.specs.Steps.{AllWhoMight, HasMadePasses, HasMadeRound, HasTakenEach, HasTurned, IsPass}
 use Rattle.dt_node.specs.StepsInner.{IsAnswering, IsSubmission}

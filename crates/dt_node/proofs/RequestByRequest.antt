@@ -14,7 +14,7 @@ use Rattle.dt_session.specs.World.{World, asked_of}
 use Rattle.dt_session.specs.Run.{world_after}
 use Rattle.dt_node.specs.NodeView.{NodeView, new_items, number_of}
 use Rattle.dt_node.specs.Packets.{IsToldOf}
-use Rattle.dt_node.specs.Standing.{AreTold}
+use Rattle.dt_node.specs.NodeInWorld.{AreTold}
 use Rattle.dt_node.specs.Turn.{BringsEntries, BringsRequest, HasPlacedOwn, IsBroughtBy}
 use Rattle.dt_node.specs.StepsInner.{HasPlaced, IsPlacedTo}
 use Rattle.dt_node.specs.TurnInner.{CanTake, IsPlacing, KnowsTheSame, MovesOn, asking_packet}

@@ -29,7 +29,7 @@ use Rattle.dt_site.specs.StandsIn.{IsReached, StandsIn}
 use Rattle.dt_round.specs.Rounds.{after_steps}
 use Rattle.dt_site.proofs.Callers.{after_more, held_in_log, inv, received_stay, run_more, sessions_stay, txns_stay}
 use Rattle.dt_node.specs.NodeView.{NodeView, number_of}
-use Rattle.dt_node.specs.Standing.{KnowsNoMore, NodeFits}
+use Rattle.dt_node.specs.NodeInWorld.{KnowsNoMore, NodeFits}
 use Rattle.dt_node.specs.Turn.{GoesAfter}
 use Rattle.dt_node.proofs.EventsGoOn.{change_append, reached}
 

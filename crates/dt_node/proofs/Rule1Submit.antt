@@ -27,7 +27,7 @@ use Rattle.dt_site.specs.StandsIn.{IsReached}
 use Rattle.dt_site.proofs.Callers.{HasShortLists, Steps, Submits, after_more, fits_region, ids, inv, kept_here, legal_short}
 use Rattle.dt_site.proofs.Callers.{many_here, numbers_are, order, origin_for, places_then, run_more, sessions_changed, submit_legal, submit_made, waits_next}
 use Rattle.dt_node.specs.NodeView.{NodeView, number_of}
-use Rattle.dt_node.specs.Standing.{NodeFits}
+use Rattle.dt_node.specs.NodeInWorld.{NodeFits}
 use Rattle.dt_node.specs.Turn.{GoesAfter, last_at}
 use Rattle.dt_node.specs.Steps.{IsNextAt}
 use Rattle.dt_node.proofs.Rule7Answer.{go_submit, seats_kept}

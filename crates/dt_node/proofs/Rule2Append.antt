@@ -17,7 +17,7 @@ use Rattle.dt_session.specs.Run.{world_after}
 use Rattle.dt_site.specs.Site.{in_region}
 use Rattle.dt_site.proofs.Callers.{HasShortLists, Steps, append_made, can_append, legal_short, sessions_stay}
 use Rattle.dt_node.specs.NodeView.{NodeView, number_of}
-use Rattle.dt_node.specs.Standing.{NodeFits}
+use Rattle.dt_node.specs.NodeInWorld.{NodeFits}
 use Rattle.dt_node.specs.Turn.{GoesAfter}
 use Rattle.dt_node.proofs.EventsGoOn.{one_goes, reached}
 

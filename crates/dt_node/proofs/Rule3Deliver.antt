@@ -22,7 +22,7 @@ use Rattle.dt_site.specs.Site.{in_region}
 use Rattle.dt_site.specs.StandsIn.{IsReached}
 use Rattle.dt_site.proofs.Callers.{HasShortLists, Steps, after_more, can_deliver, deliver_made, has_received, joins, legal_short, run_more, sessions_stay}
 use Rattle.dt_node.specs.NodeView.{NodeView, number_of}
-use Rattle.dt_node.specs.Standing.{NodeFits}
+use Rattle.dt_node.specs.NodeInWorld.{NodeFits}
 use Rattle.dt_node.specs.Turn.{GoesAfter}
 use Rattle.dt_node.proofs.EventsGoOn.{one_goes, reached}
 

@@ -23,7 +23,7 @@ use Rattle.dt_site.specs.SessionsStandIn.{SessionsStandIn, seat_in}
 use Rattle.dt_site.specs.Site.{in_region}
 use Rattle.dt_site.proofs.Callers.{answer_legal, answer_made, answered_places, inv, kept_here, last_in, may_answer, may_submit, outcome_here, seat_changed, sessions_changed}
 use Rattle.dt_node.specs.NodeView.{NodeView, number_of}
-use Rattle.dt_node.specs.Standing.{NodeFits}
+use Rattle.dt_node.specs.NodeInWorld.{NodeFits}
 use Rattle.dt_node.specs.Turn.{GoesAfter, last_at}
 use Rattle.dt_node.proofs.EventsGoOn.{one_goes, reached}
 

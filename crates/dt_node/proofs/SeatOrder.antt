@@ -24,7 +24,7 @@ use Rattle.dt_session.specs.Sessions.{idle_seat, is_named}
 use Rattle.dt_session.proofs.Callers.{same_name, seat_found, sessions_at_all, with_session_all}
 use Rattle.dt_site.proofs.Callers.{opening_sessions_stand}
 use Rattle.dt_node.specs.NodeView.{NodeView, number_of}
-use Rattle.dt_node.specs.Standing.{NodeFits}
+use Rattle.dt_node.specs.NodeInWorld.{NodeFits}
 
 -- a name is not before itself
 pub not_before : (name : Bytes) → ¬ (KeyBefore name name)

@@ -16,7 +16,7 @@ use Rattle.dt_session.specs.Sessions.{MayBeAnswered, MayGo, SessionsView, waits_
 use Rattle.dt_session.specs.World.{World, node_at, outcome_in}
 use Rattle.dt_session.specs.Run.{world_after}
 use Rattle.dt_node.specs.NodeView.{NodeView, new_items, number_of}
-use Rattle.dt_node.specs.Standing.{NodeFits}
+use Rattle.dt_node.specs.NodeInWorld.{NodeFits}
 use Rattle.dt_node.specs.Turn.{BeginsEagerly, GoesAfter, HasGone, HasPlacedOwn, IsSettled, IsStill, MadeNoneOrWent, MayAnswerAt, MaySubmitAt, last_at}
 use Rattle.dt_node.specs.TurnInner.{CanGo, MovesOn, PassesOnce}
 use Rattle.dt_node.proofs.CallAfterCall.{made_none, new_joined, new_none}

@@ -15,7 +15,7 @@ use Rattle.dt_session.specs.World.{opening_table}
 use Rattle.dt_site.specs.declared.Origin.{Origin}
 use Rattle.dt_site.specs.Site.{MakesAttempt}
 use Rattle.dt_node.specs.NodeView.{NodeView, new_items, number_of}
-use Rattle.dt_node.specs.Standing.{NodeFits}
+use Rattle.dt_node.specs.NodeInWorld.{NodeFits}
 use Rattle.dt_node.specs.Turn.{HasPlacedOwn}
 use Rattle.dt_node.specs.StepsInner.{HasPlaced}
 use Rattle.dt_node.specs.TurnInner.{MovesOn}

@@ -1,6 +1,6 @@
 pub mod NodeView
 pub mod Packets
-pub mod Standing
+pub mod NodeInWorld
 pub mod Turn
 pub mod Steps
 pub mod Sending

@@ -2,8 +2,8 @@
 -- come with the requests and the log of the target. One learns here when that is so in a world (`IsToldOf`), and what it is for
 -- a packet to be true after the stamped events of all regions (`IsTruePacket`): what it says was so as soon as its source had
 -- made its events up to the packet's stamp, and the target has all that comes before it. So a target that hears the stamp
--- before it uses the packet gives its own events greater stamps than those of what it uses. Read next: `Standing`, when a node
--- stands in a world.
+-- before it uses the packet gives its own events greater stamps than those of what it uses. Read next: `NodeInWorld`, when a
+-- node stands in a world.
 use Rattle.std.specs.Prelude.{◌≡◌, ◌+◌, ◌≤◌, List, ◌++◌, length, drop, map, take, Some}
 use Rattle.dt_lists.specs.Lists.{AllIn}
 use Rattle.dt_events.specs.declared.Stamped.{Stamped}

@@ -25,7 +25,7 @@ use Rattle.dt_session.specs.Eager.{AllChange, first_calls, first_events, session
 use Rattle.dt_events.specs.Stamps.{events_of}
 use Rattle.dt_merge.specs.Merge.{HasLowerStamp, region_at}
 use Rattle.dt_node.specs.NodeView.{NodeView, new_items, number_of}
-use Rattle.dt_node.specs.Standing.{AreTold, NodeFits}
+use Rattle.dt_node.specs.NodeInWorld.{AreTold, NodeFits}
 
 -- new events are legal after those that there are, each changes something, and the node stands in the world after them
 pub record GoesAfter (cluster : Cluster) (workload : Workload) (events new : List Event) (after : NodeView) : Type 0 where

@@ -20,7 +20,7 @@ use Rattle.dt_session.specs.Sessions.{StandsAt}
 use Rattle.dt_site.specs.declared.Origin.{Origin}
 use Rattle.dt_node.specs.Measure.{left_for}
 use Rattle.dt_node.specs.NodeView.{NodeView, new_items, number_of}
-use Rattle.dt_node.specs.Standing.{AreTold, NodeFits}
+use Rattle.dt_node.specs.NodeInWorld.{AreTold, NodeFits}
 use Rattle.dt_node.specs.Turn.{AreBrought, HasGone, HasPlacedOwn, HasTaken, MayAnswerAt, MaySubmitAt, StampsRise}
 use Rattle.dt_node.specs.Steps.{HasTakenEach, IsNextAt, own_left}
 use Rattle.dt_node.specs.StepsInner.{HasPlaced, IsPlacedTo}

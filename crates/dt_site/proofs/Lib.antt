@@ -1,6 +1,6 @@
 pub mod Lists
 pub mod Short
-pub mod Standing
+pub mod SitesInWorlds
 pub mod Moves
 pub mod Opening
 pub mod Rule1Submit

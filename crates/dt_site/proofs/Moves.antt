@@ -26,7 +26,7 @@ use Rattle.dt_agreement.proofs.Callers.{unmoved_at_first, version_stays}
 use Rattle.dt_site.specs.Site.{SiteView}
 use Rattle.dt_site.specs.StandsIn.{IsReached, StandsIn}
 use Rattle.dt_site.proofs.Short.{HasShortLists, legal_short}
-use Rattle.dt_site.proofs.Standing.{here_is, inv, valid_txn}
+use Rattle.dt_site.proofs.SitesInWorlds.{here_is, inv, valid_txn}
 
 -- each of the transactions that ran moved a unit at most once
 counter_after : (procs : List ProcTree) (txns : List Txn) (t : Table) (key : Bytes) → counter_of (table_after procs txns t) key ≤ counter_of t key + length txns

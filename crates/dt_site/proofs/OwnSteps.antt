@@ -16,7 +16,7 @@ use Rattle.dt_session.specs.World.{World, Node, node_at, received_logs, txn_of}
 use Rattle.dt_session.specs.Step.{IsLegal, next, moved_on}
 use Rattle.dt_site.specs.Site.{SiteView, in_region, node_of}
 use Rattle.dt_site.specs.StandsIn.{IsReached, StandsIn}
-use Rattle.dt_site.proofs.Standing.{Steps, held_closed, here_is, node_then, received_stay, txns_stay}
+use Rattle.dt_site.proofs.SitesInWorlds.{Steps, held_closed, here_is, node_then, received_stay, txns_stay}
 
 module _ {cluster : Cluster} {workload : Workload} {w : World} (k : IsReached cluster workload w) {region : ℕ} (lr : region < cluster.regions) {p : SiteView} (s : StandsIn cluster.regions w region p) where
   -- the region may make the step by its own account exactly where it may in the world

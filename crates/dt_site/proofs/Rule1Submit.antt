@@ -25,7 +25,7 @@ use Rattle.dt_site.specs.declared.site.Origin.{Origin}
 use Rattle.dt_site.specs.Site.{SiteView, MakesAttempt, after_attempt, attempt, node_of}
 use Rattle.dt_site.specs.StandsIn.{IsReached, StandsIn}
 use Rattle.dt_site.proofs.Lists.{attempts_more, find_more}
-use Rattle.dt_site.proofs.Standing.{Steps, here_is, inv, many_here, node_then, order, received_stay, txns_stay}
+use Rattle.dt_site.proofs.SitesInWorlds.{Steps, here_is, inv, many_here, node_then, order, received_stay, txns_stay}
 
 -- what a submission needs: the session, where it stands, and its call
 pub record Submits (cluster : Cluster) (workload : Workload) (w : World) (region : ℕ) (name : Bytes) (session : Session) (place : Place) (call : Ranked) : Type 0 where

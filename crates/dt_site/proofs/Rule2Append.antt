@@ -32,7 +32,7 @@ use Rattle.dt_agreement.proofs.Callers.{IsRequest, request_is, logs_placed, plac
 use Rattle.dt_site.specs.Site.{SiteView, in_region, node_of}
 use Rattle.dt_site.specs.StandsIn.{IsReached, StandsIn}
 use Rattle.dt_site.proofs.Lists.{fronts_set, held_more, parts_set}
-use Rattle.dt_site.proofs.Standing.{Steps, inv, node_then, order, own_log, own_of, txns_stay, valid_txn}
+use Rattle.dt_site.proofs.SitesInWorlds.{Steps, inv, node_then, order, own_log, own_of, txns_stay, valid_txn}
 
 module _ {cluster : Cluster} {workload : Workload} {w : World} (k : IsReached cluster workload w) {home : ℕ} (lh : home < cluster.regions) {p : SiteView} (s : StandsIn cluster.regions w home p)
     {source : ℕ} (ls : source < cluster.regions) (number : ℕ) (txn : Txn) (wants : slice_get (asked_of w source home) number ≡ Some txn.id) (found : txn_of w txn.id ≡ Some txn) where

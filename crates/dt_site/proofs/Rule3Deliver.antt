@@ -33,7 +33,7 @@ use Rattle.dt_agreement.proofs.Callers.{log_distinct, part_homed, received_withi
 use Rattle.dt_site.specs.Site.{SiteView, in_region, node_of}
 use Rattle.dt_site.specs.StandsIn.{IsReached, StandsIn}
 use Rattle.dt_site.proofs.Lists.{fronts_set, held_all}
-use Rattle.dt_site.proofs.Standing.{Steps, inv, node_then, order, own_of, txns_stay, valid_txn}
+use Rattle.dt_site.proofs.SitesInWorlds.{Steps, inv, node_then, order, own_of, txns_stay, valid_txn}
 
 -- a list up to one place, and from there to a later one
 

@@ -16,7 +16,7 @@ use Rattle.dt_session.specs.Step.{IsLegal, MayAnswer, MayEnd, answered, awaited_
 use Rattle.dt_region.specs.Region.{held}
 use Rattle.dt_site.specs.Site.{SiteView, in_region, node_of}
 use Rattle.dt_site.specs.StandsIn.{IsReached, StandsIn}
-use Rattle.dt_site.proofs.Standing.{Steps, node_then, txns_stay}
+use Rattle.dt_site.proofs.SitesInWorlds.{Steps, node_then, txns_stay}
 
 -- the places after a session was answered
 abbrev pub places_answered : Workload → World → ℕ → Session → Place → List Place

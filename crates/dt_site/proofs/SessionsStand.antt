@@ -28,7 +28,7 @@ use Rattle.dt_agreement.specs.Invariant.{IsPlaceOf}
 use Rattle.dt_agreement.proofs.Callers.{WaitsAt, next_found, session_found, session_of_test, test_of_key, waiting_for}
 use Rattle.dt_site.specs.SessionsStandIn.{SessionsStandIn, no_sessions, place_in, places_of, seat_in}
 use Rattle.dt_site.specs.StandsIn.{IsReached}
-use Rattle.dt_site.proofs.Standing.{inv, order}
+use Rattle.dt_site.proofs.SitesInWorlds.{inv, order}
 
 -- names
 

@@ -1,6 +1,6 @@
 pub mod TransferMeaning
 pub mod Totals
-pub mod Holding
+pub mod AccountTotals
 pub mod LoadTransactions
 pub mod LoadWorlds
 pub mod ShownTotals

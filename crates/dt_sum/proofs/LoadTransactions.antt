@@ -32,7 +32,7 @@ use Rattle.dt_workload.specs.declared.workload.Wanted.TheVariants as wanted
 use Rattle.dt_gen.specs.Load.{account, transfer_call, wanted_by}
 use Rattle.dt_sum.specs.Balances.{HoldsAccounts, balance}
 use Rattle.dt_sum.specs.Laws.{IsLoadOutcome, IsOfLoad, LoadKeepsTotal}
-use Rattle.dt_sum.proofs.Holding.{holding, holds_after, holds_after_two, within_total}
+use Rattle.dt_sum.proofs.AccountTotals.{holding, holds_after, holds_after_two, within_total}
 use Rattle.dt_sum.proofs.TransferMeaning as transfer
 
 -- what a transaction reads are the values of the rows that it uses

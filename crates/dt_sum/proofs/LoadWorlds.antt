@@ -29,7 +29,7 @@ use Rattle.dt_gen.proofs.Callers.{load_cluster_valid, load_workload_valid}
 use Rattle.dt_sum.specs.Balances.{HoldsAccounts, amount_of, balance}
 use Rattle.dt_sum.specs.Summary.{row_sum}
 use Rattle.dt_sum.specs.Laws.{EachAttemptEndsPlainly, EachRegionHoldsAccounts, EachReportShowsTheTotal, IsLoadOutcome, IsOfLoad}
-use Rattle.dt_sum.proofs.Holding.{account_in, account_within, holding}
+use Rattle.dt_sum.proofs.AccountTotals.{account_in, account_within, holding}
 use Rattle.dt_sum.proofs.LoadTransactions.{loads_end, loads_keep}
 use Rattle.dt_sum.proofs.ShownTotals.{shown_sum}
 use Rattle.dt_sum.proofs.Totals.{sum_stays}

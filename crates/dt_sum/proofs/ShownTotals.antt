@@ -25,7 +25,7 @@ use Rattle.dt_gen.proofs.Callers.{accounts_apart}
 use Rattle.dt_sum.specs.Balances.{HoldsAccounts, amount_of, balance, total_of}
 use Rattle.dt_sum.specs.Summary.{number_of_row}
 use Rattle.dt_sum.specs.Laws.{ShownSumIsTotal}
-use Rattle.dt_sum.proofs.Holding.{account_in, account_within}
+use Rattle.dt_sum.proofs.AccountTotals.{account_in, account_within}
 use Rattle.dt_sum.proofs.Totals.{same_sums}
 
 -- ---- keys of a map

@@ -22,7 +22,7 @@ use Rattle.dt_region.specs.Region.{RegionState, RegionView, find_txn, held}
 use Rattle.dt_region.specs.Rules.{after_deliver, hold, keep_all, past_end, with_entries, with_event}
 use Rattle.dt_region.specs.Sound.{IsSoundRegion}
 use Rattle.dt_region.proofs.Callers.{held_id, latest_more}
-use Rattle.dt_test_round.specs.Fed.{WasFed}
+use Rattle.dt_test_round.specs.FedRegion.{WasFed}
 
 -- what is looked for in a log: nothing so far, and the next part is not it
 

@@ -22,7 +22,7 @@ use Rattle.dt_region.specs.Region.{RegionState, RegionView, find_txn}
 use Rattle.dt_region.specs.Rules.{after_append, after_submit, txn_for, with_event, with_submission}
 use Rattle.dt_region.specs.Sound.{IsSoundRegion}
 use Rattle.dt_region.proofs.Callers.{latest_more}
-use Rattle.dt_test_round.specs.Fed.{WasFed}
+use Rattle.dt_test_round.specs.FedRegion.{WasFed}
 use Rattle.dt_test_round.proofs.Delivered.{held_more}
 
 -- a submission

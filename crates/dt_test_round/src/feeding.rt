@@ -4,7 +4,7 @@ ghost use Rattle.dt_lists.specs.Lists.{AllIn, Has};
 ghost use Rattle.dt_sched.specs.Views.{HasPart, log_at};
 ghost use Rattle.dt_txn.specs.Transaction.{IsValid, homes_of, part_of};
 ghost use Rattle.dt_region.specs.Conditions.{Agrees, HoldsValid};
-ghost use Rattle.dt_test_round.specs.Fed.{WasFed};
+ghost use Rattle.dt_test_round.specs.FedRegion.{WasFed};
 
 use crate::calls::{Call, call_of};
 use dt_access::{Part, TxnId};

@@ -1,6 +1,6 @@
 //! What a region submits.
 ghost use Rattle.std.specs.Prelude.{◌+◌, ◌<◌, ◌≤◌, length, OnOk};
-ghost use Rattle.dt_test_round.specs.Fed.{WasFed};
+ghost use Rattle.dt_test_round.specs.FedRegion.{WasFed};
 
 use crate::calls::{Call, call_of};
 use dt_proc::Procs;

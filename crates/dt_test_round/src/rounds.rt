@@ -2,7 +2,7 @@
 ghost use Rattle.std.specs.Prelude.{◌<◌, ◌≤◌, List, IfOk, OnOk};
 ghost use Rattle.dt_proc.specs.Tree.{ProcTree};
 ghost use Rattle.dt_round.specs.Rounds.{CanRound};
-ghost use Rattle.dt_test_round.specs.Fed.{WasFed};
+ghost use Rattle.dt_test_round.specs.FedRegion.{WasFed};
 
 use crate::calls::Call;
 use crate::feeding::{Row, feed_all};

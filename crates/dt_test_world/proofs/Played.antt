@@ -4,7 +4,7 @@ use Rattle.dt_events.specs.declared.Event.{Event}
 use Rattle.dt_session.specs.Step.{IsLegal, next}
 use Rattle.dt_agreement.proofs.Callers.{more_legal, world_after_more}
 use Rattle.dt_world.specs.WorldView.{WorldView, made}
-use Rattle.dt_test_world.specs.Led.{HasLed}
+use Rattle.dt_test_world.specs.WorldOfEvents.{HasLed}
 
 -- a legal event more leads to the world after it
 pub led_more : (before view : WorldView) (events : List Event) (event : Event) → HasLed before events

@@ -1,1 +1,1 @@
-pub mod Led
+pub mod WorldOfEvents

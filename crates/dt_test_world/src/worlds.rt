@@ -2,7 +2,7 @@
 ghost use Rattle.std.specs.Prelude.{◌≡◌, [], length, IfOk, OnOk};
 ghost use Rattle.dt_cluster.specs.Valid.{IsValidCluster};
 ghost use Rattle.dt_workload.specs.Valid.{IsValidWorkload};
-ghost use Rattle.dt_test_world.specs.Led.{HasLed};
+ghost use Rattle.dt_test_world.specs.WorldOfEvents.{HasLed};
 
 use dt_cluster::Cluster;
 use dt_cluster_file::{ClusterError, read_cluster};

@@ -1,6 +1,6 @@
 use Rattle.std.proofs.Common.{◌≡◌, ◌+◌, sym, subst, arith}
 use Rattle.dt_region.specs.Region.{RegionView}
-use Rattle.dt_test_round.specs.Fed.{WasFed}
+use Rattle.dt_test_round.specs.FedRegion.{WasFed}
 use Rattle.dt_test_round.proofs.feeding.feed_all.Goals as goal
 use Rattle.dt_test_round.proofs.feeding.feed_all.Goals.{then-row-number+in_ok-place, else-row-number+in_ok-deliver}
 

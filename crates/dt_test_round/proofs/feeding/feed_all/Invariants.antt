@@ -1,5 +1,5 @@
 use Rattle.std.proofs.Common.{◌+◌}
-use Rattle.dt_test_round.specs.Fed.{WasFed}
+use Rattle.dt_test_round.specs.FedRegion.{WasFed}
 use Rattle.dt_test_round.proofs.feeding.feed_all.Given as goal
 
 abbrev pub invariant-loop-count : goal.invariant-loop-count

@@ -1,5 +1,5 @@
 use Rattle.std.proofs.Common.{refl, sym, subst}
-use Rattle.dt_test_world.specs.Led.{HasLed}
+use Rattle.dt_test_world.specs.WorldOfEvents.{HasLed}
 use Rattle.dt_test_world.proofs.Played.{led_more}
 use Rattle.dt_test_world.proofs.worlds.make.Goals as goal
 

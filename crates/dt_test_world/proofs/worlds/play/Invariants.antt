@@ -1,5 +1,5 @@
 use Rattle.std.proofs.Common.{◌≡◌, length}
-use Rattle.dt_test_world.specs.Led.{HasLed}
+use Rattle.dt_test_world.specs.WorldOfEvents.{HasLed}
 use Rattle.dt_test_world.proofs.worlds.play.Given as goal
 
 -- the events that were made led to this world, which is of the cluster that it was of
