@@ -9,7 +9,7 @@ use Rattle.dt_session.specs.Sessions.{EachNameIsAnswered}
 use Rattle.dt_session.specs.World.{node_at}
 use Rattle.dt_session.specs.Run.{world_after}
 use Rattle.dt_site.proofs.Callers.{HasShortLists, legal_short, many_here}
-use Rattle.dt_node.specs.Standing.{NodeFits}
+use Rattle.dt_node.specs.NodeInWorld.{NodeFits}
 use Rattle.dt_node.specs.NodeView.{NodeView, number_of}
 use Rattle.dt_run.specs.Done.{IsAllDone, HasDone}
 use Rattle.dt_run.specs.NodesView.{NodesView, node_in}

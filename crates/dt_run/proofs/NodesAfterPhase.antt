@@ -21,7 +21,7 @@ use Rattle.dt_events.specs.Events.{region_of}
 use Rattle.dt_session.specs.Eager.{first_calls, first_events, sessions_at}
 use Rattle.dt_node.specs.NodeView.{new_items, number_of, packet_for}
 use Rattle.dt_node.specs.Packets.{IsToldOf, IsTruePacket}
-use Rattle.dt_node.specs.Standing.{NodeFits}
+use Rattle.dt_node.specs.NodeInWorld.{NodeFits}
 use Rattle.dt_node.specs.Turn.{BeginsEagerly, BringsEntries, BringsRequest, IsBroughtBy}
 use Rattle.dt_run.specs.LinksInner.{BesideSoFar}
 use Rattle.dt_run.specs.Marks.{IsPlannedIn, IsToldIn, WasAskedBefore, WerePlacedBefore, kept_before, kept_by_region, mark_at}

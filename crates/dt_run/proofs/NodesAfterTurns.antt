@@ -11,7 +11,7 @@ use Rattle.dt_cluster.specs.declared.Cluster.{Cluster}
 use Rattle.dt_workload.specs.declared.Workload.{Workload}
 use Rattle.dt_merge.specs.Merge.{IsChronicle, kept_at}
 use Rattle.dt_node.specs.NodeView.{NodeView, number_of}
-use Rattle.dt_node.specs.Standing.{NodeFits}
+use Rattle.dt_node.specs.NodeInWorld.{NodeFits}
 use Rattle.dt_run.specs.NodesStand.{AreInStep, AreNodes, StandsAmong}
 use Rattle.dt_run.specs.NodesView.{NodesView, kept_by, no_running_node, node_in, waiting_at}
 use Rattle.dt_run.specs.Phase.{IsPhase, TurnsOnce}

@@ -19,7 +19,7 @@ use Rattle.dt_merge.specs.Merge.{HasLowerStamp, IsChronicle, IsFed, kept_at, reg
 use Rattle.dt_merge.specs.Own.{source_of}
 use Rattle.dt_node.specs.NodeView.{NodeView, new_items, number_of}
 use Rattle.dt_node.specs.Packets.{IsTruePacket}
-use Rattle.dt_node.specs.Standing.{AreTold, IsFor, NodeFits}
+use Rattle.dt_node.specs.NodeInWorld.{AreTold, IsFor, NodeFits}
 use Rattle.dt_node.specs.Turn.{IsBroughtBy, greatest}
 use Rattle.dt_run.specs.Phase.{TurnsOnce}
 use Rattle.dt_run.proofs.Laws.{greatest_below}

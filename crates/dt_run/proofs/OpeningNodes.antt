@@ -7,7 +7,7 @@ use Rattle.dt_cluster.specs.Valid.{IsValidCluster}
 use Rattle.dt_workload.specs.Valid.{IsValidWorkload}
 use Rattle.dt_merge.specs.Merge.{HasLowerStamp, IsChronicle, kept_at}
 use Rattle.dt_node.specs.NodeView.{NodeView, opening_node_of}
-use Rattle.dt_node.specs.Standing.{NodeFits}
+use Rattle.dt_node.specs.NodeInWorld.{NodeFits}
 use Rattle.dt_node.specs.Turn.{HasPlacedOwn}
 use Rattle.dt_region.specs.Region.{latest_stamp}
 use Rattle.dt_run.specs.Marks.{AreMarksOf, IsKeptIn, kept_by_region}

@@ -21,7 +21,7 @@ use Rattle.dt_session.specs.World.{opening_table, opening_world}
 use Rattle.dt_site.proofs.Callers.{opening_sessions_stand, opening_stands}
 use Rattle.dt_merge.specs.Merge.{kept_at}
 use Rattle.dt_node.specs.NodeView.{NodeView, opening_node_of}
-use Rattle.dt_node.specs.Standing.{KnowsNoMore, NodeFits}
+use Rattle.dt_node.specs.NodeInWorld.{KnowsNoMore, NodeFits}
 use Rattle.dt_run.specs.NodesStand.{AreNodes}
 use Rattle.dt_run.specs.NodesView.{kept_by, no_running_node, opening_nodes}
 use Rattle.dt_run.specs.SeatsInner.{AreBeside, AreLinkedBy, AreNew, AreSeated, SeatView, new_seat, no_seat, nodes_view, seat_at, waits_in}

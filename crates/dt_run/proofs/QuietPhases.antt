@@ -13,7 +13,7 @@ use Rattle.dt_cluster.specs.Valid.{IsDrop, IsValidCluster}
 use Rattle.dt_cluster.specs.declared.Cluster.{Cluster}
 use Rattle.dt_txn.specs.Replica.{IsDrained}
 use Rattle.dt_node.specs.NodeView.{number_of, packet_for}
-use Rattle.dt_node.specs.Standing.{AreTold, NodeFits}
+use Rattle.dt_node.specs.NodeInWorld.{AreTold, NodeFits}
 use Rattle.dt_node.specs.Turn.{HasPlacedOwn}
 use Rattle.dt_run.specs.Done.{IsAllDone}
 use Rattle.dt_run.specs.Marks.{plan_of}

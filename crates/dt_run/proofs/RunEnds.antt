@@ -14,7 +14,7 @@ use Rattle.dt_merge.specs.Merge.{those_at}
 use Rattle.dt_merge.specs.Weight.{most_events, sum_below}
 use Rattle.dt_merge.specs.WorldRegions.{HasInvariant}
 use Rattle.dt_node.specs.NodeView.{NodeView, opening_node_of}
-use Rattle.dt_node.specs.Standing.{AreTold}
+use Rattle.dt_node.specs.NodeInWorld.{AreTold}
 use Rattle.dt_run.specs.Done.{IsAllDone}
 use Rattle.dt_run.specs.Marks.{kept_by_region}
 use Rattle.dt_run.specs.NodesStand.{AreInStep, AreNodes}

@@ -27,7 +27,7 @@ use Rattle.dt_site.proofs.Callers.{attempts_have, kept_here}
 use Rattle.dt_world.specs.Telling.{AreSitesAfter}
 use Rattle.dt_world.specs.WorldReport.{report_of}
 use Rattle.dt_node.specs.NodeView.{NodeView}
-use Rattle.dt_node.specs.Standing.{NodeFits}
+use Rattle.dt_node.specs.NodeInWorld.{NodeFits}
 use Rattle.dt_run.specs.Done.{IsAllDone}
 use Rattle.dt_run.specs.Marks.{kept_by_region}
 use Rattle.dt_run.specs.NodesStand.{AreInStep, AreNodes, BeganEagerly, StandsAmong}

@@ -8,7 +8,7 @@ use Rattle.dt_cluster.specs.declared.Cluster.{Cluster}
 use Rattle.dt_workload.specs.declared.Workload.{Workload}
 use Rattle.dt_merge.specs.Weight.{most_events, sum_below}
 use Rattle.dt_node.specs.NodeView.{NodeView}
-use Rattle.dt_node.specs.Standing.{AreTold}
+use Rattle.dt_node.specs.NodeInWorld.{AreTold}
 use Rattle.dt_run.specs.Marks.{kept_by_region}
 use Rattle.dt_run.specs.NodesView.{NodesView, node_in, opening_nodes, waiting_at}
 use Rattle.dt_run.specs.Phase.{EndsInStep, IsPhase}

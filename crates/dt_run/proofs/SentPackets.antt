@@ -33,7 +33,7 @@ use Rattle.dt_cluster.specs.Valid.{IsValidCluster}
 use Rattle.dt_workload.specs.Valid.{IsValidWorkload}
 use Rattle.dt_node.specs.NodeView.{NodeView, entry_held, most_items, number_of, packet_for, stretch_from}
 use Rattle.dt_node.specs.Packets.{IsToldOf, IsTruePacket}
-use Rattle.dt_node.specs.Standing.{NodeFits}
+use Rattle.dt_node.specs.NodeInWorld.{NodeFits}
 use Rattle.dt_run.proofs.Laws.{IsHeld, all_take, found_ids, found_parts, frame, own_of, reached}
 use Rattle.dt_run.proofs.DoneSubmissions.{find_counted}
 use Rattle.dt_run.proofs.ChronicleGrows.{good_after}

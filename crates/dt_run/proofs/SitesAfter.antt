@@ -13,7 +13,7 @@ use Rattle.dt_site.specs.StandsIn.{StandsIn}
 use Rattle.dt_site.proofs.Callers.{HasShortLists, legal_short, many_here}
 use Rattle.dt_world.specs.Telling.{AreSitesAfter}
 use Rattle.dt_node.specs.NodeView.{NodeView, number_of}
-use Rattle.dt_node.specs.Standing.{NodeFits}
+use Rattle.dt_node.specs.NodeInWorld.{NodeFits}
 use Rattle.dt_run.specs.NodesStand.{AreNodes, StandsAmong}
 use Rattle.dt_run.specs.NodesView.{NodesView, no_running_node, node_in}
 use Rattle.dt_run.proofs.Laws.{few_events, reached}

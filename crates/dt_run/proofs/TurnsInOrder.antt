@@ -24,7 +24,7 @@ use Rattle.dt_merge.specs.WorldRegions.{HasInvariant}
 use Rattle.dt_site.proofs.Callers.{has_received}
 use Rattle.dt_node.specs.NodeView.{NodeView, new_items, number_of}
 use Rattle.dt_node.specs.Packets.{IsToldOf}
-use Rattle.dt_node.specs.Standing.{AreTold, IsFor, KnowsNoMore, NodeFits}
+use Rattle.dt_node.specs.NodeInWorld.{AreTold, IsFor, KnowsNoMore, NodeFits}
 use Rattle.dt_node.specs.Turn.{GoesAfter}
 use Rattle.dt_run.specs.Phase.{TurnsOnce}
 use Rattle.dt_run.proofs.Laws.{grown_refl, grown_trans, reached}

@@ -2,7 +2,7 @@ ghost use Rattle.std.specs.Prelude.{◌≡◌, ◌<◌, ◌≤◌, ◌+◌, ◌^
 ghost use Rattle.dt_lists.specs.Lists.{AllIn, Pairwise};
 ghost use Rattle.dt_ring.specs.Rings.{SameIn, SameOut};
 ghost use Rattle.dt_node.specs.Sending.{HasSent, LeavesNothingOut};
-ghost use Rattle.dt_node.specs.Standing.{NodeStands};
+ghost use Rattle.dt_node.specs.NodeInWorld.{NodeStands};
 ghost use Rattle.dt_node.specs.Steps.{HasTurned};
 ghost use Rattle.dt_node.specs.Turn.{BeginsEagerly, HasTaken, IsSettled};
 ghost use Rattle.dt_run.specs.Phase.{TurnsOnce};
