@@ -1,4 +1,7 @@
--- The toolchain asks for this; skip it. It is the code by which proofs tell nodes apart. Read `NodeView` for what they are.
+-- How a node is told apart from another. The toolchain wants a code of each type whose values contracts see: how a value is
+-- stored as pairs of its fields, one within the other, and is the same again when it is read from there. Nothing is promised
+-- here, and only the `impl Model` of `Node` and the codes of what holds nodes name it. Read `NodeView` for what a node is, then
+-- `NodeInWorld`.
 use Rattle.std.specs.Prelude.{ℕ, List, refl}
 use Rattle.std.specs.Coded.{Coded, code_by, coded×, coded_ℕ, coded_list}
 use Rattle.dt_packet.specs.contracts.loss.LossPlan as plan

@@ -1,4 +1,6 @@
--- The toolchain asks for this; skip it. It is the code by which proofs tell sites apart. Read `Site` for what they are.
+-- How a site is told apart from another. The toolchain wants a code of each type whose values contracts see: how a value is
+-- stored as a pair of its fields, and is the same again when it is read from there. Nothing is promised here, and only the
+-- `impl Model` of `Site` and the codes of what holds sites name it. Read `Site` for what a site is, then `StandsIn`.
 use Rattle.std.specs.Prelude.{List, refl}
 use Rattle.std.specs.Coded.{Coded, code_by, coded×, coded_list}
 use Rattle.dt_region.specs.Region.{RegionView}
