@@ -1,7 +1,7 @@
 -- What a caller's proof needs of the dependency graph: what stays as a view grows, classes, precedence, and what is
 -- decided. All other lemmas of this crate are its own.
 pub use Rattle.dt_access.proofs.Callers.{clash_of_uses, uses_of_clash}
-pub use Rattle.dt_sched.proofs.Longer.{complete_longer, longer_refl, parts_cons, present_longer, reaches_longer, well_formed_front}
+pub use Rattle.dt_sched.proofs.LongerViews.{complete_longer, longer_refl, parts_cons, present_longer, reaches_longer, well_formed_front}
 pub use Rattle.dt_sched.proofs.ClosedTransactions.{class_stays, closed_stays, complete_of_closed, edge_at_home, home_of_edge}
 pub use Rattle.dt_sched.proofs.ClosedTransactions.{part_of_complete, preceders_stay, reaches_back}
 pub use Rattle.dt_sched.proofs.Reach.{each_reaching_decided, edge_target, has_of_present, ids_in, present_decided}

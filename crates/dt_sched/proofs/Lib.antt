@@ -1,4 +1,4 @@
-pub mod Longer
+pub mod LongerViews
 pub mod ClosedTransactions
 pub mod Reach
 pub mod Ranks
