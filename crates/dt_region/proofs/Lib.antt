@@ -11,6 +11,7 @@ pub mod OpeningRegion
 pub mod Rule1Submit
 pub mod Rule2Append
 pub mod Rule3Deliver
+pub mod StaysSound
 pub mod Rule4Insert
 pub mod Rule5Resolve
 pub mod Rule6Execute

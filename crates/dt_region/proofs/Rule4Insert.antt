@@ -22,6 +22,7 @@ use Rattle.dt_region.specs.Region.{RegionState, RegionView, latest_stamp, held, 
 use Rattle.dt_region.specs.Rules.{after_making, MakesStep}
 use Rattle.dt_region.specs.Sound.{IsSoundRegion, IsHeldPart}
 use Rattle.dt_region.specs.RegionInner.{AreWell}
+use Rattle.dt_region.proofs.StaysSound.{stays_sound}
 use Rattle.dt_region.proofs.ViewOfRegion.{IsSeenAs, kept_under, under}
 use Rattle.dt_region.proofs.HeldTransactions.{held_homes, view_parts}
 use Rattle.dt_txn.proofs.Callers.{fronts_at}
@@ -94,25 +95,9 @@ module _ (s : RegionState) (sound : IsSoundRegion s) (home : ℕ) (part : Part) 
   after = record s { here = record s.here { inserted = lengths } }
 
   pub insert_sound : IsSoundRegion after
-  insert_sound = record {
-    number = sound.number;
-    regions = sound.regions;
-    asked = sound.asked;
-    taken = sound.taken;
-    logs = sound.logs;
-    inserted = length-set s.here.inserted home (slice_index s.here.inserted home + 1) ∙ sound.inserted;
-    counted = sound.counted;
-    foreign = sound.foreign;
-    submitted_homes = sound.submitted_homes;
-    foreign_homes = sound.foreign_homes;
-    once = sound.once;
-    parts = sound.parts;
-    few = sound.few;
-    taken_few = sound.taken_few;
-    inserted_few = inserted_few;
-    table = sound.table;
-    decided = subst (λ v. IsSound v s.here.resolved (done_ids s.here)) (sym view_now) (sound_insert sight s.here.resolved (done_ids s.here) part can_insert sound.decided);
-  }
+  insert_sound =
+      stays_sound s sound lengths s.here.resolved s.here.done s.here.table (length-set s.here.inserted home (slice_index s.here.inserted home + 1) ∙ sound.inserted) inserted_few sound.table
+      (subst (λ v. IsSound v s.here.resolved (done_ids s.here)) (sym view_now) (sound_insert sight s.here.resolved (done_ids s.here) part can_insert sound.decided))
 
   pub insert_well : (seen : Sched) → seen ≡ after_insert (sched_of s.logs s.here) part → AreWell after seen
   insert_well seen e = (insert_sound, e ∙ ap (λ v. record (sched_of s.logs s.here) { logs = v }) (sym view_now))

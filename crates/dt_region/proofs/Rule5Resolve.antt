@@ -9,28 +9,13 @@ use Rattle.dt_txn.specs.Replica.{view_of, done_ids}
 use Rattle.dt_region.specs.Region.{RegionState, RegionView, sched_of}
 use Rattle.dt_region.specs.Sound.{IsSoundRegion}
 use Rattle.dt_region.specs.RegionInner.{AreWell}
+use Rattle.dt_region.proofs.StaysSound.{stays_sound}
 use Rattle.dt_region.proofs.ViewOfRegion.{IsSeenAs}
 
 pub resolve_sound : (s : RegionState) → IsSoundRegion s → (ids : List TxnId) → CanResolve (sched_of s.logs s.here) ids → IsSoundRegion (record s { here = record s.here { resolved = s.here.resolved ++ ids ∷ [] } })
-resolve_sound s sound ids may = record {
-  number = sound.number;
-  regions = sound.regions;
-  asked = sound.asked;
-  taken = sound.taken;
-  logs = sound.logs;
-  inserted = sound.inserted;
-  counted = sound.counted;
-  foreign = sound.foreign;
-  submitted_homes = sound.submitted_homes;
-  foreign_homes = sound.foreign_homes;
-  once = sound.once;
-  parts = sound.parts;
-  few = sound.few;
-  taken_few = sound.taken_few;
-  inserted_few = sound.inserted_few;
-  table = sound.table;
-  decided = sound_resolve (view_of s.logs s.here) s.here.resolved (done_ids s.here) ids may sound.decided;
-}
+resolve_sound s sound ids may =
+    stays_sound s sound s.here.inserted (s.here.resolved ++ ids ∷ []) s.here.done s.here.table sound.inserted sound.inserted_few sound.table
+    (sound_resolve (view_of s.logs s.here) s.here.resolved (done_ids s.here) ids may sound.decided)
 
 -- The region has the state s and these events, and contracts see it as r: what the call makes of its fields is what the
 -- rule says.

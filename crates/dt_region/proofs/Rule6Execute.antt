@@ -24,6 +24,7 @@ use Rattle.dt_region.specs.Rules.{after_finishing, after_making, with_event, Mak
 use Rattle.dt_region.specs.Conditions.{CanMove, HoldsValid}
 use Rattle.dt_region.specs.Sound.{IsSoundRegion, IsHeldPart}
 use Rattle.dt_region.specs.RegionInner.{AreWell}
+use Rattle.dt_region.proofs.StaysSound.{stays_sound}
 use Rattle.dt_region.proofs.ViewOfRegion.{IsSeenAs, kept_under, under}
 use Rattle.dt_region.proofs.HeldTransactions.{held_id, view_parts}
 use Rattle.dt_region.proofs.Tables.{after_table, one_place}
@@ -58,25 +59,10 @@ module _ (procs : List ProcTree) (s : RegionState) (sound : IsSoundRegion s) (ho
   done_now = ids_done s.here.done (txn.id, (one procs txn s.here.table).0) ∙ ap (λ i. done_ids s.here ++ i ∷ []) (held_id s id txn e)
 
   pub execute_sound : IsSoundRegion after
-  execute_sound = record {
-    number = sound.number;
-    regions = sound.regions;
-    asked = sound.asked;
-    taken = sound.taken;
-    logs = sound.logs;
-    inserted = sound.inserted;
-    counted = sound.counted;
-    foreign = sound.foreign;
-    submitted_homes = sound.submitted_homes;
-    foreign_homes = sound.foreign_homes;
-    once = sound.once;
-    parts = sound.parts;
-    few = sound.few;
-    taken_few = sound.taken_few;
-    inserted_few = sound.inserted_few;
-    table = after_table procs s.here.table.version s.regions txn s.here.table sound.table (holds id txn e);
-    decided = subst (IsSound (view_of s.logs s.here) s.here.resolved) (sym done_now) (sound_execute (view_of s.logs s.here) s.here.resolved (done_ids s.here) id may sound.decided);
-  }
+  execute_sound =
+      stays_sound s sound s.here.inserted s.here.resolved after.here.done after.here.table sound.inserted sound.inserted_few
+      (after_table procs s.here.table.version s.regions txn s.here.table sound.table (holds id txn e))
+      (subst (IsSound (view_of s.logs s.here) s.here.resolved) (sym done_now) (sound_execute (view_of s.logs s.here) s.here.resolved (done_ids s.here) id may sound.decided))
 
   pub execute_well : (seen : Sched) → seen ≡ after_finish (sched_of s.logs s.here) id → AreWell after seen
   execute_well seen f = (execute_sound, f ∙ ap (λ ids. record (sched_of s.logs s.here) { done = ids }) (sym done_now))
