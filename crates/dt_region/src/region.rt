@@ -34,7 +34,7 @@ use std::alloc::Global;
 use std::marker::Model;
 
 // How many changes of a table one execution makes at most: 16 rows of a call and one move.
-const CHANGES: u32 = 17;
+const CHANGES: usize = 17;
 
 /// One region of a cluster. What it may execute and resolve is decided by its scheduler `S`.
 ///
@@ -517,10 +517,7 @@ impl<S: Scheduler> Region<S> {
     {
         self.events.reserve(runs as usize)?;
         self.done.reserve(runs as usize)?;
-        let Some(changes) = runs.checked_mul(CHANGES) else {
-            return Err(NoMemory);
-        };
-        self.table.reserve(changes)?;
+        self.table.reserve(runs as usize * CHANGES)?;
         self.scheduler.reserve(alloc, runs)?;
         self.room = runs;
         Ok(())

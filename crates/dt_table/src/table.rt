@@ -165,13 +165,12 @@ impl Table {
     }
 
     /// Makes room for n writes and moves, of any keys. Nothing else changes, whatever the answer.
-    pub fn reserve(&mut self, places: u32) -> Result<(), NoMemory>
+    pub fn reserve(&mut self, places: usize) -> Result<(), NoMemory>
         ensures state { self.new.state ≡ self.old.state }
         ensures room { OnOk result (places ≤ self.new.spare) }
         ensures spare { self.old.spare ≤ self.new.spare }
         ensures succeeds { places ≤ self.old.spare → IsOk result }
     {
-        let places = places as usize;
         self.values.reserve(places)?;
         self.units.reserve(places)?;
         self.moves.reserve(places)?;
