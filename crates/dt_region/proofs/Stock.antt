@@ -13,7 +13,6 @@ stock_kept stock here kept grown =
       done = stock.done;
       changes = stock.changes;
       finishes = omega (arith, a, grown);
-      few = stock.few;
     }
 
 -- places were made for an event, and no event is kept
@@ -26,7 +25,6 @@ stock_made stock made grown =
       done = stock.done;
       changes = stock.changes;
       finishes = omega (arith, a, grown);
-      few = stock.few;
     }
 
 -- an execution is finished: one event, one id and at most 17 changes more
@@ -37,15 +35,13 @@ stock_spent stock some e d c few f =
     let b = stock.done in
     let g = stock.changes in
     let h = stock.finishes in
-    let i = stock.few in
     record {
       events = omega (arith, a, e, some);
       done = omega (arith, b, d, some);
       changes = omega (arith, g, c, few, some);
       finishes = omega (arith, h, f, some);
-      few = omega (arith, i, some);
     }
 
 -- no room
 pub stock_none : {events done changes finishes : ℕ} → HasStock 0 events done changes finishes
-stock_none = record { events = omega arith; done = omega arith; changes = omega arith; finishes = omega arith; few = omega arith }
+stock_none = record { events = omega arith; done = omega arith; changes = omega arith; finishes = omega arith }

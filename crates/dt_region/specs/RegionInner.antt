@@ -1,6 +1,6 @@
 -- Only proofs need this file: how a region keeps what contracts see of it, and what its type says of its fields. Skip it;
 -- read `Region` for what callers see, and `Sound` for what every region keeps.
-use Rattle.std.specs.Prelude.{◌≡◌, ◌<◌, ◌≤◌, ◌*◌, ◌^◌, ℕ, length, slice_index}
+use Rattle.std.specs.Prelude.{◌≡◌, ◌≤◌, ◌*◌, ℕ, length, slice_index}
 use Rattle.dt_sched.specs.Views.{View, log_at}
 use Rattle.dt_txn.specs.Replica.{Replica}
 use Rattle.dt_sched.specs.Sched.{Sched}
@@ -41,8 +41,6 @@ pub record HasStock (room for_events for_done for_changes for_finishes : ℕ) : 
   pub done : room ≤ for_done
   pub changes : 17 * room ≤ for_changes
   pub finishes : room ≤ for_finishes
-  -- the changes are counted by 32 bits
-  pub few : 17 * room < 2 ^ 32
 
 -- what the type of a region says of its fields, where the scheduler is seen so and has this room
 pub record IsWell {S : Type 0} (seen : S → Sched) (finishes : S → ℕ) (a : Inside S) : Type 0 where

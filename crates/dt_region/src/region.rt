@@ -505,7 +505,11 @@ impl<S: Scheduler> Region<S> {
         ensures err { OnErr result (self.new ≡ self.old) }
     {
         self.prepare(alloc, id)?;
-        self.make_room(alloc, self.room + 1)
+        // There is less memory than room for all executions that 32 bits can count.
+        let Some(runs) = self.room.checked_add(1) else {
+            return Err(NoMemory);
+        };
+        self.make_room(alloc, runs)
     }
 
     // Makes room for n executions, which are more than there is room for.
