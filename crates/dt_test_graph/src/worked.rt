@@ -1,6 +1,7 @@
 //! Short runs, call by call at both schedulers: what is ready after each call, and what may be resolved.
 use crate::alike::{Run, Step, Then, are_alike};
 use crate::calls::Call;
+use crate::wrong;
 use Call::{Execute, Insert, Resolve};
 use Then::Tells;
 use dt_access::{Mode, TxnId};
@@ -167,23 +168,22 @@ const RUNS: &[(u8, &[Step])] = &[
     (3, READS),
 ];
 
-/// Whether both answer as they have to in each run.
-fn all_alike(alloc: Global) -> Result<bool, Fail> {
-    for (regions, steps) in RUNS {
+/// Fails at the first run in which one of both answers in another way.
+fn check(alloc: Global) -> Result<(), Fail> {
+    for (row, (regions, steps)) in RUNS.iter().enumerate() {
         let run = Run {
             regions: *regions,
             steps,
             ids: &IDS,
         };
         if !are_alike(alloc, &run)? {
-            return Ok(false);
+            return Err(wrong(row));
         }
     }
-    Ok(true)
+    Ok(())
 }
 
 #[test]
 fn both_schedulers_tell_the_same_after_each_call(rt: HostRuntime) -> Result<(), Fail> {
-    assert!(rt; all_alike(rt.alloc())?);
-    Ok(())
+    check(rt.alloc())
 }
