@@ -4,6 +4,6 @@ pub use Rattle.dt_access.proofs.Ids.{among_of_has, before_decided, before_differ
 pub use Rattle.dt_access.proofs.Ids.{before_less, by_parts, has_of_among, id_of_test, not_among, same_by_parts, same_id_turned, test_of_id, test_of_other}
 pub use Rattle.dt_access.proofs.KeyOrder.{key_before_flip, same_key_after, same_key_before, same_key_equal, same_key_other, same_key_self}
 pub use Rattle.dt_access.proofs.IdTexts.{either_id_text, id_text-injective}
-pub use Rattle.dt_access.proofs.GranuleLaws.{granule_again, granule_of_row, key_of_granule, unit_again}
-pub use Rattle.dt_access.proofs.Units.{clash_cases, granules_of_clash, keys_of_clash, moves_clash, units_of_clash, uses_clash_symmetric, uses_of_granule, uses_of_row}
+pub use Rattle.dt_access.proofs.GranuleLaws.{unit_again}
+pub use Rattle.dt_access.proofs.Units.{clash_cases, moves_clash, units_of_clash, uses_clash_symmetric, uses_of_granule, uses_of_row}
 pub use Rattle.dt_access.proofs.ClashLaws.{clash_of_uses, clash_symmetric, uses_of_clash}

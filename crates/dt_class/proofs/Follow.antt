@@ -3,8 +3,8 @@ use Rattle.std.proofs.Common.{◌≡◌, ◌≢◌, ℕ, zero, suc, ◌+◌, ◌
 use Rattle.std.proofs.Common.{inr, arith}
 use Rattle.dt_lists.specs.Lists.{Either, Has, IsFront}
 use Rattle.dt_lists.proofs.Callers.{any_at, either_le, either_nat, front_trans}
-use Rattle.dt_class.specs.Links.{near_end, far_end, earlier_link, link_at, IsStep, IsNewest, AreChained}
-use Rattle.dt_class.specs.Finds.{FoundView, AddsVertex, GainsSteps}
+use Rattle.dt_class.specs.LinksInner.{near_end, far_end, earlier_link, link_at, IsStep, IsNewest, AreChained}
+use Rattle.dt_class.specs.FindsInner.{FoundView, AddsVertex, GainsSteps}
 use Rattle.dt_class.specs.declared.link.Link.{Link}
 use Rattle.dt_class.specs.declared.link.Way.{Way}
 

@@ -5,8 +5,8 @@ use Rattle.dt_lists.specs.Lists.{Has}
 use Rattle.dt_lists.specs.Chain.{Chain, here, onward}
 use Rattle.dt_lists.proofs.Callers.{all_any, any_map, any_image, any_of_image, all_put, chain_map, chain_before, chain_takes_back, filter_all, filter_each, has_filter, has_of_filtered}
 use Rattle.dt_class.specs.Graphs.{AdjView, IsEdge, Leads, IsInClass, AreVertices, IsSource, AreAllBlocked}
-use Rattle.dt_class.specs.Links.{edge_of, near_end, far_end, IsStep, LeadsBy, AreBelow}
-use Rattle.dt_class.specs.Finds.{FoundView, IsMarked, IsReach, IsReachOf, IsLastStart, AreMarked}
+use Rattle.dt_class.specs.LinksInner.{edge_of, near_end, far_end, IsStep, LeadsBy, AreBelow}
+use Rattle.dt_class.specs.FindsInner.{FoundView, IsMarked, IsReach, IsReachOf, IsLastStart, AreMarked}
 use Rattle.dt_class.specs.declared.link.Link.{Link}
 use Rattle.dt_class.specs.declared.link.Way.{Way}
 use Rattle.dt_class.specs.declared.link.Way.TheVariants.{Forth, Back}

@@ -5,7 +5,7 @@ use Rattle.std.proofs.Common.{◌++◌, length, get_or, set, refl, sym, ap, subs
 use Rattle.std.proofs.lemmas.List.{get_or-set_same, get_or-set_other}
 use Rattle.dt_lists.specs.Lists.{AllIn, EachThen, Either, Has}
 use Rattle.dt_lists.proofs.Callers.{all_put, distinct_push, distinct_within, each_append, either_nat, has_more, has_last, has_longer, front_append}
-use Rattle.dt_class.specs.Finds.{FoundView, IsMarked, IsFoundOf, AddsVertex}
+use Rattle.dt_class.specs.FindsInner.{FoundView, IsMarked, IsFoundOf, AddsVertex}
 
 -- past the last mark nothing is marked
 pub marked_within : (marks : List Bool) (v : ℕ) → IsMarked marks v → v < length marks

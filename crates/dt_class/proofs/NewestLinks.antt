@@ -3,7 +3,7 @@ use Rattle.std.proofs.Common.{◌≡◌, ◌≢◌, ℕ, ◌+◌, ◌<◌, ◌�
 use Rattle.std.proofs.lemmas.List.{get_or_append_left, get_or_at, get_or-set_same, get_or-set_other}
 use Rattle.dt_lists.specs.Lists.{Either}
 use Rattle.dt_lists.proofs.Callers.{all_more, either_nat}
-use Rattle.dt_class.specs.Links.{near_end, earlier_link, link_at, IsNewest, AreChained, IsKept}
+use Rattle.dt_class.specs.LinksInner.{near_end, earlier_link, link_at, IsNewest, AreChained, IsKept}
 use Rattle.dt_class.specs.declared.link.Link.{Link}
 use Rattle.dt_class.specs.declared.link.Way.{Way}
 use Rattle.dt_class.specs.declared.link.Way.TheVariants.{Forth, Back}

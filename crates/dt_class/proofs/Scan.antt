@@ -4,8 +4,8 @@ use Rattle.std.proofs.lemmas.List.{take_at}
 use Rattle.dt_lists.specs.Lists.{AllIn, Has}
 use Rattle.dt_lists.specs.Chain.{Chain, here}
 use Rattle.dt_lists.proofs.Callers.{all_put, any_front, any_get, either_nat}
-use Rattle.dt_class.specs.Links.{IsStep}
-use Rattle.dt_class.specs.Finds.{FoundView, IsFoundOf, IsClosedUnder, IsFollowedIn, AddsVertex, Spreads, GoesOn, Visits, IsLastStart}
+use Rattle.dt_class.specs.LinksInner.{IsStep}
+use Rattle.dt_class.specs.FindsInner.{FoundView, IsFoundOf, IsClosedUnder, IsFollowedIn, AddsVertex, Spreads, GoesOn, Visits, IsLastStart}
 use Rattle.dt_class.specs.declared.link.Link.{Link}
 use Rattle.dt_class.specs.declared.link.Way.{Way}
 use Rattle.dt_class.proofs.Walk.{closed_keeps}

@@ -5,8 +5,8 @@ use Rattle.std.proofs.lemmas.Option.{slice_get_within, get_or_from_slice_get}
 use Rattle.dt_lists.specs.Lists.{AnyIn, AllIn, Has, IsFront}
 use Rattle.dt_lists.specs.Chain.{Chain, here, onward}
 use Rattle.dt_lists.proofs.Callers.{all_get, all_map, all_append, any_front, any_get, any_map, any_put, chain_keeps, front_refl, front_trans, has_last, has_longer, has_more, has_place}
-use Rattle.dt_class.specs.Links.{IsStep}
-use Rattle.dt_class.specs.Finds.{FoundView, IsFoundOf, IsClosedUnder, IsFollowedIn, AddsVertex, GainsSteps, IsReach, Spreads}
+use Rattle.dt_class.specs.LinksInner.{IsStep}
+use Rattle.dt_class.specs.FindsInner.{FoundView, IsFoundOf, IsClosedUnder, IsFollowedIn, AddsVertex, GainsSteps, IsReach, Spreads}
 use Rattle.dt_class.specs.declared.link.Link.{Link}
 use Rattle.dt_class.specs.declared.link.Way.{Way}
 use Rattle.dt_class.proofs.Marks.{marked_within}

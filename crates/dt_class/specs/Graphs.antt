@@ -1,7 +1,7 @@
 -- Directed graphs: a number of vertices and a list of edges. One vertex reaches another where a chain of edges leads from
 -- it there; each reaches itself. The class of a vertex is what it reaches and is reached from: in a graph of what waits
 -- for what, a deadlock is a class of two or more. The contracts of `Adj` are in these words alone. Read next: src/adj.rt;
--- Links.antt and Finds.antt are for whoever changes its code.
+-- LinksInner.antt and FindsInner.antt are for whoever changes its code.
 use Rattle.std.specs.Prelude.{◌≡◌, ℕ, ◌<◌, ◌↔◌, List}
 use Rattle.dt_lists.specs.Lists.{AnyIn, AllIn, EachThen, Has}
 use Rattle.dt_lists.specs.Chain.{Chain}

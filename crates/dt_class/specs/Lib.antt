@@ -1,3 +1,3 @@
 pub mod Graphs
-pub mod Links
-pub mod Finds
+pub mod LinksInner
+pub mod FindsInner

@@ -1,7 +1,7 @@
 ghost use Rattle.std.specs.Prelude.{◌≡◌, ◌<◌, ℕ, [], ◌∷◌, ◌++◌, IfOk, MatchOption, OnOk, OnErr};
 ghost use Rattle.dt_lists.specs.Lists.{AllIn};
 ghost use Rattle.dt_class.specs.Graphs.{AreAllBlocked, AreVertices, IsInClass, IsSource, Leads};
-ghost use Rattle.dt_class.specs.Finds.{IsReachOf};
+ghost use Rattle.dt_class.specs.FindsInner.{IsReachOf};
 
 use crate::found::Found;
 use crate::link::{Link, Way};
@@ -24,7 +24,7 @@ pub struct Adj {
 impl Model for Adj {
     ghost use Rattle.std.specs.Prelude.{length, map};
     ghost use Rattle.dt_class.specs.Graphs.{AdjView};
-    ghost use Rattle.dt_class.specs.Links.{IsKept, edge_of};
+    ghost use Rattle.dt_class.specs.LinksInner.{IsKept, edge_of};
 
     ghost Value = { AdjView };
 

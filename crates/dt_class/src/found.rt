@@ -1,5 +1,5 @@
 ghost use Rattle.std.specs.Prelude.{◌≡◌, ◌<◌, [], false, length, get_or, replicate, slice_get, IfOk, OnOk};
-ghost use Rattle.dt_class.specs.Finds.{AddsVertex, AreMarked, IsFoundOf};
+ghost use Rattle.dt_class.specs.FindsInner.{AddsVertex, AreMarked, IsFoundOf};
 
 use dt_text::NoMemory;
 use std::alloc::Global;
@@ -14,7 +14,7 @@ pub struct Found {
 }
 
 impl Model for Found {
-    ghost use Rattle.dt_class.specs.Finds.{FoundView, IsFoundOf};
+    ghost use Rattle.dt_class.specs.FindsInner.{FoundView, IsFoundOf};
 
     ghost Value = { FoundView };
 

@@ -20,7 +20,7 @@ pub struct Link {
 
 impl Link {
     ghost use Rattle.std.specs.Prelude.{◌≡◌};
-    ghost use Rattle.dt_class.specs.Links.{far_end, earlier_link};
+    ghost use Rattle.dt_class.specs.LinksInner.{far_end, earlier_link};
 
     /// The vertex that the link leads to, the way that is asked.
     pub fn far_end(&self, way: Way) -> u32

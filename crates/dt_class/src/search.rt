@@ -1,7 +1,7 @@
 ghost use Rattle.std.specs.Prelude.{◌≡◌, ◌<◌, ◌≤◌, ◌^◌, length, take, IfOk, OnOk};
 ghost use Rattle.dt_lists.specs.Lists.{AllIn};
-ghost use Rattle.dt_class.specs.Links.{AreBelow, AreChained};
-ghost use Rattle.dt_class.specs.Finds.{GainsSteps, IsFollowedIn, IsReach, Spreads};
+ghost use Rattle.dt_class.specs.LinksInner.{AreBelow, AreChained};
+ghost use Rattle.dt_class.specs.FindsInner.{GainsSteps, IsFollowedIn, IsReach, Spreads};
 
 use crate::found::Found;
 use crate::link::{Link, Way};

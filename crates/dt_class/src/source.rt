@@ -1,6 +1,6 @@
 ghost use Rattle.std.specs.Prelude.{◌≡◌, ◌<◌, ◌^◌, length, IfOk};
-ghost use Rattle.dt_class.specs.Links.{AreBelow, AreChained};
-ghost use Rattle.dt_class.specs.Finds.{IsClosedUnder, IsFoundOf, IsLastStart, Visits};
+ghost use Rattle.dt_class.specs.LinksInner.{AreBelow, AreChained};
+ghost use Rattle.dt_class.specs.FindsInner.{IsClosedUnder, IsFoundOf, IsLastStart, Visits};
 
 use crate::found::Found;
 use crate::link::{Link, Way};

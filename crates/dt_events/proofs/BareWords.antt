@@ -1,4 +1,4 @@
--- The bare words of a line, found byte by byte from a place on.
+-- The bare words of a line, found one by one from a place on.
 use Rattle.std.proofs.Common.{◌≡◌, ◌≢◌, ℕ, ◌+◌, ◌<◌, ◌≤◌, ◌^◌, Bool, true, false, cond, ◌==◌, ◌||◌, ◌&&◌, nat_lt, List, []}
 use Rattle.std.proofs.Common.{◌∷◌, ◌++◌, length, get_or, drop, map, Option, Some, None, Bor, refl, sym, ◌∙◌, ap, arith, append_assoc, append-nil, eq-eqb, ne_eqb}
 use Rattle.std.specs.Option.{option_map}
@@ -10,81 +10,12 @@ use Rattle.std.proofs.lemmas.Option.{same_Some}
 use Rattle.dt_lists.proofs.Callers.{same_head, same_tail}
 use Rattle.dt_text.specs.Texts.{is_text_byte}
 use Rattle.dt_text.specs.Words.{is_visible}
-use Rattle.dt_text.specs.Reading.{with_word, words_from, bare_from, text_from, escape_from, after_text, words_of}
-use Rattle.dt_text.specs.ReadingParts.{BareEndsAt}
-use Rattle.dt_text.proofs.Callers.{exact}
+use Rattle.dt_text.specs.Reading.{with_word, words_from, text_from, escape_from, after_text, BareEndsAt, words_of}
+use Rattle.dt_text.proofs.Callers.{bare_begins, exact, no_more, no_word, text_begins}
 use Rattle.dt_text.specs.declared.word.Word.{Word}
 use Rattle.dt_text.specs.declared.word.Word.TheVariants.{Bare, Text}
 use Rattle.dt_events.specs.Events.{bare_bytes, AreBareWords}
 use Rattle.dt_events.specs.Reading.{spelled, AreShort}
-
--- ---- by the byte at the place
-
-gap_end : (at : ℕ) → words_from at [] ≡ Some []
-unfolding words_from
-gap_end at = refl
-
-gap_space : (at b : ℕ) (bs : List ℕ) → b ≡ 32 → words_from at (b ∷ bs) ≡ words_from (at + 1) bs
-unfolding words_from
-gap_space at b bs space = rw (eq-eqb b 32 space) refl
-
-gap_quote : (at b : ℕ) (bs : List ℕ) → b ≡ 34 → words_from at (b ∷ bs) ≡ text_from [] (at + 1) bs
-unfolding words_from
-gap_quote at b bs quote =
-    let no_space : b ≢ 32 = omega arith in
-    rw (ne_eqb b 32 no_space, eq-eqb b 34 quote) refl
-
-gap_bare : (at b : ℕ) (bs : List ℕ) → b ≢ 34 → is_visible b ≡ true → words_from at (b ∷ bs) ≡ bare_from at (at + 1) bs
-unfolding words_from
-gap_bare at b bs plain visible =
-    let no_space : b ≢ 32 = grind (arith, nat_tests) in
-    rw (ne_eqb b 32 no_space, ne_eqb b 34 plain, visible) refl
-
-gap_bad : (at b : ℕ) (bs : List ℕ) → b ≢ 32 → is_visible b ≡ false → words_from at (b ∷ bs) ≡ None
-unfolding words_from
-gap_bad at b bs no_space bad =
-    let plain : b ≢ 34 = grind (arith, nat_tests) in
-    rw (ne_eqb b 32 no_space, ne_eqb b 34 plain, bad) refl
-
-last_bare : (from at : ℕ) → bare_from from at [] ≡ with_word (Bare from at) (words_from at [])
-unfolding words_from
-last_bare from at = refl
-
-bare_more : (from at b : ℕ) (bs : List ℕ) → is_visible b ≡ true → bare_from from at (b ∷ bs) ≡ bare_from from (at + 1) bs
-unfolding words_from
-bare_more from at b bs visible =
-    let no_space : b ≢ 32 = grind (arith, nat_tests) in
-    rw (ne_eqb b 32 no_space, visible) refl
-
-bare_over : (from at b : ℕ) (bs : List ℕ) → is_visible b ≡ false → bare_from from at (b ∷ bs) ≡ with_word (Bare from at) (words_from at (b ∷ bs))
-unfolding words_from
-bare_over from at b bs over = by_space (b == 32) refl
-  where
-    by_space : (space : Bool) → (b == 32) ≡ space → bare_from from at (b ∷ bs) ≡ with_word (Bare from at) (words_from at (b ∷ bs))
-    by_space true e = rw e refl
-    by_space false e =
-        let plain : b ≢ 34 = grind (arith, nat_tests) in
-        rw (e, ne_eqb b 34 plain, over) refl
-
-past_end : (line : List ℕ) (at : ℕ) → length line ≤ at → drop at line ≡ []
-past_end line at past = grind (arith, common_steps)
-
--- a space between words
-pub gap_step : (line : List ℕ) (at : ℕ) → at < length line → get_or line at 0 ≡ 32 → words_from at (drop at line) ≡ words_from (at + 1) (drop (at + 1) line)
-gap_step line at inside space = rw (drop_more line at 0 inside) (gap_space at _ _ space)
-
--- one more byte of a bare word
-pub bare_step : (line : List ℕ) (at end : ℕ) → at < length line → is_visible (get_or line at 0) ≡ true → BareEndsAt line (at + 1) end → BareEndsAt line at end
-bare_step line at end inside visible rest from = rw (drop_more line at 0 inside) (bare_more from at _ _ visible ∙ rest from)
-
--- the end of a bare word
-pub bare_stop : (line : List ℕ) (at : ℕ) → at < length line → is_visible (get_or line at 0) ≡ false → BareEndsAt line at at
-bare_stop line at inside over from = rw (drop_more line at 0 inside) (bare_over from at _ _ over)
-
-pub bare_at_end : (line : List ℕ) (at : ℕ) → length line ≤ at → BareEndsAt line at at
-bare_at_end line at past from = rw (past_end line at past) (last_bare from at)
-
--- ---- the bytes of words
 
 -- one more word before others, if it is bare
 abbrev pub onto : Option (List ℕ) → Option (List (List ℕ)) → Option (List (List ℕ))
@@ -135,17 +66,16 @@ bares_from line at = bares line (words_from at (drop at line))
 
 -- no bare word begins at the place
 pub no_bare : (line : List ℕ) (at : ℕ) → at < length line → get_or line at 0 ≢ 32 → is_visible (get_or line at 0) ≡ false → bares_from line at ≡ None
-no_bare line at inside no_space bad = rw (drop_more line at 0 inside, gap_bad at _ _ no_space bad) refl
+no_bare line at inside no_space bad = ap (bares line) (no_word line at inside no_space bad)
 
-pub text_begins : (line : List ℕ) (at : ℕ) → at < length line → get_or line at 0 ≡ 34 → bares_from line at ≡ None
-text_begins line at inside quote = rw (drop_more line at 0 inside, gap_quote at _ _ quote) (bares-text line [] (at + 1) _)
+pub no_bare_text : (line : List ℕ) (at : ℕ) → at < length line → get_or line at 0 ≡ 34 → bares_from line at ≡ None
+no_bare_text line at inside quote = ap (bares line) (text_begins line at inside quote) ∙ bares-text line [] (at + 1) _
 
 -- a bare word from one place to another
 one_bare : (line : List ℕ) (at end : ℕ) → at < length line → get_or line at 0 ≢ 34 → is_visible (get_or line at 0) ≡ true → BareEndsAt line (at + 1) end
     → bares_from line at ≡ option_map (λ ws. slice_range line at end ∷ ws) (bares_from line end)
 one_bare line at end inside plain visible ends =
-    let begun : words_from at (drop at line) ≡ with_word (Bare at end) (words_from end (drop end line)) = rw (drop_more line at 0 inside) (gap_bare at _ _ plain visible ∙ ends at) in
-    ap (bares line) begun ∙ bares-with line (Bare at end) (words_from end (drop end line))
+    ap (bares line) (bare_begins line at end inside plain visible ends) ∙ bares-with line (Bare at end) (words_from end (drop end line))
 
 -- ---- the words of a line
 
@@ -207,11 +137,8 @@ map-all_bare line (word ∷ words) (w ∷ found) e = rw (same_head e, map-all_ba
 pub are_found : (line : List ℕ) (found : List (List ℕ)) (at : ℕ) → length line ≤ at → AreSoFar line found at → AreBareWords line found
 are_found line found at past before = by_words (words_of line) refl
   where
-    none : words_from at (drop at line) ≡ Some []
-    none = rw (past_end line at past) (gap_end at)
-
     all : bares line (words_of line) ≡ Some found
-    all = sym before ∙ ap (λ ws. option_map (λ vs. found ++ vs) (bares line ws)) none ∙ ap Some (append-nil found)
+    all = sym before ∙ ap (λ ws. option_map (λ vs. found ++ vs) (bares line ws)) (no_more line at past) ∙ ap Some (append-nil found)
 
     by_words : (words : Option (List Word)) → words_of line ≡ words → AreBareWords line found
     by_words None e = let h = ap (bares line) (sym e) ∙ all in cc

@@ -11,9 +11,9 @@ use Rattle.dt_queue.specs.Queues.{Waiting}
 use Rattle.dt_waits.specs.declared.open.Open.{Open}
 use Rattle.dt_graph.specs.declared.waits.Waits.{Waits}
 use Rattle.dt_waits.specs.Graph.{GraphView, KeepsGraph}
-use Rattle.dt_graph.specs.Held.{IsFitted, kept_of}
+use Rattle.dt_graph.specs.HeldInner.{IsFitted, kept_of}
 use Rattle.dt_waits.specs.Steps.{Inserts, Leaves, Resolves}
-use Rattle.dt_graph.specs.Subset.{SubsetView}
+use Rattle.dt_graph.specs.SubsetInner.{SubsetView}
 
 -- the ids that have a part are at most as many as the parts
 pub few_ids : (view : View) (resolved : List (List TxnId)) (done : List TxnId) (g : GraphView) → KeepsGraph view resolved done g → length g.ids ≤ parts_in view

@@ -16,7 +16,7 @@ use Rattle.dt_waits.specs.Left.{IsOrderly}
 use Rattle.dt_waits.specs.Waits.{id_at}
 use Rattle.dt_waits.specs.Graph.{AllAreStuck, AreVerticesOf, GraphView, IsSomeGraph, IsStuck, KeepsGraph}
 use Rattle.dt_waits.specs.Among.{IsAmong, WaitsOutside}
-use Rattle.dt_graph.specs.SmallSteps.{AreIdsAt}
+use Rattle.dt_graph.specs.SmallStepsInner.{AreIdsAt}
 use Rattle.dt_waits.specs.Steps.{HaveSlots}
 use Rattle.dt_waits.proofs.Callers.{each_leads, member_stuck, none_blocked, not_all_blocked, one_place, place_has, place_leads, same_place, source_resolvable}
 use Rattle.dt_graph.proofs.AscendingNumbers.{full_has, full_length}

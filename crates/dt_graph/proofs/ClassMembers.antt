@@ -8,7 +8,7 @@ use Rattle.dt_queue.specs.Queues.{Waiting}
 use Rattle.dt_waits.specs.declared.vertex.Vertex.{Vertex}
 use Rattle.dt_waits.specs.declared.open.Open.{Open}
 use Rattle.dt_waits.specs.Graph.{vertex_at}
-use Rattle.dt_graph.specs.Subset.{PutsIn, Removes, SubsetView}
+use Rattle.dt_graph.specs.SubsetInner.{PutsIn, Removes, SubsetView}
 use Rattle.dt_waits.specs.Steps.{IsPut, Resolves}
 use Rattle.dt_graph.proofs.WalkByPlaces.{passed_at}
 

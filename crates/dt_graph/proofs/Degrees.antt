@@ -9,7 +9,7 @@ use Rattle.dt_lists.proofs.Callers.{any_get}
 use Rattle.dt_queue.specs.declared.Follower.{Follower}
 use Rattle.dt_queue.specs.Queues.{HasDistinctSlots, IsQueued, Waiting, follower_of, followers, followers_after}
 use Rattle.dt_waits.specs.Waits.{lowered, slots_of}
-use Rattle.dt_graph.specs.SmallSteps.{AreLowered, falls}
+use Rattle.dt_graph.specs.SmallStepsInner.{AreLowered, falls}
 use Rattle.dt_waits.proofs.Callers.{slot_same, slot_other}
 use Rattle.dt_graph.proofs.WalkByPlaces.{left_at}
 use Rattle.dt_graph.proofs.Followers.{first_told, followers_begin, followers_onward, lowered_one, none_told, to_lower}

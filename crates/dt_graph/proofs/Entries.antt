@@ -15,9 +15,9 @@ use Rattle.dt_queue.specs.Queues.{HasDistinctSlots, IsQueued, Waiting, neighbour
 use Rattle.dt_queue.proofs.Callers.{distinct_pushed, pushed_waits}
 use Rattle.dt_waits.specs.Waits.{degree, id_at, others}
 use Rattle.dt_waits.specs.Graph.{GraphView, vertex_at}
-use Rattle.dt_graph.specs.Subset.{SubsetView}
+use Rattle.dt_graph.specs.SubsetInner.{SubsetView}
 use Rattle.dt_waits.specs.Steps.{AreEntriesOf, Grows, Inserts, fresh_vertex}
-use Rattle.dt_graph.specs.SmallSteps.{Enters, Pushes, Sorts, raised}
+use Rattle.dt_graph.specs.SmallStepsInner.{Enters, Pushes, Sorts, raised}
 use Rattle.dt_waits.proofs.Callers.{degree_fits, degree_pushed, filter_whole, id_has, slot_other, slot_same}
 
 -- no use was pushed

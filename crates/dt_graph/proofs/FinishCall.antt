@@ -11,9 +11,9 @@ use Rattle.dt_waits.specs.declared.open.Open.{Open}
 use Rattle.dt_waits.specs.Left.{IsLeft, IsOrderly}
 use Rattle.dt_waits.specs.Waits.{id_at}
 use Rattle.dt_waits.specs.Graph.{GraphView, KeepsGraph, IsOpened, IsPlaceOfClass, vertex_at}
-use Rattle.dt_graph.specs.Names.{IsNumberOf}
+use Rattle.dt_graph.specs.NamesInner.{IsNumberOf}
 use Rattle.dt_waits.specs.Steps.{FinishesId, IsReadyWithout, Leaves, MayLeave, before, last, one_done}
-use Rattle.dt_graph.specs.SmallSteps.{FinishesIn, MayFinishIn, all, one}
+use Rattle.dt_graph.specs.SmallStepsInner.{FinishesIn, MayFinishIn, all, one}
 use Rattle.dt_waits.proofs.Callers.{at_named, class_of_resolved, distinct_members, executable_left, left_after, may_leave, member_of, next_is, pairwise_get}
 use Rattle.dt_graph.proofs.Subsets.{few_below}
 

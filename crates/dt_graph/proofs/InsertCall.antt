@@ -8,7 +8,7 @@ use Rattle.dt_waits.specs.declared.open.Open.{Open}
 use Rattle.dt_graph.specs.declared.waits.Waits.{Waits}
 use Rattle.dt_waits.specs.Left.{IsOrderly}
 use Rattle.dt_waits.specs.Graph.{GraphView, KeepsGraph}
-use Rattle.dt_graph.specs.Held.{kept_of}
+use Rattle.dt_graph.specs.HeldInner.{kept_of}
 use Rattle.dt_graph.proofs.Bounds.{few_ids}
 
 -- a part may be inserted, and what is kept is the graph

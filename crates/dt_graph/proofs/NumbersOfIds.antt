@@ -7,7 +7,7 @@ use Rattle.dt_lists.proofs.Callers.{distinct_push, has_more, has_place, last_pla
 use Rattle.dt_access.specs.Ids.{same_id}
 use Rattle.dt_access.specs.declared.TxnId.{TxnId}
 use Rattle.dt_access.proofs.Callers.{either_id, test_of_id, test_of_other}
-use Rattle.dt_graph.specs.Names.{AreIdsNumbered, IsNumberOf, PutsNumber, SameNumbers, first_number, number_at}
+use Rattle.dt_graph.specs.NamesInner.{AreIdsNumbered, IsNumberOf, PutsNumber, SameNumbers, first_number, number_at}
 
 -- a place without a number behind others does not show
 pub none_behind : (ps : List (Option ℕ)) (i : ℕ) → get_or (ps ++ None ∷ []) i None ≡ get_or ps i None

@@ -9,8 +9,8 @@ use Rattle.dt_waits.specs.declared.open.Open.{Open}
 use Rattle.dt_graph.specs.declared.waits.Waits.{Waits}
 use Rattle.dt_waits.specs.Waits.{id_at}
 use Rattle.dt_waits.specs.Graph.{GraphView, vertex_at}
-use Rattle.dt_graph.specs.Held.{kept_of}
-use Rattle.dt_graph.specs.SmallSteps.{Enters, Sorts}
+use Rattle.dt_graph.specs.HeldInner.{kept_of}
+use Rattle.dt_graph.specs.SmallStepsInner.{Enters, Sorts}
 use Rattle.dt_waits.specs.Steps.{Inserts}
 use Rattle.dt_graph.proofs.Entries.{inserts_again, inserts_first}
 

@@ -14,8 +14,8 @@ use Rattle.dt_queue.specs.declared.Follower.{Follower}
 use Rattle.dt_queue.specs.Queues.{HasDistinctSlots, IsQueued, Waiting, follower_of, followers, followers_after}
 use Rattle.dt_waits.specs.Waits.{is_of, lowered}
 use Rattle.dt_waits.proofs.Callers.{slot_other}
-use Rattle.dt_graph.specs.Subset.{SubsetView}
-use Rattle.dt_graph.specs.SmallSteps.{AreLowered, IsFollowedAt, Wakes, falls}
+use Rattle.dt_graph.specs.SubsetInner.{SubsetView}
+use Rattle.dt_graph.specs.SmallStepsInner.{AreLowered, IsFollowedAt, Wakes, falls}
 use Rattle.dt_graph.proofs.Followers.{first_told, followers_onward}
 use Rattle.dt_graph.proofs.Degrees.{IsLowering, lowering_onward}
 use Rattle.dt_graph.proofs.Wakes.{IsOfSome, IsWaking, of_some_decided, wakes_same}

@@ -16,7 +16,7 @@ use Rattle.dt_access.specs.declared.TxnId.{TxnId}
 use Rattle.dt_access.proofs.Callers.{by_parts, id_of_test, same_by_parts, same_id_turned, test_of_id}
 use Rattle.dt_graph.specs.declared.graph.Member.{Member}
 use Rattle.dt_waits.specs.Graph.{GraphView, vertex_at}
-use Rattle.dt_graph.specs.Names.{IsNumberOf}
+use Rattle.dt_graph.specs.NamesInner.{IsNumberOf}
 use Rattle.dt_waits.specs.Steps.{RunInOrder, RunsBefore}
 use Rattle.dt_waits.specs.Waits.{id_at}
 use Rattle.dt_waits.proofs.Callers.{at_named, take_all}

@@ -11,7 +11,7 @@ use Rattle.dt_lists.proofs.Callers.{all_map, any_image, any_map, any_of_image, a
 use Rattle.dt_access.specs.Ids.{Before, same_id}
 use Rattle.dt_access.specs.declared.TxnId.{TxnId}
 use Rattle.dt_access.proofs.Callers.{before_less, before_total, before_transitive, by_parts, id_of_test, same_id_turned, test_of_id}
-use Rattle.dt_graph.specs.SmallSteps.{AreIdsAt}
+use Rattle.dt_graph.specs.SmallStepsInner.{AreIdsAt}
 use Rattle.dt_waits.specs.Waits.{id_at}
 
 -- a permutation has the same items, each as often; whether two are the same is decided by a test

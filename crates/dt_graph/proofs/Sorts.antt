@@ -2,8 +2,8 @@
 use Rattle.std.proofs.Common.{◌≡◌, ◌≢◌, ℕ, List, get_or, inl, inr, refl}
 use Rattle.dt_waits.specs.declared.vertex.Vertex.{Vertex}
 use Rattle.dt_waits.specs.Graph.{vertex_at}
-use Rattle.dt_graph.specs.Subset.{PutsIn, SubsetView}
-use Rattle.dt_graph.specs.SmallSteps.{Sorts}
+use Rattle.dt_graph.specs.SubsetInner.{PutsIn, SubsetView}
+use Rattle.dt_graph.specs.SmallStepsInner.{Sorts}
 
 -- it is complete and of degree 0
 pub sorts_ready : (v : ℕ) (vertices : List Vertex) (degrees : List ℕ) (ready stuck now : SubsetView) → (vertex_at vertices v).missing ≡ 0 → get_or degrees v 0 ≡ 0 → PutsIn v ready now

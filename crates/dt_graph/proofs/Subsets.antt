@@ -8,7 +8,7 @@ use Rattle.dt_lists.specs.Lists.{AllIn, Has, Distinct}
 use Rattle.dt_lists.proofs.Callers.{all_append, all_append_left, all_get, all_map, all_put, distinct_push, distinct_within, each_append_left, each_across, either_nat, has_last, has_longer, has_more}
 use Rattle.dt_lists.proofs.Callers.{all_set, has_place, last_place, place_in_longer, place_in_more, place_of, place_within, some_same}
 use Rattle.dt_waits.proofs.Callers.{one_place}
-use Rattle.dt_graph.specs.Subset.{PutsIn, StandsAtPlace, IsSubset, Removes}
+use Rattle.dt_graph.specs.SubsetInner.{PutsIn, StandsAtPlace, IsSubset, Removes}
 
 -- the numbers below a bound
 abbrev below : ℕ → List ℕ

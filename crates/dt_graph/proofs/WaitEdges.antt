@@ -9,7 +9,7 @@ use Rattle.dt_class.specs.Graphs.{AdjView}
 use Rattle.dt_queue.specs.Queues.{IsQueued, Waiting, neighbours}
 use Rattle.dt_waits.specs.Waits.{is_of, slots_of}
 use Rattle.dt_waits.specs.Among.{HasNeighbour}
-use Rattle.dt_graph.specs.Links.{IsSourceAt, IsSourceOf, HasLinked}
+use Rattle.dt_graph.specs.LinksInner.{IsSourceAt, IsSourceOf, HasLinked}
 use Rattle.dt_waits.proofs.Callers.{one_place}
 
 -- one source that is in the list

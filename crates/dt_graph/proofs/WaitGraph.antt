@@ -8,7 +8,7 @@ use Rattle.dt_class.specs.Graphs.{AdjView, IsEdge}
 use Rattle.dt_queue.specs.Queues.{Waiting}
 use Rattle.dt_waits.specs.Waits.{slots_of}
 use Rattle.dt_waits.specs.Among.{HasNeighbour, IsAmong, WaitsOutside}
-use Rattle.dt_graph.specs.Links.{IsSourceAt, HasLinked}
+use Rattle.dt_graph.specs.LinksInner.{IsSourceAt, HasLinked}
 use Rattle.dt_waits.specs.declared.vertex.Vertex.{Vertex}
 use Rattle.dt_waits.specs.Graph.{vertex_at}
 use Rattle.dt_waits.specs.Steps.{HaveSlots}

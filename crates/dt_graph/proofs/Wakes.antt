@@ -5,8 +5,8 @@ use Rattle.std.proofs.lemmas.List.{append-nil}
 use Rattle.dt_lists.specs.Lists.{AnyIn, Has, Either}
 use Rattle.dt_lists.proofs.Callers.{any_get, either_any, either_nat}
 use Rattle.dt_queue.specs.Queues.{HasDistinctSlots, IsQueued, Waiting, follower_of, followers, followers_after}
-use Rattle.dt_graph.specs.Subset.{PutsIn, Removes, SubsetView}
-use Rattle.dt_graph.specs.SmallSteps.{IsFollowedAt, Wakes}
+use Rattle.dt_graph.specs.SubsetInner.{PutsIn, Removes, SubsetView}
+use Rattle.dt_graph.specs.SmallStepsInner.{IsFollowedAt, Wakes}
 use Rattle.dt_graph.proofs.Followers.{followers_begin, none_told}
 
 -- of no vertex

@@ -1,6 +1,6 @@
 pub mod Seen
-pub mod SmallSteps
-pub mod Links
-pub mod Subset
-pub mod Names
-pub mod Held
+pub mod SmallStepsInner
+pub mod LinksInner
+pub mod SubsetInner
+pub mod NamesInner
+pub mod HeldInner

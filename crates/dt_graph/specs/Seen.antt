@@ -1,5 +1,5 @@
 -- What the scheduler with queues is seen as after a change. What it keeps of what is left in the graph stands in Graph.antt of
--- dt_waits. Read next: `Held`, for how it is kept.
+-- dt_waits. Read next: `HeldInner`, for how it is kept.
 use Rattle.dt_sched.specs.Sched.{Sched, after_finish, after_insert, after_resolve}
 use Rattle.dt_graph.specs.declared.seen.Change.{Change}
 use Rattle.dt_graph.specs.declared.seen.Change.TheVariants.{Finished, Inserted, Resolved}

@@ -2,7 +2,7 @@ ghost use Rattle.std.specs.Prelude.{◌≡◌, ◌<◌, ◌^◌, IfOk, length};
 ghost use Rattle.dt_lists.specs.Lists.{AllIn, Distinct};
 ghost use Rattle.dt_queue.specs.Queues.{HasDistinctSlots, IsQueued};
 ghost use Rattle.dt_waits.specs.Among.{IsAmong};
-ghost use Rattle.dt_graph.specs.Links.{IsSourceAt, IsSourceOf, HasLinked};
+ghost use Rattle.dt_graph.specs.LinksInner.{IsSourceAt, IsSourceOf, HasLinked};
 ghost use Rattle.dt_waits.specs.Steps.{HaveSlots};
 
 use crate::group::Group;

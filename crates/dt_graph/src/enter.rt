@@ -1,7 +1,7 @@
 ghost use Rattle.std.specs.Prelude.{◌≡◌, ◌<◌, ◌^◌, ℕ, [], ◌∷◌, ◌++◌, List, IfOk, OnErr, OnOk, length, map};
 ghost use Rattle.dt_queue.specs.Queues.{HasDistinctSlots, IsQueued, Waiting, neighbours};
 ghost use Rattle.dt_waits.specs.Waits.{degree};
-ghost use Rattle.dt_graph.specs.SmallSteps.{Enters, Pushes, raised};
+ghost use Rattle.dt_graph.specs.SmallStepsInner.{Enters, Pushes, raised};
 
 use dt_access::{Mode, Part};
 use dt_queue::Queues;

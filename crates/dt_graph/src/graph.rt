@@ -8,7 +8,7 @@ ghost use Rattle.dt_sched.specs.Sched.{CanInsert};
 ghost use Rattle.dt_sched.specs.Views.{View};
 ghost use Rattle.dt_waits.specs.Graph.{AllAreStuck, AreVerticesOf, KeepsGraph, IsSomeGraph, nothing_kept};
 ghost use Rattle.dt_waits.specs.Left.{IsOrderly};
-ghost use Rattle.dt_graph.specs.SmallSteps.{AreIdsAt, FinishesIn, MayFinishIn};
+ghost use Rattle.dt_graph.specs.SmallStepsInner.{AreIdsAt, FinishesIn, MayFinishIn};
 ghost use Rattle.dt_waits.specs.Steps.{RunInOrder, FinishesId, InsertsPart, ResolvesClass};
 ghost use Rattle.dt_waits.specs.Waits.{id_at};
 
@@ -31,7 +31,7 @@ pub struct Graph {
 
 impl Model for Graph {
     ghost use Rattle.dt_waits.specs.Graph.{GraphView};
-    ghost use Rattle.dt_graph.specs.Held.{IsFitted, kept_of};
+    ghost use Rattle.dt_graph.specs.HeldInner.{IsFitted, kept_of};
 
     ghost Value = { GraphView };
 

@@ -1,6 +1,6 @@
 ghost use Rattle.std.specs.Prelude.{◌≡◌, ◌<◌, ◌^◌, IfOk, length};
 ghost use Rattle.dt_lists.specs.Lists.{Distinct};
-ghost use Rattle.dt_graph.specs.Names.{IsPlaceIn};
+ghost use Rattle.dt_graph.specs.NamesInner.{IsPlaceIn};
 
 use dt_text::NoMemory;
 use indexmap::IndexSet;

@@ -3,7 +3,7 @@ ghost use Rattle.std.specs.List.{list_any};
 ghost use Rattle.dt_lists.specs.Lists.{AllIn, AnyIn, Distinct};
 ghost use Rattle.dt_queue.specs.Queues.{HasDistinctSlots, IsQueued};
 ghost use Rattle.dt_waits.specs.Steps.{AreEntriesBelow, HaveSlots};
-ghost use Rattle.dt_graph.specs.SmallSteps.{AreLowered, IsFollowedAt, Wakes, falls};
+ghost use Rattle.dt_graph.specs.SmallStepsInner.{AreLowered, IsFollowedAt, Wakes, falls};
 ghost use Rattle.dt_waits.specs.Waits.{IsFollowed, is_leaving, lowered, lowered_by};
 
 use crate::subset::Subset;

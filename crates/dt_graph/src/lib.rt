@@ -11,7 +11,7 @@
 //!   stuck ones alone (the crate dt_class);
 //! - of a resolved class the soonest member that is not done is ready.
 //!
-//! Read next: dt_waits for what is kept and why it is enough, `sched.rt` for the calls, `specs/SmallSteps.antt` for what happens
+//! Read next: dt_waits for what is kept and why it is enough, `sched.rt` for the calls, `specs/SmallStepsInner.antt` for what happens
 //! within one.
 #![tactic(auto)]
 

@@ -2,7 +2,7 @@ ghost use Rattle.std.specs.Prelude.{◌≡◌, ◌+◌, ◌<◌, ◌^◌, [], �
 ghost use Rattle.indexmap.specs.IndexMap.{Updates, spare};
 ghost use Rattle.dt_access.specs.Ids.{same_id};
 ghost use Rattle.dt_lists.specs.Lists.{Has, Distinct};
-ghost use Rattle.dt_graph.specs.Names.{HasRoomForId, IsNumberOf};
+ghost use Rattle.dt_graph.specs.NamesInner.{HasRoomForId, IsNumberOf};
 ghost use Rattle.dt_waits.specs.Waits.{id_at};
 
 use crate::numbers::{Numbers, number_at, put, reach};
@@ -28,7 +28,7 @@ impl Model for Names {
     ghost use Rattle.std.specs.Prelude.{◌-◌, vec_capacity, vec_len};
     ghost use Rattle.indexmap.specs.IndexMap.{get, spare};
     ghost use Rattle.dt_access.specs.Ids.{same_id};
-    ghost use Rattle.dt_graph.specs.Names.{AreIdsNumbered, NamesView};
+    ghost use Rattle.dt_graph.specs.NamesInner.{AreIdsNumbered, NamesView};
 
     ghost Value = { NamesView };
 

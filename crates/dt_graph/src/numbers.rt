@@ -1,5 +1,5 @@
 ghost use Rattle.std.specs.Prelude.{◌≡◌, ◌+◌, ◌<◌, ◌^◌, ℕ, [], None, Some, IsFalse, IsTrue, get_or, length, set};
-ghost use Rattle.dt_graph.specs.Names.{PutsNumber, SameNumbers, number_at};
+ghost use Rattle.dt_graph.specs.NamesInner.{PutsNumber, SameNumbers, number_at};
 
 use dt_access::TxnId;
 use dt_text::NoMemory;

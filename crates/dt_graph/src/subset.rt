@@ -1,6 +1,6 @@
 ghost use Rattle.std.specs.Prelude.{◌≡◌, ◌≤◌, ◌<◌, ◌^◌, ◌↔◌, [], IsTrue, OnOk};
 ghost use Rattle.dt_lists.specs.Lists.{AllIn, Has, Distinct};
-ghost use Rattle.dt_graph.specs.Subset.{PutsIn, Removes};
+ghost use Rattle.dt_graph.specs.SubsetInner.{PutsIn, Removes};
 
 use crate::room::push_reserved;
 use dt_text::NoMemory;
@@ -18,7 +18,7 @@ pub struct Subset {
 
 impl Model for Subset {
     ghost use Rattle.std.specs.Prelude.{length, vec_capacity};
-    ghost use Rattle.dt_graph.specs.Subset.{IsSubset, SubsetView};
+    ghost use Rattle.dt_graph.specs.SubsetInner.{IsSubset, SubsetView};
 
     ghost Value = { SubsetView };
 

@@ -6,9 +6,9 @@ ghost use Rattle.dt_queue.specs.Queues.{HasDistinctSlots, Waiting};
 ghost use Rattle.dt_waits.specs.declared.open.Open.{Open};
 ghost use Rattle.dt_waits.specs.Graph.{vertex_at};
 ghost use Rattle.dt_waits.specs.Steps.{AreEntriesBelow, HaveSlots, Inserts, Leaves, Resolves};
-ghost use Rattle.dt_graph.specs.SmallSteps.{Sorts};
+ghost use Rattle.dt_graph.specs.SmallStepsInner.{Sorts};
 ghost use Rattle.dt_waits.specs.Waits.{degree, id_at, lowered_by};
-ghost use Rattle.dt_graph.specs.Held.{FitsOneMore, kept_of};
+ghost use Rattle.dt_graph.specs.HeldInner.{FitsOneMore, kept_of};
 
 use crate::enter::enter;
 use crate::leave::leave;

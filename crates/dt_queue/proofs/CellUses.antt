@@ -12,10 +12,10 @@ use Rattle.dt_queue.specs.declared.cell.Cell.{Cell}
 use Rattle.dt_queue.specs.declared.mark.Mark.{Mark}
 use Rattle.dt_queue.specs.declared.kept.Kept.{Kept}
 use Rattle.dt_queue.specs.declared.rows.Rows.{Rows}
-use Rattle.dt_queue.specs.Kept.{CellsClash, IsInLane, AreQueuesKept, lane, mark_of, place_at}
-use Rattle.dt_queue.specs.Lanes.{AreApart}
-use Rattle.dt_queue.specs.InUse.{rows_at}
-use Rattle.dt_queue.specs.Rows.{granule_at}
+use Rattle.dt_queue.specs.KeptInner.{CellsClash, IsInLane, AreQueuesKept, lane, mark_of, place_at}
+use Rattle.dt_queue.specs.LanesInner.{AreApart}
+use Rattle.dt_queue.specs.InUseInner.{rows_at}
+use Rattle.dt_queue.specs.RowsInner.{granule_at}
 
 -- a mark that has its cell
 pub record IsMarkOf (k : Kept) (m : Mark) (c : Cell) : Type 0 where

@@ -7,7 +7,7 @@ use Rattle.slab.specs.Slab.{Slab, Updates, get, entries, entries_from}
 use Rattle.dt_lists.specs.Lists.{AllIn, EachThen, Has}
 use Rattle.dt_lists.proofs.Callers.{all_get, all_map, all_put, any_append, any_append_left, any_append_right, ascending_same, each_append, either_nat, filter_each, has_filter, has_of_filtered}
 use Rattle.dt_queue.specs.declared.cell.Cell.{Cell}
-use Rattle.dt_queue.specs.Kept.{in_order, put_cell}
+use Rattle.dt_queue.specs.KeptInner.{in_order, put_cell}
 
 -- the numbers of cells ascend
 abbrev pub Rise : ℕ × Cell → ℕ × Cell → Type 0

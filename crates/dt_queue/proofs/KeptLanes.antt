@@ -12,9 +12,9 @@ use Rattle.dt_queue.specs.declared.cell.Cell.{Cell}
 use Rattle.dt_queue.specs.declared.mark.Mark.{Mark}
 use Rattle.dt_queue.specs.declared.kept.Kept.{Kept}
 use Rattle.dt_queue.specs.declared.rows.Rows.{Rows}
-use Rattle.dt_queue.specs.Kept.{AreRowsInUse, ChangesLaneOf, IsInLane, AreQueuesKept, IsLane, KeepsLanes, lane, mark_of, place_at}
-use Rattle.dt_queue.specs.Lanes.{ChangesLane, SameLanes}
-use Rattle.dt_queue.specs.Rows.{AreRowsLinked, KeepsRows, granule_at}
+use Rattle.dt_queue.specs.KeptInner.{AreRowsInUse, ChangesLaneOf, IsInLane, AreQueuesKept, IsLane, KeepsLanes, lane, mark_of, place_at}
+use Rattle.dt_queue.specs.LanesInner.{ChangesLane, SameLanes}
+use Rattle.dt_queue.specs.RowsInner.{AreRowsLinked, KeepsRows, granule_at}
 use Rattle.dt_queue.proofs.Marks.{numbered_more}
 use Rattle.dt_queue.proofs.InOrder.{AreAlone}
 

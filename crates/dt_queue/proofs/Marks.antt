@@ -6,7 +6,7 @@ use Rattle.std.specs.List.Sorted.{IsPartitionedBy, IsPartitionPoint}
 use Rattle.dt_lists.specs.Lists.{AllIn, Has}
 use Rattle.dt_lists.proofs.Callers.{all_get, either_le, all_index, filter_whole, filter_none}
 use Rattle.dt_queue.specs.declared.mark.Mark.{Mark}
-use Rattle.dt_queue.specs.Lanes.{HasRisingNumbers, EndsBelow, IsBetween, IsFirstBetween, IsLastBetween, is_between}
+use Rattle.dt_queue.specs.LanesInner.{HasRisingNumbers, EndsBelow, IsBetween, IsFirstBetween, IsLastBetween, is_between}
 
 -- marks with lesser numbers stand before the others
 pub parted : (n : ℕ) (ms : List Mark) → HasRisingNumbers ms → IsPartitionedBy (λ m. nat_lt m.number n) ms

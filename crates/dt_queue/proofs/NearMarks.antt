@@ -8,8 +8,8 @@ use Rattle.dt_lists.proofs.Callers.{all_get, either_le, filter_each, has_filter,
 use Rattle.dt_queue.specs.declared.mark.Mark.{Mark}
 use Rattle.dt_queue.specs.declared.next.Next.{Next}
 use Rattle.std.proofs.lemmas.List.{append-nil}
-use Rattle.dt_queue.specs.Lanes.{AddsMarks, AreApart, AreMarks, HasRisingNumbers, IsBetween, IsFirstBetween, IsFirstIn, IsLastBetween, IsLastIn, IsNearInRow, IsNextInRow, NoneBetween, is_between, later_than, number_or}
-use Rattle.dt_queue.specs.Next.{IsFirstAfter, IsKnownNext}
+use Rattle.dt_queue.specs.LanesInner.{AddsMarks, AreApart, AreMarks, HasRisingNumbers, IsBetween, IsFirstBetween, IsFirstIn, IsLastBetween, IsLastIn, IsNearInRow, IsNextInRow, NoneBetween, is_between, later_than, number_or}
+use Rattle.dt_queue.specs.NextInner.{IsFirstAfter, IsKnownNext}
 use Rattle.dt_queue.proofs.Marks.{between_true}
 
 pub trichotomy : (a b : ℕ) → (a < b) ⊎ (a ≡ b) ⊎ (b < a)

@@ -14,11 +14,11 @@ use Rattle.dt_queue.specs.declared.cell.Cell.{Cell}
 use Rattle.dt_queue.specs.declared.mark.Mark.{Mark}
 use Rattle.dt_queue.specs.declared.kept.Kept.{Kept}
 use Rattle.dt_queue.specs.declared.rows.Rows.{Rows}
-use Rattle.dt_queue.specs.Kept.{AreQueuesKept, IsInLane, IsLane, entry, in_order, lane, mark_of, place_at, put_cell, waiting_of}
-use Rattle.dt_queue.specs.Lanes.{EndsBelow, HasRisingNumbers}
-use Rattle.dt_queue.specs.Numbers.{AreGiven, IsBeside, IsFirstBelow, IsFirstFrom, IsGap, ShowsSame, anew, renumbered}
-use Rattle.dt_queue.specs.InUse.{rows_at}
-use Rattle.dt_queue.specs.Rows.{AreRowsLinked, KeepsRows}
+use Rattle.dt_queue.specs.KeptInner.{AreQueuesKept, IsInLane, IsLane, entry, in_order, lane, mark_of, place_at, put_cell, waiting_of}
+use Rattle.dt_queue.specs.LanesInner.{EndsBelow, HasRisingNumbers}
+use Rattle.dt_queue.specs.NumbersInner.{AreGiven, IsBeside, IsFirstBelow, IsFirstFrom, IsGap, ShowsSame, anew, renumbered}
+use Rattle.dt_queue.specs.InUseInner.{rows_at}
+use Rattle.dt_queue.specs.RowsInner.{AreRowsLinked, KeepsRows}
 use Rattle.dt_queue.proofs.InOrder.{AreAlone, IsListed, Rise, listed, same_list}
 use Rattle.dt_queue.proofs.KeptLanes.{either_place, kept_same, rows_refl, same_lanes}
 use Rattle.dt_queue.proofs.RowsUsed.{rows_same, used_mapped}

@@ -11,11 +11,11 @@ use Rattle.dt_queue.specs.declared.cell.Cell.{Cell}
 use Rattle.dt_queue.specs.declared.mark.Mark.{Mark}
 use Rattle.dt_queue.specs.declared.kept.Kept.{Kept}
 use Rattle.dt_queue.specs.declared.next.Next.{Next}
-use Rattle.dt_queue.specs.Kept.{CellsClash, AreQueuesKept, HidesFrom, IsNextInMode, IsNextMark, IsNextOfMode, lane, mark_of}
-use Rattle.dt_queue.specs.Lanes.{HasRisingNumbers, IsBetween, IsFirstBetween, IsNextInRow, later_than, number_or}
-use Rattle.dt_queue.specs.Next.{IsFirstAfter, IsKnownNext}
-use Rattle.dt_queue.specs.InUse.{rows_at}
-use Rattle.dt_queue.specs.Rows.{granule_at}
+use Rattle.dt_queue.specs.KeptInner.{CellsClash, AreQueuesKept, HidesFrom, IsNextInMode, IsNextMark, IsNextOfMode, lane, mark_of}
+use Rattle.dt_queue.specs.LanesInner.{HasRisingNumbers, IsBetween, IsFirstBetween, IsNextInRow, later_than, number_or}
+use Rattle.dt_queue.specs.NextInner.{IsFirstAfter, IsKnownNext}
+use Rattle.dt_queue.specs.InUseInner.{rows_at}
+use Rattle.dt_queue.specs.RowsInner.{granule_at}
 use Rattle.dt_queue.proofs.NearMarks.{AreLanesOfRow, either_between, next_of_one, next_reads, next_write, row_of, same_mark, trichotomy}
 use Rattle.dt_queue.proofs.RowsNear.{next_as}
 use Rattle.dt_queue.proofs.CellUses.{InUseOf, IsMarkOf, IsNarrow, apart_lanes, cell_in_row, cell_of, clash_turned, clash_uses, lane_tells, one_use}

@@ -11,7 +11,7 @@ use Rattle.dt_lists.specs.Lists.{Has}
 use Rattle.dt_lists.proofs.Callers.{any_get, any_of_test, distinct_push, place_in_longer}
 use Rattle.dt_access.specs.Clash.{Bytes, same_key}
 use Rattle.dt_access.proofs.Callers.{same_key_self}
-use Rattle.dt_queue.specs.Rows.{AreTied, granule_name, name_at}
+use Rattle.dt_queue.specs.RowsInner.{AreTied, granule_name, name_at}
 
 one_more : {A : Type 0} (xs : List A) (x : A) → length (xs ++ x ∷ []) ≡ length xs + 1
 one_more xs x = length-append xs (x ∷ [])

@@ -4,7 +4,7 @@ use Rattle.std.proofs.Common.{Option, None, Some, Bool, true, false, is_some, re
 use Rattle.std.proofs.lemmas.List.{get_or_read, get_or-set_other, get_or-set_same, length-map, map-set}
 use Rattle.dt_lists.specs.Lists.{Distinct, Has}
 use Rattle.dt_lists.proofs.Callers.{all_put, either_nat, get_of_map, has_last, has_longer, has_more, has_place, last_place, place_in_longer, place_in_more, place_of, place_within, some_same}
-use Rattle.dt_queue.specs.InUse.{AreAtSpots, InUseView, IsSpotOf, rows_at}
+use Rattle.dt_queue.specs.InUseInner.{AreAtSpots, InUseView, IsSpotOf, rows_at}
 use Rattle.dt_queue.specs.declared.spot.Spot.{Spot}
 
 -- what is said of an item of a list

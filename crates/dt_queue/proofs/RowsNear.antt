@@ -9,8 +9,8 @@ use Rattle.dt_lists.specs.Lists.{AllIn, AnyIn, Distinct, EachThen, Has}
 use Rattle.dt_lists.proofs.Callers.{all_get, all_map, all_put, any_append, any_append_left, any_append_right, any_get, each_append, each_map}
 use Rattle.dt_queue.specs.declared.mark.Mark.{Mark}
 use Rattle.dt_queue.specs.declared.next.Next.{Next}
-use Rattle.dt_queue.specs.Lanes.{AddsMarks, AreApart, AreMarks, HasRisingNumbers, IsNearInRow, earlier}
-use Rattle.dt_queue.specs.Next.{IsFirstAfter, IsKnownNext}
+use Rattle.dt_queue.specs.LanesInner.{AddsMarks, AreApart, AreMarks, HasRisingNumbers, IsNearInRow, earlier}
+use Rattle.dt_queue.specs.NextInner.{IsFirstAfter, IsKnownNext}
 use Rattle.dt_queue.proofs.Marks.{has_index}
 
 -- an item of a list without repeats is none of those before it

@@ -16,11 +16,11 @@ use Rattle.dt_queue.specs.declared.kept.Kept.{Kept}
 use Rattle.dt_queue.specs.declared.rows.Rows.{Rows}
 use Rattle.dt_access.specs.declared.access.Mode.{Mode}
 use Rattle.std.proofs.lemmas.List.{get_or_append_left, map-append}
-use Rattle.dt_queue.specs.Kept.{AddsCell, CellsClash, AreQueuesKept, IsNearMark, IsNextMark, entry, in_order, mark_of, waiting_of}
-use Rattle.dt_queue.specs.Lanes.{AreMarks}
-use Rattle.dt_queue.specs.Next.{IsFirstAfter}
+use Rattle.dt_queue.specs.KeptInner.{AddsCell, CellsClash, AreQueuesKept, IsNearMark, IsNextMark, entry, in_order, mark_of, waiting_of}
+use Rattle.dt_queue.specs.LanesInner.{AreMarks}
+use Rattle.dt_queue.specs.NextInner.{IsFirstAfter}
 use Rattle.dt_queue.specs.Queues.{IsQueued, Waiting, follower_of, followers_after, is_at, is_neighbour, nearest, neighbours, taken_out}
-use Rattle.dt_queue.specs.Rows.{granule_at, granule_name, name_at}
+use Rattle.dt_queue.specs.RowsInner.{granule_at, granule_name, name_at}
 use Rattle.dt_queue.proofs.InOrder.{IsListed, Rise, listed, listed_less, listed_more, same_list}
 use Rattle.dt_queue.proofs.ShownLists.{Slots, after_is, before_is, entry_is, greater, lesser, meets, near_in, near_rises, nearest_is, of_near, slots_of_list, to_near, without_is}
 

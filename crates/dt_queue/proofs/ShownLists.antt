@@ -7,7 +7,7 @@ use Rattle.dt_lists.specs.Lists.{AllIn, EachThen, Has}
 use Rattle.dt_lists.proofs.Callers.{all_get, all_map, all_put, any_of_test, any_put, any_get, test_of_any, filter_none}
 use Rattle.dt_access.specs.Clash.{Bytes}
 use Rattle.dt_queue.specs.declared.cell.Cell.{Cell}
-use Rattle.dt_queue.specs.Kept.{entry}
+use Rattle.dt_queue.specs.KeptInner.{entry}
 use Rattle.dt_queue.specs.Queues.{Waiting, pushed_after, pushed_before, entries_clash, entry_at, nearest, taken_out}
 use Rattle.dt_queue.proofs.InOrder.{IsListed, Rise}
 

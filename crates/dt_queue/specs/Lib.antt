@@ -1,7 +1,7 @@
 pub mod Queues
-pub mod Lanes
-pub mod Next
-pub mod Rows
-pub mod InUse
-pub mod Kept
-pub mod Numbers
+pub mod LanesInner
+pub mod NextInner
+pub mod RowsInner
+pub mod InUseInner
+pub mod KeptInner
+pub mod NumbersInner

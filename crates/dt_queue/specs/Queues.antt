@@ -3,7 +3,7 @@
 -- order in which they were pushed: entries that clash are of one queue, so nothing depends on how two queues lie among each
 -- other. An entry has to wait for those before it that clash with it; it is enough that it waits for the nearest of them
 -- (`neighbours`), since these wait for the others. Read next: Waits.antt of dt_waits, for what neighbours mean in a region's
--- view; or `Kept`, for how queues are kept.
+-- view; or `KeptInner`, for how queues are kept.
 use Rattle.std.specs.Prelude.{◌≡◌, ◌≢◌, ℕ, Bool, ◌&&◌, ◌==◌, not, if◌then◌else◌, List, [], ◌∷◌}
 use Rattle.std.specs.List.{filter, list_any}
 use Rattle.dt_lists.specs.Lists.{AnyIn, EachThen}

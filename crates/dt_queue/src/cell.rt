@@ -13,7 +13,7 @@ pub struct Cell {
 }
 
 impl Cell {
-    ghost use Rattle.dt_queue.specs.Kept.{HidesFrom};
+    ghost use Rattle.dt_queue.specs.KeptInner.{HidesFrom};
 
     /// Whether this entry hides all that come after it from an earlier one, which reads or writes one row: it writes that row, so
     /// what clashes with the earlier one clashes with it too.

@@ -1,7 +1,7 @@
 ghost use Rattle.std.specs.Prelude.{◌≡◌, ◌<◌, ◌-◌, ℕ, [], Some, OnOk, get_or, length, map, slice_get, vec_capacity, vec_len};
 ghost use Rattle.dt_lists.specs.Lists.{Distinct, Has};
 ghost use Rattle.dt_queue.specs.declared.spot.Spot.{Spot};
-ghost use Rattle.dt_queue.specs.InUse.{TakesPlace};
+ghost use Rattle.dt_queue.specs.InUseInner.{TakesPlace};
 
 use crate::spot::Spot;
 use dt_access::Mode;
@@ -19,7 +19,7 @@ pub struct InUse {
 
 impl Model for InUse {
     ghost use Rattle.std.specs.Prelude.{◌-◌, length, map, vec_capacity, vec_len};
-    ghost use Rattle.dt_queue.specs.InUse.{AreAtSpots, InUseView};
+    ghost use Rattle.dt_queue.specs.InUseInner.{AreAtSpots, InUseView};
 
     ghost Value = { InUseView };
 
@@ -29,7 +29,7 @@ impl Model for InUse {
 }
 
 impl InUse {
-    ghost use Rattle.dt_queue.specs.InUse.{HasRoomFor, IsSpotOf, IsInGranule, PutsRow, SameRows, TakesRow, UsesRow, rows_at};
+    ghost use Rattle.dt_queue.specs.InUseInner.{HasRoomFor, IsSpotOf, IsInGranule, PutsRow, SameRows, TakesRow, UsesRow, rows_at};
 
     /// No row is in use. Takes no memory.
     pub fn new(alloc: Global) -> Self

@@ -2,8 +2,8 @@ ghost use Rattle.std.specs.Prelude.{◌≡◌, ◌<◌, ◌↔◌, ◌==◌, ◌
 ghost use Rattle.std.specs.List.{filter};
 ghost use Rattle.slab.specs.Slab.{ContainsKey, Updates};
 ghost use Rattle.dt_lists.specs.Lists.{AllIn, IsFront};
-ghost use Rattle.dt_queue.specs.Lanes.{AreMarks};
-ghost use Rattle.dt_queue.specs.Next.{IsFirstAfter, IsKnownNext};
+ghost use Rattle.dt_queue.specs.LanesInner.{AreMarks};
+ghost use Rattle.dt_queue.specs.NextInner.{IsFirstAfter, IsKnownNext};
 
 use crate::cell::Cell;
 use crate::in_use::InUse;
@@ -32,7 +32,7 @@ pub struct Kept {
 }
 
 impl Kept {
-    ghost use Rattle.dt_queue.specs.Kept.{AddsCell, ChangesLaneOf, AreQueuesKept, HasOneNear, IsNearInMode, IsNearMark, IsNextInMode, IsInUse, IsNextMark, KeepsLanes, LeavesRow, lane, place_at};
+    ghost use Rattle.dt_queue.specs.KeptInner.{AddsCell, ChangesLaneOf, AreQueuesKept, HasOneNear, IsNearInMode, IsNearMark, IsNextInMode, IsInUse, IsNextMark, KeepsLanes, LeavesRow, lane, place_at};
 
     /// No entry waits. Takes no memory.
     pub fn new(alloc: Global) -> Self

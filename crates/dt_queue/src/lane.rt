@@ -1,8 +1,8 @@
 ghost use Rattle.std.specs.Prelude.{◌≡◌, ◌<◌, ◌≤◌, ◌==◌, [], ◌∷◌, ◌++◌, length, map, not, IsFalse, IsTrue, OnOk, OnErr};
 ghost use Rattle.std.specs.List.{filter};
 ghost use Rattle.dt_lists.specs.Lists.{AllIn};
-ghost use Rattle.dt_queue.specs.Lanes.{EndsBelow, IsFirstBetween, IsLastBetween, is_between};
-ghost use Rattle.dt_queue.specs.Numbers.{IsGap, renumbered};
+ghost use Rattle.dt_queue.specs.LanesInner.{EndsBelow, IsFirstBetween, IsLastBetween, is_between};
+ghost use Rattle.dt_queue.specs.NumbersInner.{IsGap, renumbered};
 
 use crate::mark::{Mark, Marks};
 use dt_text::NoMemory;
@@ -19,7 +19,7 @@ pub struct Lane {
 impl Model for Lane {
     ghost use Rattle.std.specs.Prelude.{List};
     ghost use Rattle.dt_queue.specs.declared.mark.Mark.{Mark};
-    ghost use Rattle.dt_queue.specs.Lanes.{HasRisingNumbers};
+    ghost use Rattle.dt_queue.specs.LanesInner.{HasRisingNumbers};
 
     ghost Value = { List Mark };
 

@@ -1,8 +1,8 @@
 ghost use Rattle.std.specs.Prelude.{◌≡◌, ◌<◌, ◌≤◌, ◌==◌, [], ◌∷◌, ◌++◌, get_or, length, map, not, OnOk, OnErr};
 ghost use Rattle.std.specs.List.{filter};
 ghost use Rattle.dt_lists.specs.Lists.{AllIn};
-ghost use Rattle.dt_queue.specs.Lanes.{ChangesLane, IsFirstBetween, IsLastBetween, SameLanes, is_between};
-ghost use Rattle.dt_queue.specs.Numbers.{IsGap, renumbered};
+ghost use Rattle.dt_queue.specs.LanesInner.{ChangesLane, IsFirstBetween, IsLastBetween, SameLanes, is_between};
+ghost use Rattle.dt_queue.specs.NumbersInner.{IsGap, renumbered};
 
 use crate::lane::Lane;
 use crate::mark::{Mark, Marks};

@@ -1,6 +1,6 @@
 ghost use Rattle.std.specs.Prelude.{◌≡◌, ◌++◌, [], get_or, option_to_list, IfOk, OnOk};
 ghost use Rattle.dt_lists.specs.Lists.{AnyIn, Distinct};
-ghost use Rattle.dt_queue.specs.Lanes.{AddsMarks, AreApart, AreMarks, HasRisingNumbers, IsLastIn, IsNearInRow, number_or};
+ghost use Rattle.dt_queue.specs.LanesInner.{AddsMarks, AreApart, AreMarks, HasRisingNumbers, IsLastIn, IsNearInRow, number_or};
 
 use crate::lane::Lane;
 use crate::lanes::{add_between, last_between};

@@ -1,6 +1,6 @@
 ghost use Rattle.std.specs.Prelude.{◌≡◌, [], get_or, is_some, ◌||◌};
 ghost use Rattle.dt_lists.specs.Lists.{AnyIn};
-ghost use Rattle.dt_queue.specs.Lanes.{AreApart, HasRisingNumbers, IsFirstIn, IsNextInRow, earlier, later_than};
+ghost use Rattle.dt_queue.specs.LanesInner.{AreApart, HasRisingNumbers, IsFirstIn, IsNextInRow, earlier, later_than};
 
 use crate::lane::Lane;
 use crate::lanes::first_between;
@@ -15,7 +15,7 @@ pub struct Next {
 }
 
 impl Next {
-    ghost use Rattle.dt_queue.specs.Next.{IsKnownNext};
+    ghost use Rattle.dt_queue.specs.NextInner.{IsKnownNext};
 
     /// What is known where there is one entry at most.
     pub fn one(mark: Option<Mark>, after: u64) -> Self

@@ -1,6 +1,6 @@
 ghost use Rattle.std.specs.Prelude.{◌<◌, ◌≤◌, ◌+◌, ◌-◌, ◌^◌, Some, length, map, OnOk};
 ghost use Rattle.dt_lists.specs.Lists.{AllIn};
-ghost use Rattle.dt_queue.specs.Numbers.{IsFirstFrom, IsGap, IsNumberAt, Renumbers, ShowsSame, renumbered};
+ghost use Rattle.dt_queue.specs.NumbersInner.{IsFirstFrom, IsGap, IsNumberAt, Renumbers, ShowsSame, renumbered};
 
 use crate::kept::Kept;
 use crate::lanes::renumber_mark;
@@ -8,7 +8,7 @@ use dt_access::Mode;
 use dt_text::NoMemory;
 
 impl Kept {
-    ghost use Rattle.dt_queue.specs.Kept.{AreQueuesKept, ChangesLaneOf, lane, place_at, waiting_of};
+    ghost use Rattle.dt_queue.specs.KeptInner.{AreQueuesKept, ChangesLaneOf, lane, place_at, waiting_of};
 
     /// Sees to it that a number is left. Where none is, all entries are numbered anew, in the order of their pushes; so a push
     /// is never refused for lack of a number. The entries stay as they are, also after `NoMemory`.

@@ -21,7 +21,7 @@ pub struct Queues {
 impl Model for Queues {
     ghost use Rattle.std.specs.Prelude.{List};
     ghost use Rattle.dt_queue.specs.Queues.{Waiting};
-    ghost use Rattle.dt_queue.specs.Kept.{AreQueuesKept, waiting_of};
+    ghost use Rattle.dt_queue.specs.KeptInner.{AreQueuesKept, waiting_of};
 
     ghost Value = { List Waiting };
 

@@ -16,7 +16,7 @@ pub struct Rows {
 }
 
 impl Rows {
-    ghost use Rattle.dt_queue.specs.Rows.{AreRowsLinked, KeepsRows, granule_at};
+    ghost use Rattle.dt_queue.specs.RowsInner.{AreRowsLinked, KeepsRows, granule_at};
 
     /// No row was waited for. Takes no memory.
     pub fn new(alloc: Global) -> Self

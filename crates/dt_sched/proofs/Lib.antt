@@ -1,11 +1,11 @@
-pub mod Longer
-pub mod Closed
+pub mod LongerViews
+pub mod ClosedTransactions
 pub mod Reach
 pub mod Ranks
 pub mod Precedence
 pub mod Classes
 pub mod Decisions
-pub mod Staying
+pub mod StableDecisions
 pub mod OneHome
 pub mod NothingToDo
 pub mod OnePartMore

@@ -10,7 +10,7 @@ use Rattle.dt_sched.specs.Decide.{IsExecutableBy, IsResolvable, HasNothingToDo, 
 use Rattle.dt_sched.proofs.Reach.{ids_in, has_of_present, present_of_complete, closed_decided}
 use Rattle.dt_sched.proofs.Precedence.{decided_by, transitive_by}
 use Rattle.dt_sched.proofs.Ranks.{sooner_breaks_ties}
-use Rattle.dt_sched.proofs.Closed.{closed_before, complete_of_closed}
+use Rattle.dt_sched.proofs.ClosedTransactions.{closed_before, complete_of_closed}
 use Rattle.dt_sched.proofs.Classes.{pick_ids, class_of, class_unique, in_own_class}
 use Rattle.dt_sched.proofs.Decisions.{has_id_decided, has_class_decided}
 

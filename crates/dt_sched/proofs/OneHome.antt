@@ -8,7 +8,7 @@ use Rattle.dt_access.specs.declared.Part.{Part}
 use Rattle.dt_sched.specs.Views.{View, log_at, HasPart, AreClashing, Edge, here, onward, Reaches, IsPresent, HasParts, IsComplete, IsClosed, Mutual, Precedes, IsClass, IsWellFormed, HasOneHomeEach}
 use Rattle.dt_sched.specs.Decide.{IsExecutable, IsResolvable, IsDownward}
 use Rattle.dt_access.proofs.Callers.{either_id}
-use Rattle.dt_sched.proofs.Closed.{home_of_edge, complete_of_closed}
+use Rattle.dt_sched.proofs.ClosedTransactions.{home_of_edge, complete_of_closed}
 use Rattle.dt_sched.proofs.Reach.{reach_source, present_of_complete}
 use Rattle.dt_sched.proofs.Classes.{class_alone}
 

@@ -6,7 +6,7 @@ use Rattle.dt_lists.proofs.Callers.{any_append, any_of_image, all_get, all_put, 
 use Rattle.dt_access.specs.declared.Part.{Part}
 use Rattle.dt_sched.specs.Views.{View, ids_of, log_at, HasPart, IsLonger, IsWellFormed}
 use Rattle.dt_sched.specs.Sched.{CanInsert, with_part}
-use Rattle.dt_sched.proofs.Longer.{longer_refl}
+use Rattle.dt_sched.proofs.LongerViews.{longer_refl}
 
 -- a view in which one log goes on is longer
 pub longer_log : (view : View) (home : ℕ) (log : List Part) → IsFront (log_at view home) log → IsLonger view (set view home log)

@@ -10,7 +10,7 @@ use Rattle.dt_sched.specs.Ties.{BreaksTies}
 use Rattle.dt_access.proofs.Callers.{clash_symmetric, either_id}
 use Rattle.dt_sched.proofs.Reach.{reach_decided}
 use Rattle.dt_sched.proofs.Ranks.{sooner_breaks_ties}
-use Rattle.dt_sched.proofs.Closed.{edge_at_home}
+use Rattle.dt_sched.proofs.ClosedTransactions.{edge_at_home}
 
 pub precedes_irreflexive : (view : View) (t : TxnId) → ¬ (Precedes view t t)
 precedes_irreflexive view t p = p.0 refl

@@ -10,7 +10,7 @@ use Rattle.dt_access.specs.declared.Part.{Part}
 use Rattle.dt_access.proofs.Callers.{before_decided, before_irreflexive, before_total, before_transitive, id_of_test, test_of_id}
 use Rattle.dt_sched.specs.Views.{View, log_at, IsLonger, IsPresent, IsWellFormed, parts_with, rank_of, IsSooner}
 use Rattle.dt_sched.specs.Ties.{BreaksTies}
-use Rattle.dt_sched.proofs.Longer.{well_formed_front}
+use Rattle.dt_sched.proofs.LongerViews.{well_formed_front}
 use Rattle.dt_text.proofs.Callers.{either_lt}
 
 -- a part of t in some log is among the parts of t

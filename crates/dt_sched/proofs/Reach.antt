@@ -11,7 +11,7 @@ use Rattle.dt_access.specs.declared.Part.{Part}
 use Rattle.dt_sched.specs.Views.{View, ids_of, log_at, HasPart, AreClashing, Edge, here, onward, Reaches, IsPresent, HasParts, IsComplete, IsClosed, Mutual}
 use Rattle.dt_access.proofs.Callers.{either_id}
 use Rattle.dt_sched.specs.Sched.{parts_in}
-use Rattle.dt_sched.proofs.Longer.{parts_cons}
+use Rattle.dt_sched.proofs.LongerViews.{parts_cons}
 
 -- the ids that have a part in the view
 abbrev pub ids_in : View → List TxnId

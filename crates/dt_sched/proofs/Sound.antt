@@ -7,9 +7,9 @@ use Rattle.dt_access.specs.declared.Part.{Part}
 use Rattle.dt_sched.specs.Views.{View, IsLonger, IsClosed, Precedes, IsClass, IsWellFormed}
 use Rattle.dt_sched.specs.Decide.{IsExecutable, IsResolvable, IsDownward, IsSound}
 use Rattle.dt_sched.specs.Sched.{CanInsert, with_part}
-use Rattle.dt_sched.proofs.Closed.{class_stays, preceders_stay}
+use Rattle.dt_sched.proofs.ClosedTransactions.{class_stays, preceders_stay}
 use Rattle.dt_sched.proofs.Classes.{class_of_member}
-use Rattle.dt_sched.proofs.Staying.{resolvable_closed, all_closed_stays}
+use Rattle.dt_sched.proofs.StableDecisions.{resolvable_closed, all_closed_stays}
 use Rattle.dt_sched.proofs.OnePartMore.{with_part_longer, with_part_well_formed, empty_well_formed}
 
 pub sound_at_first : (regions : ℕ) → IsSound (replicate regions []) [] []

@@ -7,8 +7,8 @@ use Rattle.std.proofs.lemmas.Grind.{common_steps}
 use Rattle.std.proofs.lemmas.List.{drop_more}
 use Rattle.dt_text.specs.Texts.{is_text_byte, IsStr}
 use Rattle.dt_text.specs.Words.{is_visible}
-use Rattle.dt_text.specs.Reading.{with_word, words_from, text_from, after_text, words_of}
-use Rattle.dt_text.specs.ReadingParts.{WordAt, BareEndsAt, TextEndsAt, ItemAt}
+use Rattle.dt_text.specs.Reading.{with_word, words_from, text_from, after_text, BareEndsAt, words_of}
+use Rattle.dt_text.specs.ReadingParts.{WordAt, TextEndsAt, ItemAt}
 use Rattle.dt_text.proofs.ReadingSteps as step
 use Rattle.dt_text.specs.declared.word.Word.{Word}
 use Rattle.dt_text.specs.declared.word.Word.TheVariants.{Bare, Text}
@@ -31,11 +31,16 @@ bare_stop line at inside over from = rw (drop_more line at 0 inside) (step.bare_
 pub bare_at_end : (line : List ℕ) (at : ℕ) → length line ≤ at → BareEndsAt line at at
 bare_at_end line at past from = rw (past_end line at past) (step.bare_end from at)
 
+-- a bare word begins
+pub bare_begins : (line : List ℕ) (at end : ℕ) → at < length line → get_or line at 0 ≢ 34 → is_visible (get_or line at 0) ≡ true → BareEndsAt line (at + 1) end
+    → words_from at (drop at line) ≡ with_word (Bare at end) (words_from end (drop end line))
+bare_begins line at end inside plain visible ends = rw (drop_more line at 0 inside) (step.gap_bare at _ _ plain visible ∙ ends at)
+
 -- a bare word
 pub bare_word : (line : List ℕ) (at end : ℕ) → at < length line → get_or line at 0 ≢ 34 → is_visible (get_or line at 0) ≡ true → at + 1 ≤ end
     → end ≤ length line → BareEndsAt line (at + 1) end → WordAt line at (Some (Bare at end, end))
 bare_word line at end inside plain visible after within ends =
-    (omega arith, within, (omega arith, within), rw (drop_more line at 0 inside) (step.gap_bare at _ _ plain visible ∙ ends at))
+    (omega arith, within, (omega arith, within), bare_begins line at end inside plain visible ends)
 
 -- no word
 pub no_word : (line : List ℕ) (at : ℕ) → at < length line → get_or line at 0 ≢ 32 → is_visible (get_or line at 0) ≡ false → WordAt line at None
@@ -118,8 +123,11 @@ pub words_go_on : (line : List ℕ) (found : List Word) (word : Word) (all : Opt
 words_go_on line found word all at end next before one gap =
     joined_more found word (words_from next (drop next line)) ∙ (ap (λ ws. option_map (λ vs. found ++ vs) (with_word word ws)) (sym gap) ∙ (ap (λ ws. option_map (λ vs. found ++ vs) ws) (sym one) ∙ before))
 
+-- no word begins at the end
+pub no_more : (line : List ℕ) (at : ℕ) → length line ≤ at → words_from at (drop at line) ≡ Some []
+no_more line at past = rw (past_end line at past) (step.gap_end at)
+
 -- each word is found
 pub words_end : (line : List ℕ) (found : List Word) (all : Option (List Word)) (at : ℕ) → length line ≤ at → option_map (λ ws. found ++ ws) (words_from at (drop at line)) ≡ all → Some found ≡ all
 words_end line found all at past before =
-    let none : words_from at (drop at line) ≡ Some [] = rw (past_end line at past) (step.gap_end at) in
-    ap Some (sym (append-nil found)) ∙ (ap (λ ws. option_map (λ vs. found ++ vs) ws) (sym none) ∙ before)
+    ap Some (sym (append-nil found)) ∙ (ap (λ ws. option_map (λ vs. found ++ vs) ws) (sym (no_more line at past)) ∙ before)

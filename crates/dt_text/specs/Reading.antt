@@ -1,7 +1,7 @@
 -- The words of a line, found byte by byte from a place on. That they are the words which the line is made of, and that
 -- there are none exactly where it is made of no words, is the law `WordsAreExact`. Read Words.antt before. Read next:
 -- src/word.rt, the reader.
-use Rattle.std.specs.Prelude.{◌≡◌, ℕ, ◌+◌, ◌<◌, ◌≤◌, if◌then◌else◌, ◌==◌, ◌||◌, ◌&&◌, nat_lt, ◌↔◌, List, [], ◌∷◌, ◌++◌, length, Option, Some, None}
+use Rattle.std.specs.Prelude.{◌≡◌, ℕ, ◌+◌, ◌<◌, ◌≤◌, if◌then◌else◌, ◌==◌, ◌||◌, ◌&&◌, nat_lt, ◌↔◌, List, [], ◌∷◌, ◌++◌, length, drop, Option, Some, None}
 use Rattle.std.specs.Option.{option_map}
 use Rattle.dt_text.specs.Texts.{is_text_byte, IsStr}
 use Rattle.dt_text.specs.Printed.{text_word}
@@ -47,6 +47,11 @@ unfoldable mutual
   pub after_text : List ℕ → ℕ → List ℕ → Option (List Word)
   after_text text at [] = Some (Text text ∷ [])
   after_text text at (b ∷ bs) = if b == 32 then with_word (Text text) (words_from (at + 1) bs) else None
+
+-- a bare word that goes on at the first place ends before the second
+abbrev pub BareEndsAt : List ℕ → ℕ → ℕ → Type 0
+BareEndsAt line at end =
+    (from : ℕ) → bare_from from at (drop at line) ≡ with_word (Bare from end) (words_from end (drop end line))
 
 -- the words of a line, if it is made of words
 unfoldable pub words_of : List ℕ → Option (List Word)

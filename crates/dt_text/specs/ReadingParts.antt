@@ -3,9 +3,9 @@
 -- a line means, and Reading.antt for how its words are found.
 use Rattle.std.specs.Prelude.{◌≡◌, ℕ, ◌<◌, ◌≤◌, ◌∷◌, ◌++◌, [], if◌then◌else◌, nat_lt, List, length, drop, Option, Some, None, IsTrue}
 use Rattle.dt_text.specs.Texts.{is_text_byte}
-use Rattle.dt_text.specs.Reading.{with_word, words_from, bare_from, text_from, after_text, IsWordIn}
+use Rattle.dt_text.specs.Reading.{with_word, words_from, text_from, after_text, IsWordIn}
 use Rattle.dt_text.specs.declared.word.Word.{Word}
-use Rattle.dt_text.specs.declared.word.Word.TheVariants.{Bare, Text}
+use Rattle.dt_text.specs.declared.word.Word.TheVariants.{Text}
 
 -- a word begins at the place and ends before another, and the words from the first place on are it and those from the second on
 abbrev pub WordAt : List ℕ → ℕ → Option (Word × ℕ) → Type 0
@@ -13,11 +13,6 @@ WordAt line at None = words_from at (drop at line) ≡ None
 WordAt line at (Some (word, end)) =
     (at < end) × (end ≤ length line) × IsWordIn line word
     × (words_from at (drop at line) ≡ with_word word (words_from end (drop end line)))
-
--- a bare word that goes on at the first place ends before the second
-abbrev pub BareEndsAt : List ℕ → ℕ → ℕ → Type 0
-BareEndsAt line at end =
-    (from : ℕ) → bare_from from at (drop at line) ≡ with_word (Bare from end) (words_from end (drop end line))
 
 -- a text word whose items stand for the text has ended before the place
 abbrev pub TextEndsAt : List ℕ → List ℕ → ℕ → Option (Word × ℕ) → Type 0

@@ -33,4 +33,4 @@ pub use numbers::{put_i64, put_u64, read_i64, read_u32};
 pub use printed::{put_text, put_value};
 pub use text::Str;
 pub use value::Value;
-pub use word::{Word, Words, words};
+pub use word::{Word, Words, bare_end, gap_end, is_visible, words};

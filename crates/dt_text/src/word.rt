@@ -1,7 +1,7 @@
 ghost use Rattle.std.specs.Prelude.{◌≡◌, ◌≢◌, ◌+◌, ◌<◌, ◌≤◌, ◌^◌, length, drop, ◌==◌, ◌||◌, slice_index, IfOk, IfSome, MatchBool, All};
 ghost use Rattle.dt_text.specs.Words.{is_visible};
-ghost use Rattle.dt_text.specs.Reading.{IsWordIn, words_from, words_of};
-ghost use Rattle.dt_text.specs.ReadingParts.{BareEndsAt, ItemAt, WordAt, TextEndsAt};
+ghost use Rattle.dt_text.specs.Reading.{BareEndsAt, IsWordIn, words_from, words_of};
+ghost use Rattle.dt_text.specs.ReadingParts.{ItemAt, WordAt, TextEndsAt};
 
 use crate::bytes::is_text_byte;
 use crate::listed::Listed;
@@ -44,7 +44,7 @@ pub fn words(alloc: Global, line: &[u8]) -> Result<Option<Words>, NoMemory>
 }
 
 /// The place of the first byte from `at` on that is no space, or the line's end.
-fn gap_end(line: &[u8], at: usize) -> usize
+pub fn gap_end(line: &[u8], at: usize) -> usize
     requires { at ≤ length line.now }
     ensures after { at ≤ result }
     ensures inside { result ≤ length line.now }
@@ -90,7 +90,7 @@ fn read_bare(line: &[u8], at: usize) -> Option<(Word, usize)>
 }
 
 /// The place of the first byte from `at` on that is no part of a bare word, or the line's end.
-fn bare_end(line: &[u8], at: usize) -> usize
+pub fn bare_end(line: &[u8], at: usize) -> usize
     requires { at ≤ length line.now }
     ensures after { at ≤ result }
     ensures inside { result ≤ length line.now }
@@ -107,7 +107,7 @@ fn bare_end(line: &[u8], at: usize) -> usize
 }
 
 /// Whether a bare word may have the byte.
-fn is_visible(byte: u8) -> bool
+pub fn is_visible(byte: u8) -> bool
     ensures { result ≡ is_visible byte }
 {
     matches!(byte, b'!'..=b'~')

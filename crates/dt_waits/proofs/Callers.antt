@@ -4,7 +4,7 @@ pub use Rattle.dt_waits.proofs.IsLeft.{class_of_resolved, executable_left, left_
 pub use Rattle.dt_waits.proofs.NeighbourChains.{nearest_clash, neighbours_split, slot_other, slot_same}
 pub use Rattle.dt_waits.proofs.Degrees.{degree_pushed}
 pub use Rattle.dt_waits.proofs.Bounds.{degree_fits, degree_of_new}
-pub use Rattle.dt_waits.proofs.Sums.{filter_both, filter_same, sum_first}
+pub use Rattle.dt_waits.proofs.Sums.{filter_both, filter_same}
 pub use Rattle.dt_waits.proofs.DegreeZero.{id_has, place_has, same_place}
 pub use Rattle.dt_waits.proofs.Classes.{each_leads, member_stuck, none_blocked, not_all_blocked, place_leads, source_resolvable}
 pub use Rattle.dt_waits.proofs.RunInOrder.{pairwise_get}

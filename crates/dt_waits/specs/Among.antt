@@ -1,7 +1,7 @@
 -- What vertices of a list wait for among themselves, as a directed graph (dt_class): its vertices are the places of the list,
 -- and an edge goes from the place of a neighbour to the place of what waits for it. A place is blocked where its vertex has a
 -- neighbour that isn't in the list. A class of stuck vertices that nothing outside of it reaches, and nothing blocked, is one
--- that may be resolved; that it is so is in proofs/Classes.antt. Read next: Links.antt of dt_graph, for how it is built.
+-- that may be resolved; that it is so is in proofs/Classes.antt. Read next: LinksInner.antt of dt_graph, for how it is built.
 use Rattle.std.specs.Prelude.{◌≡◌, ◌↔◌, ℕ, List, length, slice_get, Some}
 use Rattle.dt_lists.specs.Lists.{AnyIn, Has}
 use Rattle.dt_class.specs.Graphs.{AdjView, IsEdge}

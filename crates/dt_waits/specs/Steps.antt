@@ -1,6 +1,6 @@
 -- What the calls make of what is kept: a part is inserted, a class is resolved, an id is done. Each is stated in terms of what
 -- was kept before (Graph.antt), without mention of the view; that it stays the graph of the view is in proofs/InsertStep.antt,
--- proofs/ResolveStep.antt and proofs/FinishStep.antt. Read next: SmallSteps.antt of dt_graph, for the steps within a call.
+-- proofs/ResolveStep.antt and proofs/FinishStep.antt. Read next: SmallStepsInner.antt of dt_graph, for the steps within a call.
 use Rattle.std.specs.Prelude.{◌≡◌, ◌≢◌, ◌≤◌, ◌<◌, ◌⊎◌, ◌↔◌, ◌+◌, ℕ, suc, not, List, [], ◌∷◌, ◌++◌, length, map, get_or, set, slice_get, None, Some}
 use Rattle.std.specs.List.{filter}
 use Rattle.dt_lists.specs.Lists.{AnyIn, AllIn, Has, EachThen, Distinct}

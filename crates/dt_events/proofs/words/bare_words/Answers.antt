@@ -3,7 +3,7 @@ use Rattle.std.specs.List.{slice_range}
 use Rattle.std.proofs.lemmas.Grind.{common_steps}
 use Rattle.dt_text.specs.Words.{is_visible}
 use Rattle.dt_events.specs.Reading.{spelled}
-use Rattle.dt_events.proofs.BareWords.{bares_begin, bares_from, bares_go_on, are_found, none_found, no_bare, text_begins, spelled-push, short-push}
+use Rattle.dt_events.proofs.BareWords.{bares_begin, bares_from, bares_go_on, are_found, none_found, no_bare, no_bare_text, spelled-push, short-push}
 use Rattle.dt_events.proofs.words.bare_words.Goals.{then-line-at-eq34-via-then-line-at-eq34, then-line-at-eq34-via-else-line-at-eq34+then-not-is_visible}
 use Rattle.dt_events.proofs.words.bare_words.Goals as goal
 
@@ -39,7 +39,7 @@ returns-then-line-at-eq34-clause-exact c = none_found c.args.line.now (spelled c
   where
     none : bares_from c.args.line.now c.loop-at.at ≡ None
     none = elim c.then-line-at-eq34.branch [
-      | then-line-at-eq34-via-then-line-at-eq34 w ↦ text_begins c.args.line.now c.loop-at.at c.loop-at-test.true w.if-line-at-eq34.true
+      | then-line-at-eq34-via-then-line-at-eq34 w ↦ no_bare_text c.args.line.now c.loop-at.at c.loop-at-test.true w.if-line-at-eq34.true
       | then-line-at-eq34-via-else-line-at-eq34+then-not-is_visible w ↦
           let over : is_visible (get_or c.args.line.now c.loop-at.at 0) ≡ false = cc in
           no_bare c.args.line.now c.loop-at.at c.loop-at-test.true (c.loop-at.invariant.no_space c.loop-at-test.true) over

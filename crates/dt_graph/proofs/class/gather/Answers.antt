@@ -1,6 +1,6 @@
 use Rattle.std.proofs.Common.{◌≡◌, ◌∙◌, Some, get_or, slice_get, subst}
 use Rattle.std.proofs.lemmas.Option.{slice_get-get_or}
-use Rattle.dt_graph.specs.Links.{IsSourceAt, HasLinked}
+use Rattle.dt_graph.specs.LinksInner.{IsSourceAt, HasLinked}
 use Rattle.dt_waits.specs.Waits.{slots_of}
 use Rattle.dt_graph.proofs.WaitGraph.{gather_blocked, gather_free, gathered, kept_slots}
 use Rattle.dt_graph.proofs.WaitEdges.{slots_wait}

@@ -1,4 +1,4 @@
-use Rattle.dt_graph.specs.Links.{IsSourceOf}
+use Rattle.dt_graph.specs.LinksInner.{IsSourceOf}
 use Rattle.dt_graph.proofs.WaitEdges.{links_next}
 use Rattle.dt_graph.proofs.class.link.Goals as goal
 

@@ -1,5 +1,5 @@
 use Rattle.std.proofs.Common.{take}
-use Rattle.dt_graph.specs.Links.{IsSourceAt, HasLinked}
+use Rattle.dt_graph.specs.LinksInner.{IsSourceAt, HasLinked}
 use Rattle.dt_graph.proofs.class.link.Given as goal
 
 abbrev pub invariant-loop-slot : goal.invariant-loop-slot

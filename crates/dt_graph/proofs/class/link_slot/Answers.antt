@@ -1,7 +1,7 @@
 use Rattle.std.proofs.Common.{◌∙◌, subst}
 use Rattle.std.proofs.lemmas.List.{take_all}
 use Rattle.dt_lists.specs.Lists.{Has}
-use Rattle.dt_graph.specs.Links.{HasLinked}
+use Rattle.dt_graph.specs.LinksInner.{HasLinked}
 use Rattle.dt_queue.specs.Queues.{neighbours}
 use Rattle.dt_graph.proofs.WaitEdges.{links_next_in, links_next_out, links_of_entries}
 use Rattle.dt_graph.proofs.class.link_slot.Goals as goal

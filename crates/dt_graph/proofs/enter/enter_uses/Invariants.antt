@@ -1,5 +1,5 @@
 use Rattle.std.proofs.Common.{◌≡◌, take}
-use Rattle.dt_graph.specs.SmallSteps.{Enters}
+use Rattle.dt_graph.specs.SmallStepsInner.{Enters}
 use Rattle.dt_graph.proofs.enter.enter_uses.Given as goal
 
 abbrev pub invariant-loop-used : goal.invariant-loop-used

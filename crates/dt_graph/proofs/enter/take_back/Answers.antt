@@ -1,6 +1,6 @@
 use Rattle.std.proofs.Common.{◌≡◌, ◌≤◌, ◌+◌, ◌∷◌, [], length, ap, subst, ◌∙◌, arith}
 use Rattle.std.proofs.lemmas.List.{length-append}
-use Rattle.dt_graph.specs.SmallSteps.{Pushes}
+use Rattle.dt_graph.specs.SmallStepsInner.{Pushes}
 use Rattle.dt_graph.proofs.Entries.{last_waits, pushes_back, pushes_none}
 use Rattle.dt_graph.proofs.enter.take_back.Goals as goal
 

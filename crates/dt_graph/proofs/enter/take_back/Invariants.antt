@@ -1,6 +1,6 @@
 use Rattle.std.proofs.Common.{◌≡◌, ℕ, List, length}
 use Rattle.dt_queue.specs.Queues.{Waiting}
-use Rattle.dt_graph.specs.SmallSteps.{Pushes}
+use Rattle.dt_graph.specs.SmallStepsInner.{Pushes}
 use Rattle.dt_graph.proofs.enter.take_back.Given as goal
 
 abbrev pub invariant-loop-slots : goal.invariant-loop-slots

@@ -2,7 +2,7 @@ use Rattle.std.proofs.Common.{get_or, subst}
 use Rattle.std.specs.List.{sum_by}
 use Rattle.dt_lists.specs.Lists.{AnyIn}
 use Rattle.dt_waits.specs.Waits.{lowered, slots_of}
-use Rattle.dt_graph.specs.SmallSteps.{AreLowered, IsFollowedAt, Wakes}
+use Rattle.dt_graph.specs.SmallStepsInner.{AreLowered, IsFollowedAt, Wakes}
 use Rattle.dt_graph.proofs.WalkByPlaces.{item_in}
 use Rattle.dt_graph.proofs.ReadyFollowers.{slots_spare, wakes_next}
 use Rattle.dt_graph.proofs.Degrees.{lowered_next, taken_by}

@@ -1,6 +1,6 @@
 use Rattle.std.proofs.Common.{drop, take}
 use Rattle.dt_waits.specs.Waits.{IsFollowed}
-use Rattle.dt_graph.specs.SmallSteps.{Wakes}
+use Rattle.dt_graph.specs.SmallStepsInner.{Wakes}
 use Rattle.dt_graph.proofs.Degrees.{IsLoweringBy, taken_by}
 use Rattle.dt_graph.proofs.leave.free_all.Given as goal
 

@@ -2,7 +2,7 @@ use Rattle.std.proofs.Common.{subst, arith}
 use Rattle.std.proofs.lemmas.List.{take_all}
 use Rattle.dt_lists.specs.Lists.{AnyIn}
 use Rattle.dt_waits.specs.Waits.{lowered}
-use Rattle.dt_graph.specs.SmallSteps.{IsFollowedAt, Wakes}
+use Rattle.dt_graph.specs.SmallStepsInner.{IsFollowedAt, Wakes}
 use Rattle.dt_graph.proofs.ReadyFollowers.{slot_spares, wakes_next}
 use Rattle.dt_graph.proofs.Degrees.{lowered_next}
 use Rattle.dt_graph.proofs.Wakes.{followed_at_decided}

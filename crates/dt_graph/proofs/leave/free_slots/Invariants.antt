@@ -1,7 +1,7 @@
 use Rattle.std.proofs.Common.{drop, take}
 use Rattle.dt_lists.specs.Lists.{AnyIn}
 use Rattle.dt_waits.specs.Waits.{lowered}
-use Rattle.dt_graph.specs.SmallSteps.{IsFollowedAt, Wakes}
+use Rattle.dt_graph.specs.SmallStepsInner.{IsFollowedAt, Wakes}
 use Rattle.dt_graph.proofs.Degrees.{IsLoweringBy}
 use Rattle.dt_graph.proofs.leave.free_slots.Given as goal
 

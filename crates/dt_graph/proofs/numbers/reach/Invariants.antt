@@ -1,5 +1,5 @@
 use Rattle.std.proofs.Common.{◌+◌, ◌-◌, vec_len}
-use Rattle.dt_graph.specs.Names.{SameNumbers}
+use Rattle.dt_graph.specs.NamesInner.{SameNumbers}
 use Rattle.dt_graph.proofs.numbers.reach.Given as goal
 
 abbrev pub invariant-loop-alloc : goal.invariant-loop-alloc

@@ -1,5 +1,5 @@
 use Rattle.std.proofs.Common.{◌+◌, ◌-◌, vec_len}
-use Rattle.dt_queue.specs.Lanes.{SameLanes}
+use Rattle.dt_queue.specs.LanesInner.{SameLanes}
 use Rattle.dt_queue.proofs.lanes.push_mark.Given as goal
 
 abbrev pub invariant-loop-alloc : goal.invariant-loop-alloc

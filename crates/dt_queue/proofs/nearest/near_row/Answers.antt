@@ -1,5 +1,5 @@
 use Rattle.std.proofs.Common.{[], ◌++◌, get_or, sym, subst, ap, ◌∙◌}
-use Rattle.dt_queue.specs.Lanes.{AreMarks, IsNearInRow}
+use Rattle.dt_queue.specs.LanesInner.{AreMarks, IsNearInRow}
 use Rattle.dt_queue.proofs.nearest.near_row.Goals as goal
 
 pub returns : goal.returns

@@ -2,7 +2,7 @@ use Rattle.std.proofs.Common.{◌≡◌, [], get_or, length, take, ap, subst, ar
 use Rattle.std.proofs.lemmas.List.{take_more, take_all}
 use Rattle.std.proofs.lemmas.List.Sorted.{IsNonDecreasingBy-from_sort_by_key}
 use Rattle.smallvec.proofs.SmallVecLemmas.{items-with_items}
-use Rattle.dt_queue.specs.Lanes.{IsNearInRow}
+use Rattle.dt_queue.specs.LanesInner.{IsNearInRow}
 use Rattle.dt_queue.proofs.RowsNear.{AreGathered, fresh_at, gathered_more, near_parted, none_gathered, sorted_marks}
 use Rattle.dt_queue.proofs.nearest.near_rows.Goals as goal
 

@@ -1,5 +1,5 @@
 use Rattle.std.proofs.Common.{[], get_or, take}
-use Rattle.dt_queue.specs.Lanes.{IsNearInRow}
+use Rattle.dt_queue.specs.LanesInner.{IsNearInRow}
 use Rattle.dt_queue.proofs.RowsNear.{AreGathered}
 use Rattle.dt_queue.proofs.nearest.near_rows.Given as goal
 

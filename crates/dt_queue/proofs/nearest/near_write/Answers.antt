@@ -1,6 +1,6 @@
 use Rattle.std.proofs.Common.{[], get_or, sym, subst}
 use Rattle.std.proofs.lemmas.Result.{IfOk-weaker}
-use Rattle.dt_queue.specs.Lanes.{AreMarks, IsLastIn}
+use Rattle.dt_queue.specs.LanesInner.{AreMarks, IsLastIn}
 use Rattle.dt_queue.proofs.NearMarks.{near_last}
 use Rattle.dt_queue.proofs.nearest.near_write.Goals as goal
 

@@ -1,4 +1,4 @@
-use Rattle.dt_sched.proofs.Closed.{stands_alike, class_agrees, preceders_agree}
+use Rattle.dt_sched.proofs.ClosedTransactions.{stands_alike, class_agrees, preceders_agree}
 use Rattle.dt_sched.proofs.laws.closed_views.Goals as goal
 
 pub returns-clause-longer : goal.returns-clause-longer

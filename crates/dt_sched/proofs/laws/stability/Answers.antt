@@ -1,4 +1,4 @@
-use Rattle.dt_sched.proofs.Staying.{executable_stays, resolvable_stays}
+use Rattle.dt_sched.proofs.StableDecisions.{executable_stays, resolvable_stays}
 use Rattle.dt_sched.proofs.laws.stability.Goals as goal
 
 pub returns-clause-executable : goal.returns-clause-executable

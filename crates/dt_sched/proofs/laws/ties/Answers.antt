@@ -1,8 +1,8 @@
 use Rattle.dt_sched.specs.Ties.{Says}
-use Rattle.dt_sched.proofs.Closed.{preceders_agree_by}
+use Rattle.dt_sched.proofs.ClosedTransactions.{preceders_agree_by}
 use Rattle.dt_sched.proofs.Precedence.{transitive_by, comparable_by}
 use Rattle.dt_sched.proofs.NothingToDo.{done_where_closed_by}
-use Rattle.dt_sched.proofs.Staying.{executable_stays_by}
+use Rattle.dt_sched.proofs.StableDecisions.{executable_stays_by}
 use Rattle.dt_sched.proofs.Ranks.{sooner_breaks_ties}
 use Rattle.dt_sched.proofs.laws.ties.Goals as goal
 

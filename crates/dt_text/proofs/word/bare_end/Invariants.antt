@@ -1,6 +1,6 @@
 -- A bare word that ends after the place reached ends there from the first place on too.
 use Rattle.std.proofs.Common.{◌≤◌, ◌-◌, ℕ, length}
-use Rattle.dt_text.specs.ReadingParts.{BareEndsAt}
+use Rattle.dt_text.specs.Reading.{BareEndsAt}
 use Rattle.dt_text.proofs.word.bare_end.Given as goal
 
 abbrev pub invariant-loop-end : goal.invariant-loop-end

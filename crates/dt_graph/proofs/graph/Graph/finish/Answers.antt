@@ -2,7 +2,7 @@ use Rattle.std.proofs.Common.{◌≡◌, ◌∙◌, ◌<◌, ◌∷◌, [], None
 use Rattle.std.proofs.lemmas.List.{get_or_read}
 use Rattle.dt_lists.proofs.Callers.{all_get, place_within}
 use Rattle.dt_waits.specs.Graph.{GraphView, vertex_at}
-use Rattle.dt_graph.specs.Held.{kept_of}
+use Rattle.dt_graph.specs.HeldInner.{kept_of}
 use Rattle.dt_waits.specs.Steps.{alone}
 use Rattle.dt_graph.proofs.FinishCall.{MayFinish, finishes_in, may_finish, may_finish_without, may_leave_one, number_there}
 use Rattle.dt_graph.proofs.Bounds.{fitted_left, fitted_ready}

@@ -3,9 +3,9 @@ use Rattle.std.proofs.lemmas.Option.{slice_get-get_or}
 use Rattle.dt_lists.specs.Lists.{Distinct}
 use Rattle.dt_lists.proofs.Callers.{all_get}
 use Rattle.dt_waits.specs.Graph.{GraphView}
-use Rattle.dt_graph.specs.Held.{kept_of}
+use Rattle.dt_graph.specs.HeldInner.{kept_of}
 use Rattle.dt_waits.specs.Steps.{HaveSlots}
-use Rattle.dt_graph.specs.SmallSteps.{MayFinishIn}
+use Rattle.dt_graph.specs.SmallStepsInner.{MayFinishIn}
 use Rattle.dt_waits.specs.Waits.{lowered_by}
 use Rattle.dt_graph.proofs.FinishCall.{counted_on, finishes_all, finishes_one, open_is, within_open}
 use Rattle.dt_graph.proofs.Bounds.{fitted_left, fitted_ready}

@@ -4,7 +4,7 @@ use Rattle.std.proofs.lemmas.List.{get_or_read}
 use Rattle.dt_lists.specs.Lists.{AllIn, Has}
 use Rattle.dt_lists.proofs.Callers.{place_within}
 use Rattle.dt_waits.specs.Graph.{GraphView}
-use Rattle.dt_graph.specs.Held.{kept_of}
+use Rattle.dt_graph.specs.HeldInner.{kept_of}
 use Rattle.dt_graph.proofs.RunOrder.{all_came, all_numbered, gathered, members_more, run_in_order}
 use Rattle.dt_graph.proofs.graph.Graph.in_order.Goals as goal
 use Rattle.dt_graph.proofs.graph.Graph.in_order.Goals.{in-Some+in_ok-push, in_default}

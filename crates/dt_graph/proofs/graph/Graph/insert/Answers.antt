@@ -3,7 +3,7 @@ use Rattle.std.proofs.lemmas.List.{length-append}
 use Rattle.std.proofs.lemmas.Result.{on_ok_weaker}
 use Rattle.dt_lists.proofs.Callers.{place_within}
 use Rattle.dt_waits.specs.Graph.{GraphView}
-use Rattle.dt_graph.specs.Held.{kept_of}
+use Rattle.dt_graph.specs.HeldInner.{kept_of}
 use Rattle.dt_graph.proofs.Bounds.{fitted_inserted, fitted_same}
 use Rattle.dt_waits.proofs.Callers.{at_named, counted_before, missing_before}
 use Rattle.dt_graph.proofs.InsertCall.{MayInsert, few_more, kept_as, result_cases}

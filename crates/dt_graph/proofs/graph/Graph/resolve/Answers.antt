@@ -1,7 +1,7 @@
 use Rattle.std.proofs.Common.{◌≡◌, ◌∙◌, ◌+◌, ◌<◌, ◌^◌, ◌++◌, ◌∷◌, [], length, sym, ap, subst, arith}
 use Rattle.dt_lists.specs.Lists.{AllIn}
 use Rattle.dt_waits.specs.Graph.{GraphView}
-use Rattle.dt_graph.specs.Held.{kept_of}
+use Rattle.dt_graph.specs.HeldInner.{kept_of}
 use Rattle.dt_waits.specs.Steps.{Resolves, RunInOrder}
 use Rattle.dt_graph.proofs.Bounds.{fitted_resolved}
 use Rattle.dt_graph.proofs.ResolveCall.{MayResolve, are_once, are_there, class_fits, pushed_at}

@@ -4,7 +4,7 @@ use Rattle.dt_lists.proofs.Callers.{all_put}
 use Rattle.dt_class.specs.Graphs.{AreAllBlocked, AreVertices, IsInClass, IsSource}
 use Rattle.dt_waits.specs.Among.{IsAmong}
 use Rattle.dt_waits.specs.Graph.{GraphView}
-use Rattle.dt_graph.specs.SmallSteps.{AreIdsAt}
+use Rattle.dt_graph.specs.SmallStepsInner.{AreIdsAt}
 use Rattle.dt_waits.specs.Steps.{HaveSlots}
 use Rattle.dt_graph.proofs.ClassAnswers.{blocked_within, chosen, few_stuck, none_chosen, stuck_slots, vertices_few}
 use Rattle.dt_graph.proofs.graph.Graph.some_class.Goals as goal

@@ -2,7 +2,7 @@ use Rattle.std.proofs.Common.{◌≡◌, ◌<◌, ◌+◌, ◌^◌, length, cond
 use Rattle.indexmap.specs.IndexMap.{get}
 use Rattle.dt_lists.specs.Lists.{Has}
 use Rattle.dt_access.specs.Ids.{same_id}
-use Rattle.dt_graph.specs.Names.{PutsNumber}
+use Rattle.dt_graph.specs.NamesInner.{PutsNumber}
 use Rattle.dt_graph.proofs.NumbersOfIds.{numbered_far, numbered_near}
 use Rattle.dt_graph.proofs.names.Names.add.Goals as goal
 

@@ -1,7 +1,7 @@
 use Rattle.std.proofs.Common.{ap, sym, ◌∙◌}
 use Rattle.indexmap.specs.IndexMap.{get}
 use Rattle.dt_access.specs.Ids.{same_id}
-use Rattle.dt_graph.specs.Names.{number_at}
+use Rattle.dt_graph.specs.NamesInner.{number_at}
 use Rattle.dt_graph.proofs.NumbersOfIds.{number_far, number_near}
 use Rattle.dt_graph.proofs.names.Names.number_of.Goals as goal
 

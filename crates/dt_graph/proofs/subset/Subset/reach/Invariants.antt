@@ -1,5 +1,5 @@
 use Rattle.std.proofs.Common.{◌≡◌, ◌≤◌, ◌-◌, length, vec_capacity}
-use Rattle.dt_graph.specs.Subset.{IsSubset}
+use Rattle.dt_graph.specs.SubsetInner.{IsSubset}
 use Rattle.dt_graph.proofs.subset.Subset.reach.Given as goal
 
 abbrev pub invariant-loop-self : goal.invariant-loop-self

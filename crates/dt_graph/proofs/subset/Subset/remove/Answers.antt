@@ -1,6 +1,6 @@
 use Rattle.std.proofs.Common.{◌≡◌, ◌<◌, ◌++◌, ◌∷◌, [], ◌∙◌, None, Some, get_or, length, set, vec_capacity, subst, sym, ap, arith}
 use Rattle.std.proofs.lemmas.List.{get_or_read, length-set}
-use Rattle.dt_graph.specs.Subset.{IsSubset}
+use Rattle.dt_graph.specs.SubsetInner.{IsSubset}
 use Rattle.dt_lists.proofs.Callers.{none_in_empty as not_empty}
 use Rattle.dt_graph.proofs.Subsets.{found_fits, placed_has, removed_at, removed_last_at, subset_removed, subset_removed_last}
 use Rattle.dt_graph.proofs.subset.Subset.remove.Goals as goal

@@ -2,7 +2,7 @@ use Rattle.std.proofs.Common.{◌≡◌, ◌≤◌, ◌∙◌, ◌-◌, ◌++◌
 use Rattle.dt_waits.specs.Steps.{AreEntriesBelow}
 use Rattle.dt_waits.specs.declared.vertex.Vertex.{Vertex}
 use Rattle.dt_waits.proofs.Callers.{degree_of_new}
-use Rattle.dt_graph.specs.SmallSteps.{Enters, Sorts}
+use Rattle.dt_graph.specs.SmallStepsInner.{Enters, Sorts}
 use Rattle.dt_graph.proofs.PartsOfVertices.{added_first}
 use Rattle.dt_graph.proofs.waits.Waits.add.Goals as goal
 

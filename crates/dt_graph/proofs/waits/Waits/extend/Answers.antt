@@ -1,7 +1,7 @@
 use Rattle.std.proofs.Common.{◌≡◌, ◌∙◌, ◌<◌, sym, ap, subst}
 use Rattle.std.proofs.lemmas.List.{get_or_read}
 use Rattle.dt_waits.specs.Graph.{vertex_at}
-use Rattle.dt_graph.specs.SmallSteps.{Enters, Sorts}
+use Rattle.dt_graph.specs.SmallStepsInner.{Enters, Sorts}
 use Rattle.dt_graph.proofs.PartsOfVertices.{added_again}
 use Rattle.dt_graph.proofs.waits.Waits.extend.Goals as goal
 

@@ -2,8 +2,8 @@ use Rattle.std.proofs.Common.{◌≡◌, ◌∙◌, refl, sym, subst}
 use Rattle.std.specs.Vec.{with_items}
 use Rattle.std.proofs.lemmas.List.{with_items_is}
 use Rattle.dt_waits.specs.Waits.{lowered_by}
-use Rattle.dt_graph.specs.Held.{kept_of}
-use Rattle.dt_graph.specs.SmallSteps.{AreLowered}
+use Rattle.dt_graph.specs.HeldInner.{kept_of}
+use Rattle.dt_graph.specs.SmallStepsInner.{AreLowered}
 use Rattle.dt_waits.specs.Steps.{Leaves}
 use Rattle.dt_graph.proofs.waits.Waits.leave.Goals as goal
 

@@ -3,7 +3,7 @@ use Rattle.std.proofs.lemmas.List.{get_or_read, take_all}
 use Rattle.dt_lists.specs.Lists.{Has}
 use Rattle.dt_lists.proofs.Callers.{all_get}
 use Rattle.dt_waits.specs.Graph.{vertex_at}
-use Rattle.dt_graph.specs.Subset.{PutsIn}
+use Rattle.dt_graph.specs.SubsetInner.{PutsIn}
 use Rattle.dt_graph.proofs.WalkByPlaces.{item_in}
 use Rattle.dt_graph.proofs.ClassMembers.{IsPutting, first_readied, none_readied, putting_on, resolves_held}
 use Rattle.dt_graph.proofs.waits.Waits.resolve.Goals as goal

@@ -1,7 +1,7 @@
 use Rattle.std.proofs.Common.{◌≡◌, ◌<◌, ◌-◌, ℕ, [], get_or, length, map, vec_capacity, vec_len, ap, sym, subst, inl, inr, arith, ◌∙◌}
 use Rattle.std.proofs.lemmas.List.{length-map, map-set}
 use Rattle.dt_lists.specs.Lists.{Has}
-use Rattle.dt_queue.specs.InUse.{rows_at}
+use Rattle.dt_queue.specs.InUseInner.{rows_at}
 use Rattle.dt_queue.proofs.RowSets.{in_use_by, row_put, spots_put, told_at, unused_by, within_room}
 use Rattle.dt_queue.proofs.in_use.InUse.add.Goals as goal
 

@@ -1,7 +1,7 @@
 use Rattle.std.proofs.Common.{◌≡◌, ◌<◌, [], length, map, slice_get, Some, sym, subst, arith, ◌∙◌}
 use Rattle.std.proofs.lemmas.List.{length-map, map-set}
 use Rattle.dt_queue.specs.declared.spot.Spot.{Spot}
-use Rattle.dt_queue.specs.InUse.{rows_at}
+use Rattle.dt_queue.specs.InUseInner.{rows_at}
 use Rattle.dt_queue.proofs.RowSets.{last_known, row_less, row_moved, spots_less, spots_moved, told_at, within_lists}
 use Rattle.dt_queue.proofs.in_use.InUse.remove.Goals as goal
 

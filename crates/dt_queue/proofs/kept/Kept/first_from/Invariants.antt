@@ -1,4 +1,4 @@
-use Rattle.dt_queue.specs.Numbers.{IsFirstBelow}
+use Rattle.dt_queue.specs.NumbersInner.{IsFirstBelow}
 use Rattle.dt_queue.proofs.kept.Kept.first_from.Given as goal
 
 abbrev pub invariant-loop-slot : goal.invariant-loop-slot

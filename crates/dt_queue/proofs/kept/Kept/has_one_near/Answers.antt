@@ -1,6 +1,6 @@
 use Rattle.std.proofs.Common.{length, inl, inr, refl}
 use Rattle.dt_access.specs.declared.access.Mode.TheVariants.{Read}
-use Rattle.dt_queue.specs.Kept.{lane}
+use Rattle.dt_queue.specs.KeptInner.{lane}
 use Rattle.dt_queue.proofs.KeptLanes.{empty_of}
 use Rattle.dt_queue.proofs.kept.Kept.has_one_near.Goals as goal
 

@@ -1,5 +1,5 @@
 use Rattle.std.proofs.Common.{◌≡◌, true, false, sym, ◌∙◌}
-use Rattle.dt_queue.specs.Kept.{IsInUse}
+use Rattle.dt_queue.specs.KeptInner.{IsInUse}
 use Rattle.dt_queue.proofs.kept.Kept.leave_row.Goals as goal
 
 true_no : true ≡ false → ⊥

@@ -1,9 +1,9 @@
 use Rattle.std.proofs.Common.{arith, refl, subst, sym}
 use Rattle.std.proofs.lemmas.Result.{IfOk-weaker}
 use Rattle.dt_access.specs.declared.access.Mode.TheVariants.{Whole}
-use Rattle.dt_queue.specs.Kept.{IsNearInMode, IsNearMark, lane}
-use Rattle.dt_queue.specs.Lanes.{AreMarks, IsLastBetween, number_or}
-use Rattle.dt_queue.specs.Rows.{granule_at}
+use Rattle.dt_queue.specs.KeptInner.{IsNearInMode, IsNearMark, lane}
+use Rattle.dt_queue.specs.LanesInner.{AreMarks, IsLastBetween, number_or}
+use Rattle.dt_queue.specs.RowsInner.{granule_at}
 use Rattle.dt_queue.proofs.KeptLanes.{empty_of, some_of}
 use Rattle.dt_queue.proofs.NearCells.{near_marks, near_taker}
 use Rattle.dt_queue.proofs.kept.Kept.near.Goals as goal

@@ -1,8 +1,8 @@
 use Rattle.std.proofs.Common.{arith}
 use Rattle.dt_access.specs.declared.access.Mode.TheVariants.{Whole, Write}
-use Rattle.dt_queue.specs.Kept.{lane}
-use Rattle.dt_queue.specs.Lanes.{IsLastBetween, number_or}
-use Rattle.dt_queue.specs.Rows.{granule_at}
+use Rattle.dt_queue.specs.KeptInner.{lane}
+use Rattle.dt_queue.specs.LanesInner.{IsLastBetween, number_or}
+use Rattle.dt_queue.specs.RowsInner.{granule_at}
 use Rattle.dt_queue.proofs.NearCells.{near_or_taker, one_in_mode}
 use Rattle.dt_queue.proofs.NearMarks.{near_last}
 use Rattle.dt_queue.proofs.kept.Kept.near_one.Goals as goal

@@ -1,9 +1,9 @@
 use Rattle.std.proofs.Common.{◌≤◌, arith}
 use Rattle.dt_access.specs.declared.access.Mode.TheVariants.{Whole}
-use Rattle.dt_queue.specs.Kept.{IsNextInMode, lane}
-use Rattle.dt_queue.specs.Lanes.{IsFirstBetween, number_or}
-use Rattle.dt_queue.specs.Next.{IsKnownNext}
-use Rattle.dt_queue.specs.Rows.{granule_at}
+use Rattle.dt_queue.specs.KeptInner.{IsNextInMode, lane}
+use Rattle.dt_queue.specs.LanesInner.{IsFirstBetween, number_or}
+use Rattle.dt_queue.specs.NextInner.{IsKnownNext}
+use Rattle.dt_queue.specs.RowsInner.{granule_at}
 use Rattle.dt_queue.proofs.NextCells.{first_of_none, first_of_some}
 use Rattle.dt_queue.proofs.kept.Kept.next.Goals as goal
 

@@ -1,5 +1,5 @@
 use Rattle.std.proofs.Common.{◌-◌, ◌^◌}
-use Rattle.dt_queue.specs.Numbers.{IsNumbering}
+use Rattle.dt_queue.specs.NumbersInner.{IsNumbering}
 use Rattle.dt_queue.proofs.kept.Kept.number_anew.Given as goal
 
 abbrev pub invariant-loop-slot : goal.invariant-loop-slot

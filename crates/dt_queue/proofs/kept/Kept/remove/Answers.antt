@@ -3,7 +3,7 @@ use Rattle.slab.specs.Slab.{Slab, Updates}
 use Rattle.dt_access.specs.declared.access.Mode.{Mode}
 use Rattle.dt_queue.specs.declared.cell.Cell.{Cell}
 use Rattle.dt_queue.specs.declared.kept.Kept.{Kept}
-use Rattle.dt_queue.specs.Kept.{lane, place_at}
+use Rattle.dt_queue.specs.KeptInner.{lane, place_at}
 use Rattle.dt_queue.proofs.KeptLanes.{kept_removed, same_lanes}
 use Rattle.dt_queue.proofs.RowsUsed.{leaves_as, rows_removed}
 use Rattle.dt_queue.proofs.kept.Kept.remove.Goals as goal

@@ -1,5 +1,5 @@
 use Rattle.std.proofs.Common.{map, refl, arith}
-use Rattle.dt_queue.specs.Numbers.{renumbered}
+use Rattle.dt_queue.specs.NumbersInner.{renumbered}
 use Rattle.dt_queue.proofs.KeptLanes.{changed_read, changed_whole, changed_write}
 use Rattle.dt_queue.proofs.kept.Kept.renumber_mark.Goals as goal
 

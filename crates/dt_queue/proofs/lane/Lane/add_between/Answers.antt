@@ -1,7 +1,7 @@
 use Rattle.std.proofs.Common.{◌≡◌, ◌<◌, ◌≤◌, ◌+◌, ◌++◌, List, length, refl, arith, subst, sym, ◌∙◌, ap}
 use Rattle.std.proofs.lemmas.List.{append-nil}
 use Rattle.dt_queue.specs.declared.mark.Mark.{Mark}
-use Rattle.dt_queue.specs.Lanes.{EndsBelow}
+use Rattle.dt_queue.specs.LanesInner.{EndsBelow}
 use Rattle.dt_queue.proofs.Marks.{between_before, between_stop, none_past}
 use Rattle.dt_queue.proofs.lane.Lane.add_between.Goals as goal
 

@@ -1,7 +1,7 @@
 use Rattle.std.proofs.Common.{◌≡◌, ◌≤◌, ◌+◌, ◌-◌, ◌++◌, drop, length, take}
 use Rattle.std.specs.List.{filter}
 use Rattle.dt_lists.specs.Lists.{AllIn}
-use Rattle.dt_queue.specs.Lanes.{is_between}
+use Rattle.dt_queue.specs.LanesInner.{is_between}
 use Rattle.dt_queue.proofs.lane.Lane.add_between.Given as goal
 
 abbrev pub invariant-loop-mark : goal.invariant-loop-mark

@@ -1,5 +1,5 @@
 use Rattle.std.proofs.Common.{◌≡◌, ◌+◌, ◌<◌, ◌≤◌, deque_len, length, refl, arith, subst}
-use Rattle.dt_queue.specs.Lanes.{EndsBelow}
+use Rattle.dt_queue.specs.LanesInner.{EndsBelow}
 use Rattle.dt_queue.proofs.Marks.{first_is, first_is_none, first_is_past, past_all_places}
 use Rattle.dt_queue.proofs.lane.Lane.first_between.Goals as goal
 

@@ -2,7 +2,7 @@ use Rattle.std.proofs.Common.{◌≡◌, ◌<◌, ◌≤◌, length, refl, arith
 use Rattle.std.specs.List.{remove}
 use Rattle.dt_lists.proofs.Callers.{filter_each}
 use Rattle.dt_queue.specs.declared.mark.Mark.{Mark}
-use Rattle.dt_queue.specs.Lanes.{EndsBelow}
+use Rattle.dt_queue.specs.LanesInner.{EndsBelow}
 use Rattle.dt_queue.proofs.Marks.{is_not, on_some, past_all_places, removed, untouched}
 use Rattle.dt_queue.proofs.lane.Lane.remove_within.Goals as goal
 

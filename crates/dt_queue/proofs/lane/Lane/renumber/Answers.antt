@@ -1,8 +1,8 @@
 use Rattle.std.proofs.Common.{◌<◌, ◌≤◌, length, refl, arith, ◌∙◌, ap}
 use Rattle.dt_lists.specs.Lists.{AllIn}
 use Rattle.dt_queue.specs.declared.mark.Mark.{Mark}
-use Rattle.dt_queue.specs.Lanes.{EndsBelow}
-use Rattle.dt_queue.specs.Numbers.{IsGap}
+use Rattle.dt_queue.specs.LanesInner.{EndsBelow}
+use Rattle.dt_queue.specs.NumbersInner.{IsGap}
 use Rattle.dt_queue.proofs.Marks.{past_all_places}
 use Rattle.dt_queue.proofs.NewNumbers.{marks_rise, not_placed, placed_at}
 use Rattle.dt_queue.proofs.lane.Lane.renumber.Goals as goal

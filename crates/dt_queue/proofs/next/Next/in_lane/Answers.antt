@@ -1,5 +1,5 @@
 use Rattle.std.proofs.Common.{[], get_or}
-use Rattle.dt_queue.specs.Lanes.{IsFirstIn}
+use Rattle.dt_queue.specs.LanesInner.{IsFirstIn}
 use Rattle.dt_queue.proofs.NearMarks.{next_first, next_of_one}
 use Rattle.dt_queue.proofs.next.Next.in_lane.Goals as goal
 

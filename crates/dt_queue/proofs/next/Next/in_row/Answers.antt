@@ -1,5 +1,5 @@
 use Rattle.std.proofs.Common.{◌≡◌, ◌≤◌, ◌⊎◌, [], get_or, true, false, is_some, refl, subst, inl, inr, arith, rules}
-use Rattle.dt_queue.specs.Lanes.{IsFirstBetween, number_or}
+use Rattle.dt_queue.specs.LanesInner.{IsFirstBetween, number_or}
 use Rattle.dt_queue.proofs.NearMarks.{next_in_row, next_of_row, row_of}
 use Rattle.dt_queue.proofs.next.Next.in_row.Goals as goal
 use Rattle.dt_queue.proofs.next.Next.in_row.Goals.{then-after-low, else-after-low}

@@ -1,8 +1,8 @@
 use Rattle.std.proofs.Common.{◌≡◌, [], get_or, take, subst, refl, arith}
 use Rattle.std.proofs.lemmas.List.{take_more, take_all}
 use Rattle.dt_lists.specs.Lists.{AnyIn}
-use Rattle.dt_queue.specs.Lanes.{IsNextInRow}
-use Rattle.dt_queue.specs.Next.{IsKnownNext}
+use Rattle.dt_queue.specs.LanesInner.{IsNextInRow}
+use Rattle.dt_queue.specs.NextInner.{IsKnownNext}
 use Rattle.dt_queue.proofs.RowsNear.{next_more, no_next}
 use Rattle.dt_queue.proofs.next.Next.in_rows.Goals as goal
 

@@ -1,7 +1,7 @@
 use Rattle.std.proofs.Common.{[], get_or, take}
 use Rattle.dt_lists.specs.Lists.{AnyIn}
-use Rattle.dt_queue.specs.Lanes.{IsNextInRow}
-use Rattle.dt_queue.specs.Next.{IsKnownNext}
+use Rattle.dt_queue.specs.LanesInner.{IsNextInRow}
+use Rattle.dt_queue.specs.NextInner.{IsKnownNext}
 use Rattle.dt_queue.proofs.next.Next.in_rows.Given as goal
 
 abbrev pub invariant-loop-row : goal.invariant-loop-row

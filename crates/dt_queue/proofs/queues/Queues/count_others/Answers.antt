@@ -2,8 +2,8 @@ use Rattle.std.proofs.Common.{◌≡◌, ◌==◌, ◌∙◌, ◌+◌, ℕ, IsSo
 use Rattle.std.specs.List.{count_by}
 use Rattle.std.proofs.lemmas.List.Sums.{sum_by-cons}
 use Rattle.slab.specs.Slab.{get}
-use Rattle.dt_queue.specs.Kept.{AreQueuesKept, IsNearMark, waiting_of}
-use Rattle.dt_queue.specs.Lanes.{AreMarks}
+use Rattle.dt_queue.specs.KeptInner.{AreQueuesKept, IsNearMark, waiting_of}
+use Rattle.dt_queue.specs.LanesInner.{AreMarks}
 use Rattle.dt_queue.specs.Queues.{neighbours}
 use Rattle.dt_queue.specs.declared.cell.Cell.{Cell}
 use Rattle.dt_queue.specs.declared.kept.Kept.{Kept}

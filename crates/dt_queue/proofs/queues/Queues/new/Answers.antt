@@ -1,6 +1,6 @@
 use Rattle.std.proofs.Common.{ap, map}
 use Rattle.slab.specs.Slab.{entries_from}
-use Rattle.dt_queue.specs.Kept.{entry, in_order}
+use Rattle.dt_queue.specs.KeptInner.{entry, in_order}
 use Rattle.dt_queue.proofs.queues.Queues.new.Goals as goal
 
 pub returns : goal.returns

@@ -8,7 +8,7 @@ use Rattle.dt_sched.specs.Views.{View, log_at, HasPart, IsLonger, AreClashing, E
 use Rattle.dt_sched.specs.Ties.{BreaksTies}
 use Rattle.dt_sched.proofs.Reach.{reach_decided, reach_source}
 use Rattle.dt_sched.proofs.Ranks.{sooner_breaks_ties}
-use Rattle.dt_sched.proofs.Longer.{log_longer, edge_longer, reaches_longer, complete_longer}
+use Rattle.dt_sched.proofs.LongerViews.{log_longer, edge_longer, reaches_longer, complete_longer}
 
 -- the home of an edge, and back
 pub home_of_edge : (view : View) (u t : TxnId) → Edge view u t → (home : ℕ) × SomeThen (AreClashing u t) (log_at view home)

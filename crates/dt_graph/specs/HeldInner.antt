@@ -1,6 +1,6 @@
 -- What the scheduler with queues holds, as it is kept: vertices, degrees, queues, the ready and the stuck ones (`Waits`), with
 -- the ids of the vertices and the resolved classes beside. It is seen as the plain lists of Graph.antt of dt_waits. Read next:
--- `Names`, for how an id finds its vertex.
+-- `NamesInner`, for how an id finds its vertex.
 use Rattle.std.specs.Prelude.{◌≡◌, ◌≤◌, ◌<◌, ◌^◌, List, length, vec_capacity, vec_len}
 use Rattle.dt_lists.specs.Lists.{AllIn}
 use Rattle.dt_access.specs.declared.TxnId.{TxnId}

@@ -1,5 +1,5 @@
 -- The ids of the vertices: the number of an id is its place in a list in which none stands twice. Numbers are found by region
--- and seq; those of ids with a seq that came far out of order are found beside, in a map. Read next: `Held`, of which they are
+-- and seq; those of ids with a seq that came far out of order are found beside, in a map. Read next: `HeldInner`, of which they are
 -- a part.
 use Rattle.std.specs.Prelude.{◌≡◌, ◌≢◌, ◌<◌, ◌^◌, ℕ, List, [], get_or, length, slice_get, Option, None, Some}
 use Rattle.dt_lists.specs.Lists.{Distinct, Has}

@@ -1,6 +1,6 @@
 -- Scaffolding: how the queues are kept. Each entry has a cell at its slot, with its row, its mode and the number of its push;
 -- and it has a mark in the lane of its mode, that of its row, or for the mode Whole that of its granule. `waiting_of` is the
--- list of entries that is kept so, and `AreQueuesKept` what all queues keep. Read next: `Lanes`, then `Rows` and `InUse`.
+-- list of entries that is kept so, and `AreQueuesKept` what all queues keep. Read next: `LanesInner`, then `RowsInner` and `InUseInner`.
 use Rattle.std.specs.Prelude.{◌≡◌, ℕ, ◌<◌, ◌↔◌, ◌⊎◌, ◌^◌, nat_lt, true, false, List, [], ◌∷◌, map, get_or, length, if◌then◌else◌, None, Some}
 use Rattle.slab.specs.Slab.{Slab, Updates, get, entries}
 use Rattle.dt_lists.specs.Lists.{AnyIn, Has}
@@ -8,9 +8,9 @@ use Rattle.dt_access.specs.Clash.{Bytes, is_whole, may_change}
 use Rattle.dt_access.specs.declared.access.Mode.{Mode}
 use Rattle.dt_access.specs.declared.access.Mode.TheVariants.{Read, Write, Whole}
 use Rattle.dt_queue.specs.Queues.{Waiting}
-use Rattle.dt_queue.specs.Lanes.{HasRisingNumbers, IsFirstIn, IsLastIn, IsNearInRow, IsNextInRow}
-use Rattle.dt_queue.specs.Rows.{AreRowsLinked, granule_at, name_at}
-use Rattle.dt_queue.specs.InUse.{rows_at}
+use Rattle.dt_queue.specs.LanesInner.{HasRisingNumbers, IsFirstIn, IsLastIn, IsNearInRow, IsNextInRow}
+use Rattle.dt_queue.specs.RowsInner.{AreRowsLinked, granule_at, name_at}
+use Rattle.dt_queue.specs.InUseInner.{rows_at}
 use Rattle.dt_queue.specs.declared.cell.Cell.{Cell}
 use Rattle.dt_queue.specs.declared.mark.Mark.{Mark}
 use Rattle.dt_queue.specs.declared.rows.Rows.{Rows}

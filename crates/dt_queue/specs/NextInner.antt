@@ -1,5 +1,5 @@
 -- What is known of the followers of an entry while they are searched for: whether there are any, and which is the first after
--- some number. Lanes, in which they are found, stand in Lanes.antt. Read next: `Kept`.
+-- some number. Lanes, in which they are found, stand in LanesInner.antt. Read next: `KeptInner`.
 use Rattle.std.specs.Prelude.{◌≡◌, ℕ, ◌<◌, ◌≤◌, true, false, Option, Some, None}
 use Rattle.dt_queue.specs.declared.mark.Mark.{Mark}
 use Rattle.dt_queue.specs.declared.next.Next.{Next}

@@ -1,7 +1,7 @@
 -- How the code keeps a graph, for the private functions of this crate. A link is an edge that knows the place of the next
 -- older link which begins where it begins, and of the next older one which ends where it ends; for each vertex the place
 -- of its newest link of both kinds is kept. So the links of a vertex hang together, from the newest to the oldest, and a
--- search from it looks at no other link. Read next: Finds.antt, the search.
+-- search from it looks at no other link. Read next: FindsInner.antt, the search.
 use Rattle.std.specs.Prelude.{◌≡◌, ◌≢◌, ℕ, ◌<◌, ◌^◌, List, length, get_or, Option, Some, None}
 use Rattle.dt_lists.specs.Lists.{AnyIn, AllIn}
 use Rattle.dt_class.specs.Graphs.{AdjEdge, AdjView, Leads}

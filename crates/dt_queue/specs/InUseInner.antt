@@ -1,6 +1,6 @@
 -- Rows in use: of each granule, by its number, those rows in which something waits to read or write. They are a list each, in
 -- no order; so what takes a granule whole looks at these, and not at all rows that the granule ever had. Of each row is kept
--- where it stands, or stood last. Read next: `Kept`, for the entries.
+-- where it stands, or stood last. Read next: `KeptInner`, for the entries.
 use Rattle.std.specs.Prelude.{◌≡◌, ◌≢◌, ◌<◌, ℕ, ◌⊎◌, ◌↔◌, false, List, [], ◌∷◌, ◌++◌, get_or, set, slice_get, Option, None, Some}
 use Rattle.dt_lists.specs.Lists.{Has}
 use Rattle.dt_access.specs.Clash.{is_whole}

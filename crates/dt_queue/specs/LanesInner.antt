@@ -1,5 +1,5 @@
 -- Lanes: the entries that use one row in one way, each as a mark with the number of its push. Their numbers ascend, so a lane
--- is searched by halving, and what lies between two entries of other lanes is found by their numbers. Read next: `Next`, for
+-- is searched by halving, and what lies between two entries of other lanes is found by their numbers. Read next: `NextInner`, for
 -- how followers are found in them.
 use Rattle.std.specs.Prelude.{◌≡◌, ℕ, ◌<◌, ◌≤◌, ◌⊎◌, ◌↔◌, Bool, ◌&&◌, nat_lt, if◌then◌else◌, List, [], ◌++◌, get_or, length, take, drop, Option, Some, None}
 use Rattle.dt_lists.specs.Lists.{AllIn, EachThen, Has}

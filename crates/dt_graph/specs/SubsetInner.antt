@@ -1,6 +1,6 @@
 -- Some of the numbers below a bound, as they are kept: a list of them, in no order, and for each number below the bound its
 -- place in the list, or none. So whether a number is one of them is seen at once, and it is put in and taken out at once. The
--- list has room for all numbers below the bound; so neither takes memory. Read next: `Held`, for which numbers are kept so.
+-- list has room for all numbers below the bound; so neither takes memory. Read next: `HeldInner`, for which numbers are kept so.
 use Rattle.std.specs.Prelude.{◌≡◌, ◌≢◌, ◌<◌, ◌≤◌, ◌^◌, ◌⊎◌, ◌↔◌, ℕ, List, length, get_or, slice_get, Option, None, Some}
 use Rattle.dt_lists.specs.Lists.{AllIn, Has, Distinct}
 

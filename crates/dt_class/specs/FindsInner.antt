@@ -6,7 +6,7 @@ use Rattle.std.specs.Prelude.{◌≡◌, ℕ, ◌<◌, ◌^◌, ◌⊎◌, ◌�
 use Rattle.dt_lists.specs.Chain.{Chain}
 use Rattle.dt_lists.specs.Lists.{AnyIn, Distinct, EachThen, Has, IsFront}
 use Rattle.dt_class.specs.Graphs.{AdjView}
-use Rattle.dt_class.specs.Links.{IsStep, LeadsBy}
+use Rattle.dt_class.specs.LinksInner.{IsStep, LeadsBy}
 use Rattle.dt_class.specs.declared.link.Link.{Link}
 use Rattle.dt_class.specs.declared.link.Way.{Way}
 

@@ -1,8 +1,8 @@
 -- Scaffolding: how the cells are numbered anew where no number is left. One cell after the other, in the order of their
--- numbers, gets the least number that is not given again yet; so their order stays. Read next: `Kept`, for what cells are.
+-- numbers, gets the least number that is not given again yet; so their order stays. Read next: `KeptInner`, for what cells are.
 use Rattle.std.specs.Prelude.{◌≡◌, ℕ, ◌<◌, ◌≤◌, ◌⊎◌, ◌+◌, ◌^◌, ◌==◌, if◌then◌else◌, Option, None, Some}
 use Rattle.slab.specs.Slab.{Slab, Updates, get}
-use Rattle.dt_queue.specs.Kept.{AreQueuesKept, waiting_of}
+use Rattle.dt_queue.specs.KeptInner.{AreQueuesKept, waiting_of}
 use Rattle.dt_queue.specs.declared.cell.Cell.{Cell}
 use Rattle.dt_queue.specs.declared.mark.Mark.{Mark}
 use Rattle.dt_queue.specs.declared.kept.Kept.{Kept}

@@ -6,8 +6,8 @@ use Rattle.dt_access.specs.declared.TxnId.{TxnId}
 use Rattle.dt_sched.specs.Views.{View, IsLonger, IsComplete, IsClosed, IsSooner, IsWellFormed}
 use Rattle.dt_sched.specs.Ties.{BreaksTies}
 use Rattle.dt_sched.specs.Decide.{IsExecutable, IsExecutableBy, IsResolvable}
-use Rattle.dt_sched.proofs.Longer.{complete_longer}
-use Rattle.dt_sched.proofs.Closed.{complete_of_closed, closed_stays, reaching_stays, class_stays, preceders_stay_by}
+use Rattle.dt_sched.proofs.LongerViews.{complete_longer}
+use Rattle.dt_sched.proofs.ClosedTransactions.{complete_of_closed, closed_stays, reaching_stays, class_stays, preceders_stay_by}
 use Rattle.dt_sched.proofs.Ranks.{sooner_breaks_ties}
 use Rattle.dt_sched.proofs.Classes.{in_own_class}
 

@@ -11,7 +11,7 @@ use Rattle.dt_queue.specs.Queues.{Waiting, HasDistinctSlots, followers}
 use Rattle.dt_waits.specs.Waits.{id_at, degree}
 use Rattle.dt_waits.specs.Graph.{GraphView, vertex_at}
 use Rattle.dt_waits.specs.Steps.{Leaves, MayLeave, with_one_done}
-use Rattle.dt_graph.specs.Subset.{SubsetView}
+use Rattle.dt_graph.specs.SubsetInner.{SubsetView}
 use Rattle.dt_waits.specs.declared.vertex.Vertex.{Vertex}
 use Rattle.dt_waits.specs.declared.open.Open.{Open}
 
