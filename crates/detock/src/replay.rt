@@ -1,4 +1,5 @@
-ghost use Rattle.std.specs.Prelude.{◌≡◌, ◌≤◌, length, map, IfOk};
+ghost use Rattle.std.specs.Prelude.{◌≡◌, ◌≤◌, length, map, List, ℕ, IfOk};
+ghost use Rattle.dt_events.specs.declared.Event.{Event};
 ghost use Rattle.dt_cluster.specs.Valid.{IsValidCluster};
 ghost use Rattle.dt_workload.specs.Valid.{IsValidWorkload};
 ghost use Rattle.dt_session.specs.Run.{AreLegal, world_after};
@@ -49,34 +50,38 @@ fn report_of(
     ensures report { IfOk result (λ text. text.items ≡ report_text (report_of cluster workload (unnumbered events.items))) }
     ensures refused { (status : _) → result ≡ Err status → IsStepRefusal cluster workload events.items status }
 {
-    let world = world_after(alloc, cluster, workload, events.as_slice())?;
-    let events = without_numbers(alloc, events)?;
+    let (lines, events) = apart(alloc, events)?;
+    let world = world_after(alloc, cluster, workload, lines, events.as_slice())?;
     let (text, sites) = world.text(alloc, events.as_slice())?;
     // The program ends soon, and then gives back all memory at once, in a tenth of the time.
     forget(sites);
     Ok(text)
 }
 
-/// The world after these events, if each is legal after those before it.
+/// The world after these events, if each is legal after those before it. The numbers are those of their lines.
 fn world_after(
     alloc: Global,
     cluster: Cluster,
     workload: Workload,
-    events: &[(u32, Event)],
+    lines: Vec<u32>,
+    events: &[Event],
 ) -> Result<World<QueueSched>, Status>
     requires cluster { IsValidCluster cluster }
     requires workload { IsValidWorkload cluster workload }
     requires few { length events.now ≤ file_limit }
-    ensures legal { IfOk result (λ _. AreLegal cluster workload (unnumbered events.now)) }
+    requires lines { length lines.items ≡ length events.now }
+    ensures legal { IfOk result (λ _. AreLegal cluster workload events.now) }
     ensures cluster { IfOk result (λ world. world.cluster ≡ cluster) }
     ensures workload { IfOk result (λ world. world.workload ≡ workload) }
-    ensures state { IfOk result (λ world. world.state ≡ world_after cluster workload (unnumbered events.now)) }
-    ensures refused { (status : _) → result ≡ Err status → IsStepRefusal cluster workload events.now status }
+    ensures state { IfOk result (λ world. world.state ≡ world_after cluster workload events.now) }
+    ensures refused { (status : _) → result ≡ Err status → (numbered : List (ℕ × Event))
+        → lines.items ≡ map (λ event. event.0) numbered → events.now ≡ unnumbered numbered
+        → IsStepRefusal cluster workload numbered status }
 {
     let mut world = World::opening(alloc, cluster, workload)?;
-    for numbered in events {
-        if let Err(error) = world.step(alloc, &numbered.1) {
-            return Err(refusal(numbered.0, error));
+    for (at, event) in events.iter().enumerate() {
+        if let Err(error) = world.step(alloc, event) {
+            return Err(refusal(lines[at], error));
         }
     }
     Ok(world)
@@ -92,9 +97,12 @@ fn refusal(line: u32, error: StepError) -> Status
     }
 }
 
-/// The events without the numbers of their lines.
-fn without_numbers(alloc: Global, events: Vec<(u32, Event)>) -> Result<Vec<Event>, NoMemory>
-    ensures { IfOk result (λ all. all.items ≡ unnumbered events.items) }
+/// The numbers of the lines, and the events: apart they take less memory.
+fn apart(alloc: Global, events: Vec<(u32, Event)>) -> Result<(Vec<u32>, Vec<Event>), NoMemory>
+    ensures lines { IfOk result (λ both. both.0.items ≡ map (λ event. event.0) events.items) }
+    ensures events { IfOk result (λ both. both.1.items ≡ unnumbered events.items) }
 {
-    Ok(events.into_iter().map(|(_, event)| event).collect(alloc)?)
+    let lines: Vec<u32> = events.iter().map(|event| event.0).collect(alloc)?;
+    let events: Vec<Event> = events.into_iter().map(|(_, event)| event).collect(alloc)?;
+    Ok((lines, events))
 }

@@ -1,11 +1,8 @@
 -- The bare words of a line, found one by one from a place on.
 use Rattle.std.proofs.Common.{◌≡◌, ◌≢◌, ℕ, ◌+◌, ◌<◌, ◌≤◌, ◌^◌, Bool, true, false, cond, ◌==◌, ◌||◌, ◌&&◌, nat_lt, List, []}
-use Rattle.std.proofs.Common.{◌∷◌, ◌++◌, length, get_or, drop, map, Option, Some, None, Bor, refl, sym, ◌∙◌, ap, arith, append_assoc, append-nil, eq-eqb, ne_eqb}
+use Rattle.std.proofs.Common.{◌∷◌, ◌++◌, length, get_or, drop, map, Option, Some, None, Bor, refl, sym, ◌∙◌, ap, append_assoc, append-nil}
 use Rattle.std.specs.Option.{option_map}
 use Rattle.std.specs.List.{slice_range}
-use Rattle.std.proofs.lemmas.Bool.Decides.{nat_tests}
-use Rattle.std.proofs.lemmas.Grind.{common_steps}
-use Rattle.std.proofs.lemmas.List.{drop_more}
 use Rattle.std.proofs.lemmas.Option.{same_Some}
 use Rattle.dt_lists.proofs.Callers.{same_head, same_tail}
 use Rattle.dt_text.specs.Texts.{is_text_byte}
