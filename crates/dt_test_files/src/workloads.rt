@@ -3,40 +3,51 @@
 ghost use Rattle.std.specs.Prelude.{IfOk};
 ghost use Rattle.dt_cluster.specs.Valid.{IsValidCluster};
 
+use crate::pieces::{is_long, put_all, put_number, wrong};
 use dt_cluster::{Cluster, builtin};
 use dt_cluster_file::{ClusterError, read_cluster};
-use dt_text::{NoMemory, put_u64, put_value};
+use dt_text::{NoMemory, Value, put_value};
 use dt_workload::{Ranked, Session, Wanted, Workload, WorkloadError, read_workload};
 use std::alloc::Global;
+use std::mem::forget;
 use std::test::Fail;
 
 /// More bytes than a test reads.
 const MANY: usize = 1000000;
 
+/// A space, and a rank that is not 5.
+fn put_rank(alloc: Global, out: &mut Vec<u8>, rank: u8) -> Result<(), NoMemory> {
+    if rank == 5 {
+        return put_all(out, &[b" "]);
+    }
+    put_number(alloc, out, b" ", u64::from(rank))?;
+    put_all(out, &[b"/"])
+}
+
+/// Values, each behind a space.
+fn put_arguments(alloc: Global, out: &mut Vec<u8>, values: &[Value]) -> Result<(), NoMemory> {
+    for value in values {
+        out.push(b' ')?;
+        put_value(alloc, out, value)?;
+    }
+    Ok(())
+}
+
 /// A call in words, as the number of its procedure and its arguments, or a move, as its key and its home; before it its
 /// rank, unless that is 5.
 fn put_wanted(alloc: Global, out: &mut Vec<u8>, ranked: &Ranked) -> Result<(), NoMemory> {
-    out.push(b' ')?;
-    if ranked.rank != 5 {
-        put_u64(alloc, out, u64::from(ranked.rank))?;
-        out.push(b'/')?;
-    }
+    put_rank(alloc, out, ranked.rank)?;
     match &ranked.wanted {
         Wanted::Call(number, args) => {
-            put_u64(alloc, out, u64::from(*number))?;
-            for value in args.as_slice() {
-                out.push(b' ')?;
-                put_value(alloc, out, value)?;
-            }
+            put_number(alloc, out, b"", u64::from(*number))?;
+            put_arguments(alloc, out, args.as_slice())?;
         }
         Wanted::Move(key, home) => {
-            out.extend_from_slice(key.bytes())?;
-            out.push(b'>')?;
-            put_u64(alloc, out, u64::from(*home))?;
+            put_all(out, &[key.bytes()])?;
+            put_number(alloc, out, b">", u64::from(*home))?;
         }
     }
-    out.push(b',')?;
-    Ok(())
+    put_all(out, &[b","])
 }
 
 /// A session in words: its name, its region, and what it wants.
@@ -45,14 +56,12 @@ pub(crate) fn put_session(
     out: &mut Vec<u8>,
     session: &Session,
 ) -> Result<(), NoMemory> {
-    out.extend_from_slice(session.name.bytes())?;
-    out.push(b'@')?;
-    put_u64(alloc, out, u64::from(session.region))?;
+    put_all(out, &[session.name.bytes()])?;
+    put_number(alloc, out, b"@", u64::from(session.region))?;
     for wanted in session.calls.as_slice() {
         put_wanted(alloc, out, wanted)?;
     }
-    out.push(b';')?;
-    Ok(())
+    put_all(out, &[b";"])
 }
 
 /// The sessions of a workload in words.
@@ -64,12 +73,24 @@ fn shown(alloc: Global, workload: &Workload) -> Result<Vec<u8>, NoMemory> {
     Ok(out)
 }
 
+/// A copy of a workload, in words. Workloads and clusters are left to the end of the process: that they may be dropped would be proved in
+/// each function that owns one.
+fn words_of_copy(alloc: Global, workload: &Workload) -> Result<Vec<u8>, Fail> {
+    let copy = workload.copy(alloc)?;
+    let words = shown(alloc, &copy);
+    forget(copy);
+    Ok(words?)
+}
+
 /// A copy of the workload of a file, in words, or its first fault, in a cluster of n regions.
 fn told(alloc: Global, regions: u8, file: &[u8]) -> Result<Vec<u8>, Fail> {
     if regions < 1 || regions > 8 {
         return Err(Fail::from("a cluster has 1 to 8 regions"));
     }
-    told_in(alloc, &builtin(alloc, regions)?, file)
+    let cluster = builtin(alloc, regions)?;
+    let told = told_in(alloc, &cluster, file);
+    forget(cluster);
+    told
 }
 
 /// A copy of the workload of a file, in words, or its first fault, in a cluster.
@@ -80,7 +101,11 @@ fn told_in(alloc: Global, cluster: &Cluster, file: &[u8]) -> Result<Vec<u8>, Fai
         return Err(Fail::from("a test reads few bytes"));
     }
     match read_workload(alloc, file, cluster) {
-        Ok(workload) => Ok(shown(alloc, &workload.copy(alloc)?)?),
+        Ok(workload) => {
+            let told = words_of_copy(alloc, &workload);
+            forget(workload);
+            told
+        }
         Err(WorkloadError::Fault(line, cause)) => {
             let fault = format!(in alloc; "{line} {cause:?}")?;
             Ok(fault.as_bytes().to_vec(alloc)?)
@@ -103,8 +128,23 @@ fn cluster_of(alloc: Global, file: &[u8]) -> Result<Cluster, Fail>
     }
 }
 
+/// A file, and what is told of it.
+type Row = (&'static [u8], &'static str);
+
+/// Fails at the first file of which something else is told in a cluster.
+fn check(alloc: Global, cluster: &Cluster, rows: &[Row]) -> Result<(), Fail>
+    requires { IsValidCluster cluster.now }
+{
+    for (row, (file, words)) in rows.iter().enumerate() {
+        if told_in(alloc, cluster, file)?.as_slice() != words.as_bytes() {
+            return Err(wrong(row));
+        }
+    }
+    Ok(())
+}
+
 /// Files, each with what is reported of it in a cluster of two regions.
-const FILES: [(&[u8], &str); 67] = [
+const FILES: &[Row] = &[
     (b"", ""),
     (b"\n   \n # \xff\t\n", ""),
     (b"session a at 0", "a@0;"),
@@ -197,28 +237,26 @@ const FILES: [(&[u8], &str); 67] = [
 
 #[test]
 fn each_file_is_a_workload_or_has_a_first_fault(rt: HostRuntime) -> Result<(), Fail> {
-    for (file, words) in FILES {
-        assert_eq!(rt; told(rt.alloc(), 2, file)?.as_slice(), words.as_bytes());
-    }
-    Ok(())
+    let cluster = builtin(rt.alloc(), 2)?;
+    let checked = check(rt.alloc(), &cluster, FILES);
+    forget(cluster);
+    checked
 }
+
+/// The same in such a cluster of version 2.
+const MOVES: &[Row] = &[
+    (b"session a at 0\nmove b to 1", "a@0 b>1,;"),
+    (b"session a at 0\nmove b/1 to 1", "2 Key"),
+    (b"session a at 0\nmove /x to 1", "a@0 /x>1,;"),
+    (b"session a at 0\nmove /x/y to 9", "2 Key"),
+];
 
 #[test]
 fn in_version_2_a_move_is_of_a_granule(rt: HostRuntime) -> Result<(), Fail> {
-    let rows: [(&[u8], &str); 4] = [
-        (b"session a at 0\nmove b to 1", "a@0 b>1,;"),
-        (b"session a at 0\nmove b/1 to 1", "2 Key"),
-        (b"session a at 0\nmove /x to 1", "a@0 /x>1,;"),
-        (b"session a at 0\nmove /x/y to 9", "2 Key"),
-    ];
     let cluster = cluster_of(rt.alloc(), b"regions = 2\nversion = 2")?;
-    for (file, words) in rows {
-        assert_eq!(rt;
-            told_in(rt.alloc(), &cluster, file)?.as_slice(),
-            words.as_bytes()
-        );
-    }
-    Ok(())
+    let checked = check(rt.alloc(), &cluster, MOVES);
+    forget(cluster);
+    checked
 }
 
 /// A file of n sessions, at each of m regions in turn.
@@ -226,30 +264,40 @@ fn sessions(alloc: Global, regions: u8, count: u32) -> Result<Vec<u8>, Fail> {
     let mut file = Vec::new(alloc);
     for number in 0..count {
         let region = number % u32::from(regions.max(1));
-        let line = format!(in alloc; "session s{number} at {region}\n")?;
-        file.extend_from_slice(line.as_bytes())?;
+        put_number(alloc, &mut file, b"session s", u64::from(number))?;
+        put_number(alloc, &mut file, b" at ", u64::from(region))?;
+        file.push(b'\n')?;
     }
     Ok(file)
 }
 
-#[test]
-fn a_region_has_64_sessions(rt: HostRuntime) -> Result<(), Fail> {
-    let rows: [(u8, u32, usize, &[u8]); 5] = [
-        (1, 64, 374, b"s62@0;s63@0;"),
-        (1, 65, 10, b"65 TooMany"),
-        (8, 320, 2130, b"s318@6;s319@7;"),
-        (8, 512, 3474, b"s510@6;s511@7;"),
-        (8, 513, 11, b"513 TooMany"),
-    ];
-    for (regions, count, length, end) in rows {
-        let file = sessions(rt.alloc(), regions, count)?;
-        let told = told(rt.alloc(), regions, file.as_slice())?;
-        assert!(rt;
-            told.len() == length && told.ends_with(end),
-            "{count} sessions"
-        );
+/// Numbers of regions and of sessions, and the length and the end of what is told of them.
+const SESSIONS: &[(u8, u32, usize, &[u8])] = &[
+    (1, 64, 374, b"s62@0;s63@0;"),
+    (1, 65, 10, b"65 TooMany"),
+    (8, 320, 2130, b"s318@6;s319@7;"),
+    (8, 512, 3474, b"s510@6;s511@7;"),
+    (8, 513, 11, b"513 TooMany"),
+];
+
+/// Fails at the first sessions of which something else is told.
+fn check_sessions(alloc: Global) -> Result<(), Fail> {
+    for (row, (regions, count, length, end)) in SESSIONS.iter().enumerate() {
+        let file = sessions(alloc, *regions, *count)?;
+        if !is_long(
+            told(alloc, *regions, file.as_slice())?.as_slice(),
+            *length,
+            end,
+        ) {
+            return Err(wrong(row));
+        }
     }
     Ok(())
+}
+
+#[test]
+fn a_region_has_64_sessions(rt: HostRuntime) -> Result<(), Fail> {
+    check_sessions(rt.alloc())
 }
 
 /// A session with n moves of the same key, and what follows.
@@ -262,25 +310,30 @@ fn moves(alloc: Global, count: u32, back: &[u8]) -> Result<Vec<u8>, Fail> {
     Ok(file)
 }
 
-#[test]
-fn a_file_has_20000_calls_and_moves(rt: HostRuntime) -> Result<(), Fail> {
-    let rows: [(u32, &[u8], usize, &[u8]); 3] = [
-        (20000, b"", 100004, b" b>0, b>0,;"),
-        (20001, b"", 13, b"20002 TooMany"),
-        (
-            20000,
-            b"session b at 0\nmove b to 0\n",
-            13,
-            b"20003 TooMany",
-        ),
-    ];
-    for (count, back, length, end) in rows {
-        let file = moves(rt.alloc(), count, back)?;
-        let told = told(rt.alloc(), 1, file.as_slice())?;
-        assert!(rt;
-            told.len() == length && told.ends_with(end),
-            "{count} moves"
-        );
+/// Numbers of moves, what follows them, and the length and the end of what is told of them.
+const MANY_MOVES: &[(u32, &[u8], usize, &[u8])] = &[
+    (20000, b"", 100004, b" b>0, b>0,;"),
+    (20001, b"", 13, b"20002 TooMany"),
+    (
+        20000,
+        b"session b at 0\nmove b to 0\n",
+        13,
+        b"20003 TooMany",
+    ),
+];
+
+/// Fails at the first moves of which something else is told.
+fn check_moves(alloc: Global) -> Result<(), Fail> {
+    for (row, (count, back, length, end)) in MANY_MOVES.iter().enumerate() {
+        let file = moves(alloc, *count, back)?;
+        if !is_long(told(alloc, 1, file.as_slice())?.as_slice(), *length, end) {
+            return Err(wrong(row));
+        }
     }
     Ok(())
+}
+
+#[test]
+fn a_file_has_20000_calls_and_moves(rt: HostRuntime) -> Result<(), Fail> {
+    check_moves(rt.alloc())
 }

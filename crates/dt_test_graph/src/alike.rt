@@ -1,5 +1,5 @@
 //! The scheduler with queues beside the plain one: after each call both answer alike, and what they have to where that is known.
-ghost use Rattle.std.specs.Prelude.{◌≡◌, ◌<◌, ◌↔◌, [], IfOk, IsTrue, replicate};
+ghost use Rattle.std.specs.Prelude.{◌≡◌, ◌↔◌, [], IfOk, IsTrue, replicate};
 ghost use Rattle.dt_access.specs.Ids.{AreAscending};
 
 use crate::calls::{Call, make, ready};
@@ -11,27 +11,32 @@ use dt_text::{Listed, NoMemory};
 use std::alloc::Global;
 use std::test::Fail;
 
-/// A number below a bound, and the seed of the next one.
-pub fn drawn(seed: &mut u64, bound: u64) -> u64
-    requires { 0 < bound }
-    ensures { result < bound }
-{
-    *seed = (*seed % 2147483647) * 48271 % 2147483647;
-    *seed % bound
+/// What is asked after a call, beside what is ready and what is executable. A number is a choice of the ids: of those at the places of
+/// its bits.
+#[derive(Clone, Copy)]
+pub enum Then {
+    /// Whether both tell this, and answer alike of each choice of five ids whether it is a class that may be resolved.
+    Tells(&'static [u8]),
+    /// Whether both answer so of these choices. Mostly they are no class, but a part of one, two together, or nothing of the kind.
+    Asks([u64; 4]),
 }
 
-/// A call, and what both answer after it, where that is known.
-pub type Step = (Call, Option<&'static [u8]>);
+/// A call, and what is asked after it.
+pub type Step = (Call, Then);
 
-/// What is done at schedulers of n regions, the ids that are asked of after each call, and how many choices of them are asked as a class: 4
-/// for all choices of the first two, 32 of the first five.
+/// What is done at schedulers of n regions, and the ids that are asked of after each call.
 #[derive(Clone, Copy)]
 pub struct Run<'a> {
     pub regions: u8,
     pub steps: &'a [Step],
     pub ids: &'a [TxnId],
-    pub choices: u32,
 }
+
+/// Each choice of five ids.
+const EACH: [u64; 32] = [
+    0, 1, 2, 3, 4, 5, 6, 7, 8, 9, 10, 11, 12, 13, 14, 15, 16, 17, 18, 19, 20, 21, 22, 23, 24, 25,
+    26, 27, 28, 29, 30, 31,
+];
 
 /// Adds a word and ids.
 fn put_ids(alloc: Global, out: &mut Vec<u8>, word: &[u8], ids: &[TxnId]) -> Result<(), NoMemory> {
@@ -136,19 +141,16 @@ fn lets_resolve<S: Scheduler + Drop, T: Scheduler + Drop>(
     }
 }
 
-/// Whether both answer alike whether some ids are a class that may be resolved: n choices of the first ids, together with a choice of
-/// the others that is drawn. Mostly they are no class, but a part of one, two together, or nothing of the kind.
+/// Whether both answer alike of these choices of ids whether they are a class that may be resolved.
 fn same_classes(
     alloc: Global,
-    seed: &mut u64,
     plain: &PlainSched,
     queue: &QueueSched,
-    run: &Run,
+    ids: &[TxnId],
+    choices: &[u64],
 ) -> Result<bool, Fail> {
-    let choices = u64::from(run.choices);
-    let others = drawn(seed, 64) * choices;
-    for first in 0..choices {
-        let some = chosen(alloc, run.ids, first + others)?;
+    for choice in choices {
+        let some = chosen(alloc, ids, *choice)?;
         let here = is_resolvable(alloc, plain, some.as_slice())?;
         if is_resolvable(alloc, queue, some.as_slice())? != here {
             return Ok(false);
@@ -163,33 +165,36 @@ fn same_ready(alloc: Global, plain: &PlainSched, queue: &QueueSched) -> Result<b
     Ok(ready(alloc, queue)? == here)
 }
 
-/// Whether both answer alike.
+/// Whether both answer alike what is ready, what is executable and which class may be resolved.
 fn agree(
     alloc: Global,
-    seed: &mut u64,
     plain: &PlainSched,
     queue: &QueueSched,
-    run: &Run,
+    ids: &[TxnId],
 ) -> Result<bool, Fail> {
     Ok(
         same_ready(alloc, plain, queue)?
-            && same_executable(alloc, plain, queue, run.ids)?
+            && same_executable(alloc, plain, queue, ids)?
             && lets_resolve(alloc, plain, queue)?
-            && lets_resolve(alloc, queue, plain)?
-            && same_classes(alloc, seed, plain, queue, run)?,
+            && lets_resolve(alloc, queue, plain)?,
     )
 }
 
-/// Whether both answer this, where it is known.
+/// Whether both answer what is asked after a call as they have to.
 fn answer(
     alloc: Global,
     plain: &PlainSched,
     queue: &QueueSched,
-    want: Option<&[u8]>,
+    ids: &[TxnId],
+    then: &Then,
 ) -> Result<bool, Fail> {
-    match want {
-        Some(want) => Ok(tells(alloc, plain, want)? && tells(alloc, queue, want)?),
-        None => Ok(true),
+    match then {
+        Then::Tells(want) => Ok(
+            tells(alloc, plain, want)?
+                && tells(alloc, queue, want)?
+                && same_classes(alloc, plain, queue, ids, &EACH)?,
+        ),
+        Then::Asks(choices) => same_classes(alloc, plain, queue, ids, choices),
     }
 }
 
@@ -207,7 +212,6 @@ fn empty_logs(alloc: Global, regions: u8) -> Result<Vec<Listed<Part>>, NoMemory>
 /// Whether both answer alike after each call, and what they have to.
 fn go_on(
     alloc: Global,
-    seed: &mut u64,
     plain: &mut PlainSched,
     queue: &mut QueueSched,
     run: &Run,
@@ -216,9 +220,9 @@ fn go_on(
     requires queue { queue.old.logs ≡ replicate run.now.regions [] }
 {
     let mut logs = empty_logs(alloc, run.regions)?;
-    for (call, want) in run.steps {
+    for (call, then) in run.steps {
         make(alloc, &mut logs, plain, queue, call)?;
-        if !agree(alloc, seed, plain, queue, run)? || !answer(alloc, plain, queue, *want)? {
+        if !agree(alloc, plain, queue, run.ids)? || !answer(alloc, plain, queue, run.ids, then)? {
             return Ok(false);
         }
     }
@@ -226,9 +230,8 @@ fn go_on(
 }
 
 /// Whether both schedulers, which are made and dropped here alone, answer alike after each call, and what they have to.
-pub fn are_alike(alloc: Global, start: u64, run: &Run) -> Result<bool, Fail> {
-    let mut seed = start;
+pub fn are_alike(alloc: Global, run: &Run) -> Result<bool, Fail> {
     let mut plain = PlainSched::empty(alloc, run.regions)?;
     let mut queue = QueueSched::empty(alloc, run.regions)?;
-    go_on(alloc, &mut seed, &mut plain, &mut queue, run)
+    go_on(alloc, &mut plain, &mut queue, run)
 }

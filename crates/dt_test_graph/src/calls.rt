@@ -26,6 +26,8 @@ pub enum Call {
     /// The first or the last of what is ready is executed, if there is any.
     ExecuteFirst,
     ExecuteLast,
+    /// Nothing is done.
+    Nothing,
 }
 
 /// All that is ready, in ascending order, as the scheduler gives one after another.

@@ -2,6 +2,7 @@
 ghost use Rattle.std.specs.Prelude.{◌≡◌, ◌<◌, IfOk};
 ghost use Rattle.dt_lists.specs.Lists.{AllIn};
 
+use crate::wrong;
 use dt_class::Adj;
 use std::alloc::Global;
 use std::test::Fail;
@@ -72,14 +73,19 @@ const REACHED: &[(&[(u32, u32)], Ask, u32, &[u32])] = &[
     (&[], Ask::Class, 1, &[1]),
 ];
 
-/// Whether each vertex is answered as it says.
-fn all_reached(alloc: Global) -> Result<bool, Fail> {
-    for (edges, ask, vertex, want) in REACHED {
+/// Fails at the first vertex of which something else is answered.
+fn check_reached(alloc: Global) -> Result<(), Fail> {
+    for (row, (edges, ask, vertex, want)) in REACHED.iter().enumerate() {
         if asked(alloc, 4, edges, *ask, *vertex)?.as_slice() != *want {
-            return Ok(false);
+            return Err(wrong(row));
         }
     }
-    Ok(true)
+    Ok(())
+}
+
+#[test]
+fn reach_and_classes_of_small_graphs(rt: HostRuntime) -> Result<(), Fail> {
+    check_reached(rt.alloc())
 }
 
 /// The edges of a line of vertices, each to the next one; and from the last back to the first, where it is closed.
@@ -109,21 +115,19 @@ const LINES: &[(bool, Ask, u32, usize)] = &[
     (true, Ask::Class, 250, 500),
 ];
 
-/// Whether each line is followed to its end.
-fn all_followed(alloc: Global) -> Result<bool, Fail> {
-    for (closed, ask, vertex, want) in LINES {
+/// Fails at the first line that is not followed to its end.
+fn check_followed(alloc: Global) -> Result<(), Fail> {
+    for (row, (closed, ask, vertex, want)) in LINES.iter().enumerate() {
         if asked_of_line(alloc, *closed, *ask, *vertex)? != *want {
-            return Ok(false);
+            return Err(wrong(row));
         }
     }
-    Ok(true)
+    Ok(())
 }
 
 #[test]
-fn reach_and_classes_of_graphs_and_of_long_lines(rt: HostRuntime) -> Result<(), Fail> {
-    assert!(rt; all_reached(rt.alloc())?);
-    assert!(rt; all_followed(rt.alloc())?);
-    Ok(())
+fn long_lines_are_followed_to_their_end(rt: HostRuntime) -> Result<(), Fail> {
+    check_followed(rt.alloc())
 }
 
 /// Those of the numbers that are vertices.
@@ -170,18 +174,17 @@ const SOURCES: &[(&[(u32, u32)], &[u32], &[u32])] = &[
     (&[], &[0, 1, 2, 3], &[]),
 ];
 
-/// Whether the class that comes first is each time the one that is wanted.
-fn all_first(alloc: Global) -> Result<bool, Fail> {
-    for (edges, blocked, want) in SOURCES {
+/// Fails where another class comes first.
+fn check_first(alloc: Global) -> Result<(), Fail> {
+    for (row, (edges, blocked, want)) in SOURCES.iter().enumerate() {
         if source(alloc, 4, edges, blocked)?.as_slice() != *want {
-            return Ok(false);
+            return Err(wrong(row));
         }
     }
-    Ok(true)
+    Ok(())
 }
 
 #[test]
 fn classes_that_nothing_outside_reaches(rt: HostRuntime) -> Result<(), Fail> {
-    assert!(rt; all_first(rt.alloc())?);
-    Ok(())
+    check_first(rt.alloc())
 }

@@ -1,10 +1,22 @@
 //! Parts and steps that are drawn.
-use crate::alike::{Run, Step, are_alike, drawn};
+ghost use Rattle.std.specs.Prelude.{◌<◌};
+
+use crate::alike::{Run, Step, Then, are_alike};
 use crate::calls::Call;
 use crate::parts::{Use, Wide};
+use crate::wrong;
 use dt_access::{Mode, TxnId};
 use std::alloc::Global;
 use std::test::Fail;
+
+/// A number below a bound, and the seed of the next one.
+fn drawn(seed: &mut u64, bound: u64) -> u64
+    requires { 0 < bound }
+    ensures { result < bound }
+{
+    *seed = (*seed % 2147483647) * 48271 % 2147483647;
+    *seed % bound
+}
 
 const USES: [Use; 12] = [
     (b"a", Mode::Whole),
@@ -77,6 +89,23 @@ fn ids_of(alloc: Global, parts: &[Wide]) -> Result<Vec<TxnId>, Fail> {
     Ok(ids)
 }
 
+/// The first one, two, three and all of four ids, of which each stands one or two places behind the one before it.
+fn choices(seed: &mut u64) -> [u64; 4] {
+    let first = drawn(seed, 3);
+    let second = first + 1 + drawn(seed, 2);
+    let third = second + 1 + drawn(seed, 2);
+    let fourth = third + 1 + drawn(seed, 2);
+    let one = 1u64 << first;
+    let two = one | 1u64 << second;
+    let three = two | 1u64 << third;
+    [one, two, three, three | 1u64 << fourth]
+}
+
+/// A call, and four choices of ids that are asked of after it.
+fn step(seed: &mut u64, call: Call) -> Step {
+    (call, Then::Asks(choices(seed)))
+}
+
 /// Adds n calls that resolve or execute something, if there is anything.
 fn add_calls(seed: &mut u64, steps: &mut Vec<Step>, count: u32) -> Result<(), Fail> {
     for _call in 0..count {
@@ -85,18 +114,19 @@ fn add_calls(seed: &mut u64, steps: &mut Vec<Step>, count: u32) -> Result<(), Fa
             2 => Call::ExecuteLast,
             _ => Call::ExecuteFirst,
         };
-        steps.push((call, None))?;
+        steps.push(step(seed, call))?;
     }
     Ok(())
 }
 
-/// Each part is inserted, and a few calls are made behind it, until nothing is left to do.
+/// Each part is inserted, and a few calls are made behind it; at the end until nothing is left to do.
 fn steps_of(alloc: Global, seed: &mut u64, parts: &[Wide]) -> Result<Vec<Step>, Fail> {
     let mut steps = Vec::new(alloc);
     for wide in parts {
-        steps.push((Call::InsertWide(*wide), None))?;
+        steps.push(step(seed, Call::InsertWide(*wide)))?;
         add_calls(seed, &mut steps, 2)?;
     }
+    steps.push(step(seed, Call::Nothing))?;
     add_calls(seed, &mut steps, 40)?;
     Ok(steps)
 }
@@ -111,15 +141,24 @@ fn run_alike(alloc: Global, start: u64) -> Result<bool, Fail> {
         regions: 3,
         steps: steps.as_slice(),
         ids: ids.as_slice(),
-        choices: 4,
     };
-    are_alike(alloc, seed, &run)
+    are_alike(alloc, &run)
+}
+
+/// The numbers that the runs are drawn from.
+const SEEDS: &[u64] = &[7919, 15838, 23757, 31676, 39595];
+
+/// Fails at the first drawn run in which both do not answer alike.
+fn check(alloc: Global) -> Result<(), Fail> {
+    for (row, seed) in SEEDS.iter().enumerate() {
+        if !run_alike(alloc, *seed)? {
+            return Err(wrong(row));
+        }
+    }
+    Ok(())
 }
 
 #[test]
 fn both_schedulers_answer_alike(rt: HostRuntime) -> Result<(), Fail> {
-    for seed in 1..6 {
-        assert!(rt; run_alike(rt.alloc(), seed * 7919)?);
-    }
-    Ok(())
+    check(rt.alloc())
 }

@@ -1,8 +1,17 @@
 //! Tests of the schedulers and of their graph: what a vertex reaches, its class, queues, what is ready and what is resolved,
 //! and that the two schedulers answer alike.
-//! Most are tables of expected values that were worked out independently, each with one loop; `drawn.rt` draws parts and calls at
-//! random. The schedulers are made and dropped in one function (`alike.rt`), which is given its calls as a list.
+//! Most are tables of expected values that were worked out independently, each with one loop, which names the first row that is not
+//! answered as it says; `drawn.rt` draws parts and calls at random. The schedulers are made and dropped in one function (`alike.rt`), which is given its calls as a list.
 #![tactic(auto)]
+
+#[cfg(test)]
+use std::test::Fail;
+
+/// The failure of a table at a row.
+#[cfg(test)]
+fn wrong(row: usize) -> Fail {
+    Fail::new(format_args!("row {row}"))
+}
 
 #[cfg(test)]
 mod alike;

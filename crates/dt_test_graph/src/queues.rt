@@ -3,6 +3,7 @@ ghost use Rattle.std.specs.Prelude.{IfOk};
 ghost use Rattle.dt_lists.specs.Lists.{AllIn};
 ghost use Rattle.dt_queue.specs.Queues.{IsQueued};
 
+use crate::wrong;
 use dt_access::Mode;
 use dt_queue::Queues;
 use dt_text::Key;
@@ -146,18 +147,17 @@ const ROWS: &[(&[Use], Option<usize>, Ask, usize, &[u32])] = &[
     (&GRANULE, Some(6), Ask::Neighbours, 7, &[5]),
 ];
 
-/// Whether each row is answered as it says.
-fn all_told(alloc: Global) -> Result<bool, Fail> {
-    for (uses, gone, ask, place, want) in ROWS {
+/// Fails at the first row that is answered in another way.
+fn check(alloc: Global) -> Result<(), Fail> {
+    for (row, (uses, gone, ask, place, want)) in ROWS.iter().enumerate() {
         if told(alloc, uses, *gone, *ask, *place)?.as_slice() != *want {
-            return Ok(false);
+            return Err(wrong(row));
         }
     }
-    Ok(true)
+    Ok(())
 }
 
 #[test]
 fn entries_have_their_neighbours_and_followers(rt: HostRuntime) -> Result<(), Fail> {
-    assert!(rt; all_told(rt.alloc())?);
-    Ok(())
+    check(rt.alloc())
 }

@@ -1,11 +1,13 @@
 //! Calls: which keys they use, and how they end.
 ghost use Rattle.std.specs.Prelude.{◌≡◌, IfOk, map};
 
-use dt_access::{Keys, Mode, TryCopy};
-use dt_eval::{Args, Cause, Finish, Reads, fits, keys_of, run};
+use crate::wrong;
+use dt_access::{Keys, Mode, TryCopy, Writes};
+use dt_eval::{Args, Cause, Finish, Reads, Values, fits, keys_of, run};
 use dt_proc::{Proc, Procs, builtin_procs, read_procs};
-use dt_text::{Key, NoMemory, Str, Value, put_value, read_i64};
+use dt_text::{Key, NoMemory, Str, Value, put_u64, put_value, read_i64};
 use std::alloc::Global;
+use std::mem::forget;
 use std::test::Fail;
 
 /// More bytes than a test reads.
@@ -34,8 +36,8 @@ fn values(alloc: Global, line: &[u8]) -> Result<Vec<Option<Value>>, Fail> {
 /// The arguments that words stand for, one space apart.
 fn arguments(alloc: Global, line: &[u8]) -> Result<Args, Fail> {
     let mut arguments = Args::new(alloc);
-    for value in values(alloc, line)? {
-        if let Some(value) = value {
+    for word in line.split(|byte| *byte == b' ') {
+        if let Some(value) = value(alloc, word)? {
             arguments.push(value)?;
         }
     }
@@ -67,39 +69,49 @@ fn put_keys(out: &mut Vec<u8>, keys: &Keys) -> Result<(), NoMemory> {
     Ok(())
 }
 
+/// Values, each behind a space.
+fn put_values(alloc: Global, out: &mut Vec<u8>, values: &Values) -> Result<(), NoMemory> {
+    for value in values.as_slice() {
+        out.push(b' ')?;
+        put_option(alloc, out, value)?;
+    }
+    Ok(())
+}
+
+/// Writes, each behind a `;` as its key, `=` and its value.
+fn put_writes(alloc: Global, out: &mut Vec<u8>, writes: &Writes) -> Result<(), NoMemory> {
+    for (key, value) in writes.as_slice() {
+        out.push(b';')?;
+        out.extend_from_slice(key.bytes())?;
+        out.push(b'=')?;
+        put_option(alloc, out, value)?;
+    }
+    Ok(())
+}
+
 /// How a run ends, as a text: the values given, then each write as its key, `=` and its value; or the cause of the abort.
 fn put_finish(alloc: Global, out: &mut Vec<u8>, finish: &Finish) -> Result<(), NoMemory> {
     match finish {
         Finish::Gave(values, writes) => {
             out.extend_from_slice(b"gave")?;
-            for value in values.as_slice() {
-                out.push(b' ')?;
-                put_option(alloc, out, value)?;
-            }
-            for (key, value) in writes.as_slice() {
-                out.push(b';')?;
-                out.extend_from_slice(key.bytes())?;
-                out.push(b'=')?;
-                put_option(alloc, out, value)?;
-            }
-            Ok(())
+            put_values(alloc, out, values)?;
+            put_writes(alloc, out, writes)
         }
         Finish::Aborted(cause) => put_cause(out, &cause.copy()?),
     }
 }
 
-/// The cause of an abort as a text.
+/// The cause of an abort as a text: a word, and behind it what the body says.
 fn put_cause(out: &mut Vec<u8>, cause: &Cause) -> Result<(), NoMemory> {
-    match cause {
-        Cause::Word(word) => {
-            out.extend_from_slice(b"word ")?;
-            out.extend_from_slice(word.get().bytes())?;
-        }
-        Cause::Overflow => out.extend_from_slice(b"overflow")?,
-        Cause::Zero => out.extend_from_slice(b"zero")?,
-        Cause::Kind => out.extend_from_slice(b"kind")?,
-        Cause::Long => out.extend_from_slice(b"long")?,
-    }
+    let (word, said) = match cause {
+        Cause::Word(said) => (b"word ".as_slice(), said.get().bytes()),
+        Cause::Overflow => (b"overflow".as_slice(), b"".as_slice()),
+        Cause::Zero => (b"zero".as_slice(), b"".as_slice()),
+        Cause::Kind => (b"kind".as_slice(), b"".as_slice()),
+        Cause::Long => (b"long".as_slice(), b"".as_slice()),
+    };
+    out.extend_from_slice(word)?;
+    out.extend_from_slice(said)?;
     Ok(())
 }
 
@@ -110,6 +122,14 @@ fn put_option(alloc: Global, out: &mut Vec<u8>, value: &Option<Value>) -> Result
         None => out.extend_from_slice(b"none")?,
     }
     Ok(())
+}
+
+/// The keys of a call, and how it ends.
+fn finish_told(alloc: Global, keys: &Keys, finish: &Finish) -> Result<Vec<u8>, Fail> {
+    let mut out = Vec::new(alloc);
+    put_keys(&mut out, keys)?;
+    put_finish(alloc, &mut out, finish)?;
+    Ok(out)
 }
 
 /// The keys of a call, and how it ends where they have these values, in order of keys.
@@ -124,11 +144,9 @@ fn ends(
     }
     match keys_of(alloc, body, arguments) {
         Ok(keys) => {
-            let mut out = Vec::new(alloc);
-            put_keys(&mut out, &keys)?;
             let reads = reads(alloc, keys.as_slice(), values)?;
-            put_finish(alloc, &mut out, &run(alloc, body, arguments, &reads)?)?;
-            Ok(out)
+            let finish = run(alloc, body, arguments, &reads)?;
+            finish_told(alloc, &keys, &finish)
         }
         Err(error) => Ok(format!(in alloc; "{error}")?.as_bytes().to_vec(alloc)?),
     }
@@ -146,14 +164,13 @@ fn procs_of(alloc: Global, source: &[u8]) -> Result<Procs, Fail> {
 }
 
 /// What a call by the last procedure of a name comes to: its words are that name and the arguments.
-fn told(
+fn told_by(
     alloc: Global,
-    source: &[u8],
+    procs: &Procs,
     name: &[u8],
     line: &[u8],
     rows: &[u8],
 ) -> Result<Vec<u8>, Fail> {
-    let procs = procs_of(alloc, source)?;
     let Some(number) = procs.find(name) else {
         return Err(Fail::from("the procedure is there"));
     };
@@ -165,13 +182,46 @@ fn told(
     ends(alloc, body, arguments.as_slice(), values.as_slice())
 }
 
+/// The same by the procedures of a text. They are left to the end of the process: that they may be dropped would be proved here.
+fn told(
+    alloc: Global,
+    source: &[u8],
+    name: &[u8],
+    line: &[u8],
+    rows: &[u8],
+) -> Result<Vec<u8>, Fail> {
+    let procs = procs_of(alloc, source)?;
+    let told = told_by(alloc, &procs, name, line, rows);
+    forget(procs);
+    told
+}
+
+/// A procedure, the arguments of a call, the values of its rows, and what the call comes to. The procedure is a built-in one of this
+/// name, or `f` of this text.
+type Row = (&'static [u8], &'static [u8], &'static [u8], &'static [u8]);
+
+/// Fails at the first call that comes to something else.
+fn check(alloc: Global, rows: &[Row], are_built_in: bool) -> Result<(), Fail> {
+    for (row, (procedure, line, values, want)) in rows.iter().enumerate() {
+        let (source, name) = if are_built_in {
+            (b"".as_slice(), *procedure)
+        } else {
+            (*procedure, b"f".as_slice())
+        };
+        if told(alloc, source, name, line, values)?.as_slice() != *want {
+            return Err(wrong(row));
+        }
+    }
+    Ok(())
+}
+
 /// The least number, and the greatest.
 const LEAST: &[u8] = b"-9223372036854775808";
 
 const MOST: &[u8] = b"9223372036854775807";
 
 /// Calls of built-in procedures: the name, the arguments, the values of the rows, and what the call comes to.
-const BUILT_IN: [(&[u8], &[u8], &[u8], &[u8]); 26] = [
+const BUILT_IN: &[Row] = &[
     (b"put", b"b 7", b"-", b"wb gave;b=7"),
     (b"put", b"b 7", b"7", b"wb gave;b=7"),
     (b"note", b"b x", b"1", b"wb gave;b=\"x\""),
@@ -202,14 +252,11 @@ const BUILT_IN: [(&[u8], &[u8], &[u8], &[u8]); 26] = [
 
 #[test]
 fn calls_of_built_in_procedures_end_as_their_texts_say(rt: HostRuntime) -> Result<(), Fail> {
-    for (name, line, rows, want) in BUILT_IN {
-        assert_eq!(rt; told(rt.alloc(), b"", name, line, rows)?.as_slice(), want);
-    }
-    Ok(())
+    check(rt.alloc(), BUILT_IN, true)
 }
 
 /// Procedures `f`, each with the arguments of a call, the values of its rows, and what the call comes to.
-const BODIES: [(&[u8], &[u8], &[u8], &[u8]); 17] = [
+const BODIES: &[Row] = &[
     (
         b"proc f(k: text) read a = k; { give int(a) % 3, int(a) % -3, int(a) / -2; }",
         b"k",
@@ -316,17 +363,11 @@ const BODIES: [(&[u8], &[u8], &[u8], &[u8]); 17] = [
 
 #[test]
 fn calls_end_as_their_texts_say(rt: HostRuntime) -> Result<(), Fail> {
-    for (source, line, rows, want) in BODIES {
-        assert_eq!(rt;
-            told(rt.alloc(), source, b"f", line, rows)?.as_slice(),
-            want
-        );
-    }
-    Ok(())
+    check(rt.alloc(), BODIES, false)
 }
 
 /// A text in which a piece stands `times` times.
-fn repeated(
+pub(crate) fn repeated(
     alloc: Global,
     front: &[u8],
     piece: &[u8],
@@ -342,7 +383,7 @@ fn repeated(
 }
 
 /// What is before a piece, the piece, how often it stands there, what is after it, the length of what a call comes to, and its end.
-const MANY_PIECES: [(&[u8], &[u8], u32, &[u8], usize, &[u8]); 4] = [
+const MANY_PIECES: &[(&[u8], &[u8], u32, &[u8], usize, &[u8])] = &[
     // Statements, values, operands, and statements in a block.
     (
         b"proc f(k: text) write a = k; { set a = 0; ",
@@ -378,56 +419,100 @@ const MANY_PIECES: [(&[u8], &[u8], u32, &[u8], usize, &[u8]); 4] = [
     ),
 ];
 
+/// Fails at the first text whose call comes to something of another length or with another end.
+fn check_pieces(alloc: Global) -> Result<(), Fail> {
+    for (row, (front, piece, times, back, length, end)) in MANY_PIECES.iter().enumerate() {
+        let source = repeated(alloc, front, piece, *times, back)?;
+        let told = told(alloc, source.as_slice(), b"f", b"k", b"-")?;
+        if told.len() != *length || !told.ends_with(end) {
+            return Err(wrong(row));
+        }
+    }
+    Ok(())
+}
+
 #[test]
 fn a_procedure_is_as_long_as_it_is(rt: HostRuntime) -> Result<(), Fail> {
-    for (front, piece, times, back, length, end) in MANY_PIECES {
-        let source = repeated(rt.alloc(), front, piece, times, back)?;
-        let told = told(rt.alloc(), source.as_slice(), b"f", b"k", b"-")?;
-        assert!(rt; told.len() == length && told.ends_with(end));
+    check_pieces(rt.alloc())
+}
+
+/// A procedure that reads a key two bytes longer than its argument.
+const LONGER: &[u8] = b"proc f(k: text) read a = k ++ \"/5\"; { give 1; }";
+
+/// Lengths of the argument, and the end of what the call comes to.
+const KEYS: &[(u32, &[u8])] = &[
+    (63, b"kk/5 gave 1"),
+    (126, b"kk/5 gave 1"),
+    (127, b"declaration 0 gives no key"),
+];
+
+/// Fails at the first length with another end.
+fn check_keys(alloc: Global) -> Result<(), Fail> {
+    for (row, (length, end)) in KEYS.iter().enumerate() {
+        let line = repeated(alloc, b"", b"k", *length, b"")?;
+        if !told(alloc, LONGER, b"f", line.as_slice(), b"-")?.ends_with(end) {
+            return Err(wrong(row));
+        }
     }
     Ok(())
 }
 
 #[test]
 fn a_call_uses_keys_of_128_bytes_and_no_longer_ones(rt: HostRuntime) -> Result<(), Fail> {
-    let source: &[u8] = b"proc f(k: text) read a = k ++ \"/5\"; { give 1; }";
-    let lengths: [(u32, &[u8]); 3] = [
-        (63, b"kk/5 gave 1"),
-        (126, b"kk/5 gave 1"),
-        (127, b"declaration 0 gives no key"),
-    ];
-    for (length, end) in lengths {
-        let line = repeated(rt.alloc(), b"", b"k", length, b"")?;
-        let told = told(rt.alloc(), source, b"f", line.as_slice(), b"-")?;
-        assert!(rt; told.ends_with(end));
+    check_keys(rt.alloc())
+}
+
+/// Adds a few bytes and a number behind them.
+fn put_number(
+    alloc: Global,
+    text: &mut Vec<u8>,
+    before: &[u8],
+    number: u32,
+) -> Result<(), NoMemory> {
+    text.extend_from_slice(before)?;
+    put_u64(alloc, text, u64::from(number))
+}
+
+/// Adds variables up to the one of a number, each greater by one than the one before.
+fn put_variables(alloc: Global, text: &mut Vec<u8>, last: u32) -> Result<(), NoMemory> {
+    for number in 0..last {
+        put_number(alloc, text, b"let v", number + 1)?;
+        put_number(alloc, text, b" = v", number)?;
+        text.extend_from_slice(b" + 1; ")?;
     }
     Ok(())
 }
 
-/// A procedure with n variables, each greater by one than the one before, which gives the last.
+/// A procedure with n variables, which gives the last.
 fn counting(alloc: Global, variables: u32) -> Result<Vec<u8>, Fail> {
+    let last = variables.saturating_sub(1);
     let mut text = b"proc f(k: text) read a = k; { let v0 = 0; ".to_vec(alloc)?;
-    for number in 1..variables {
-        let before = number - 1;
-        let statement = format!(in alloc; "let v{number} = v{before} + 1; ")?;
-        text.extend_from_slice(statement.as_bytes())?;
-    }
-    let last = format!(in alloc; "give v{}; }}", variables.saturating_sub(1))?;
-    text.extend_from_slice(last.as_bytes())?;
+    put_variables(alloc, &mut text, last)?;
+    put_number(alloc, &mut text, b"give v", last)?;
+    text.extend_from_slice(b"; }")?;
     Ok(text)
+}
+
+/// Numbers of variables, and what the call comes to.
+const VARIABLES: &[(u32, &[u8])] = &[
+    (255, b"rk gave 254"),
+    (256, b"rk gave 255"),
+    (257, b"rk gave 256"),
+    (700, b"rk gave 699"),
+];
+
+/// Fails at the first number of variables with which the call comes to something else.
+fn check_variables(alloc: Global) -> Result<(), Fail> {
+    for (row, (variables, want)) in VARIABLES.iter().enumerate() {
+        let source = counting(alloc, *variables)?;
+        if told(alloc, source.as_slice(), b"f", b"k", b"-")?.as_slice() != *want {
+            return Err(wrong(row));
+        }
+    }
+    Ok(())
 }
 
 #[test]
 fn a_procedure_has_hundreds_of_variables(rt: HostRuntime) -> Result<(), Fail> {
-    for (variables, want) in [
-        (255, b"rk gave 254"),
-        (256, b"rk gave 255"),
-        (257, b"rk gave 256"),
-        (700, b"rk gave 699"),
-    ] {
-        let source = counting(rt.alloc(), variables)?;
-        let told = told(rt.alloc(), source.as_slice(), b"f", b"k", b"-")?;
-        assert_eq!(rt; told.as_slice(), want.as_slice());
-    }
-    Ok(())
+    check_variables(rt.alloc())
 }

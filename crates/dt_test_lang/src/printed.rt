@@ -7,9 +7,7 @@ use std::alloc::Global;
 /// Procedures, with a space between them.
 pub fn put_procs(alloc: Global, out: &mut Vec<u8>, procs: &Procs) -> Result<(), NoMemory> {
     for number in 0..procs.len() {
-        if number > 0 {
-            put(out, b" ")?;
-        }
+        separate(out, number as usize, b" ")?;
         if let Some(proc) = procs.get(number) {
             put_proc(alloc, out, proc)?;
         }
@@ -20,18 +18,21 @@ pub fn put_procs(alloc: Global, out: &mut Vec<u8>, procs: &Procs) -> Result<(), 
 fn put_proc(alloc: Global, out: &mut Vec<u8>, proc: &Proc) -> Result<(), NoMemory> {
     put(out, b"proc ")?;
     put(out, proc.name().bytes())?;
-    put(out, b"(")?;
-    for (i, kind) in proc.params().iter().enumerate() {
-        if i > 0 {
-            put(out, b", ")?;
-        }
-        put(out, kind_word(*kind))?;
-    }
-    put(out, b") ")?;
+    put_kinds(out, proc.params())?;
     for key in proc.keys() {
         put_key(alloc, out, key)?;
     }
     put_body(alloc, out, proc.body())
+}
+
+/// Kinds of parameters in brackets.
+fn put_kinds(out: &mut Vec<u8>, kinds: &[Kind]) -> Result<(), NoMemory> {
+    put(out, b"(")?;
+    for (i, kind) in kinds.iter().enumerate() {
+        separate(out, i, b", ")?;
+        put(out, kind_word(*kind))?;
+    }
+    put(out, b") ")
 }
 
 fn kind_word(kind: Kind) -> &'static [u8] {
@@ -49,16 +50,18 @@ fn put_key(alloc: Global, out: &mut Vec<u8>, key: &KeyDecl) -> Result<(), NoMemo
     };
     put(out, word)?;
     for (i, item) in key.items.as_slice().iter().enumerate() {
-        if i > 0 {
-            put(out, b" ++ ")?;
-        }
-        match item {
-            KeyItem::Text(text) => put_text(alloc, out, text)?,
-            KeyItem::Param(param) => put_number(alloc, out, b"p", *param)?,
-            KeyItem::Show(param) => put_number(alloc, out, b"s", *param)?,
-        }
+        separate(out, i, b" ++ ")?;
+        put_item(alloc, out, item)?;
     }
     put(out, b"; ")
+}
+
+fn put_item(alloc: Global, out: &mut Vec<u8>, item: &KeyItem) -> Result<(), NoMemory> {
+    match item {
+        KeyItem::Text(text) => put_text(alloc, out, text),
+        KeyItem::Param(param) => put_number(alloc, out, b"p", *param),
+        KeyItem::Show(param) => put_number(alloc, out, b"s", *param),
+    }
 }
 
 /// A fault: its cause and its place. Running out of memory is reported as such.
@@ -79,16 +82,11 @@ pub fn put_fault(alloc: Global, out: &mut Vec<u8>, fault: ProcError) -> Result<(
 pub fn put_body(alloc: Global, out: &mut Vec<u8>, stmts: &[Stmt]) -> Result<(), NoMemory> {
     put(out, b"{")?;
     for (i, stmt) in stmts.iter().enumerate() {
-        if i > 0 {
-            put(out, b" ")?;
-        }
+        separate(out, i, b" ")?;
         match stmt {
             Stmt::If(test, then, otherwise) => {
-                put(out, b"if ")?;
-                put_expr(alloc, out, test)?;
-                put(out, b" ")?;
+                put_word(alloc, out, b"if ", test)?;
                 put_branch(alloc, out, then.as_slice())?;
-                put(out, b" ")?;
                 put_branch(alloc, out, otherwise.as_slice())?;
             }
             _ => put_plain(alloc, out, stmt)?,
@@ -97,57 +95,51 @@ pub fn put_body(alloc: Global, out: &mut Vec<u8>, stmts: &[Stmt]) -> Result<(), 
     put(out, b"}")
 }
 
-/// The statements of a branch, in which those with branches are not shown whole.
+/// A space, and the statements of a branch, in which those with branches are not shown whole.
 fn put_branch(alloc: Global, out: &mut Vec<u8>, stmts: &[Stmt]) -> Result<(), NoMemory> {
-    put(out, b"{")?;
+    put(out, b" {")?;
     for (i, stmt) in stmts.iter().enumerate() {
-        if i > 0 {
-            put(out, b" ")?;
-        }
+        separate(out, i, b" ")?;
         put_plain(alloc, out, stmt)?;
     }
     put(out, b"}")
 }
 
+/// A few bytes, and an expression behind them.
+fn put_word(alloc: Global, out: &mut Vec<u8>, word: &[u8], expr: &Expr) -> Result<(), NoMemory> {
+    put(out, word)?;
+    put_expr(alloc, out, expr)
+}
+
+/// A statement without branches, and a `;`.
 fn put_plain(alloc: Global, out: &mut Vec<u8>, stmt: &Stmt) -> Result<(), NoMemory> {
     match stmt {
-        Stmt::Let(value) => {
-            put(out, b"let ")?;
-            put_expr(alloc, out, value)?;
-            put(out, b";")
-        }
+        Stmt::Let(value) => put_word(alloc, out, b"let ", value)?,
         Stmt::Set(key, value) => {
             put_number(alloc, out, b"set ", *key)?;
-            put(out, b" ")?;
-            put_expr(alloc, out, value)?;
-            put(out, b";")
+            put_word(alloc, out, b" ", value)?;
         }
-        Stmt::Clear(key) => {
-            put_number(alloc, out, b"clear ", *key)?;
-            put(out, b";")
-        }
-        Stmt::If(_, _, _) => put(out, b"if"),
+        Stmt::Clear(key) => put_number(alloc, out, b"clear ", *key)?,
+        Stmt::If(_, _, _) => return put(out, b"if"),
         Stmt::Abort(text) => {
             put(out, b"abort ")?;
             put_text(alloc, out, text)?;
-            put(out, b";")
         }
-        Stmt::Give(gives) => put_gives(alloc, out, gives.as_slice()),
+        Stmt::Give(gives) => put_gives(alloc, out, gives.as_slice())?,
     }
+    put(out, b";")
 }
 
 fn put_gives(alloc: Global, out: &mut Vec<u8>, gives: &[Give]) -> Result<(), NoMemory> {
     put(out, b"give ")?;
     for (i, give) in gives.iter().enumerate() {
-        if i > 0 {
-            put(out, b", ")?;
-        }
+        separate(out, i, b", ")?;
         match give {
             Give::Row(key) => put_number(alloc, out, b"row", *key)?,
             Give::Value(value) => put_expr(alloc, out, value)?,
         }
     }
-    put(out, b";")
+    Ok(())
 }
 
 fn put_expr(alloc: Global, out: &mut Vec<u8>, expr: &Expr) -> Result<(), NoMemory> {
@@ -212,6 +204,14 @@ fn op_word(op: Op) -> &'static [u8] {
 fn put_number(alloc: Global, out: &mut Vec<u8>, front: &[u8], number: u32) -> Result<(), NoMemory> {
     put(out, front)?;
     put_u64(alloc, out, number as u64)
+}
+
+/// What stands in front of a member of a list that is not the first.
+fn separate(out: &mut Vec<u8>, place: usize, bytes: &[u8]) -> Result<(), NoMemory> {
+    if place > 0 {
+        put(out, bytes)?;
+    }
+    Ok(())
 }
 
 fn put(out: &mut Vec<u8>, bytes: &[u8]) -> Result<(), NoMemory> {

@@ -1,10 +1,11 @@
 //! Texts of procedures: what they mean, or the first fault in them.
-ghost use Rattle.std.specs.Prelude.{◌<◌, ◌^◌, length};
-
+use crate::calls::repeated;
 use crate::printed::{put_body, put_fault, put_procs};
-use dt_proc::{ProcError, builtin_procs, read_procs};
+use crate::wrong;
+use dt_proc::{Proc, ProcError, Procs, builtin_procs, read_procs};
 use dt_text::NoMemory;
 use std::alloc::Global;
+use std::mem::forget;
 use std::test::Fail;
 
 /// A text on each odd line, and on the next line the procedures or the fault.
@@ -325,7 +326,7 @@ Syntax 64
 Syntax 66";
 
 /// What is before a piece, the piece, how often it stands there, what is after it, and the fault.
-const REPEATED: [(&[u8], &[u8], u32, &[u8], Option<ProcError>); 30] = [
+const REPEATED: &[(&[u8], &[u8], u32, &[u8], Option<ProcError>)] = &[
     (
         b"proc f()read a=\"\";{let x=",
         b"(",
@@ -528,87 +529,135 @@ proc xfer(from: text, to: text, n: int) write a = from; write b = to; {
 }
 ";
 
-/// What a text means, printed from a copy, or the fault.
-fn printed(alloc: Global, text: &[u8]) -> Result<Vec<u8>, NoMemory>
-    requires { length text.now < 2 ^ 32 }
-{
-    let mut out = Vec::new(alloc);
-    match read_procs(alloc, text) {
-        Ok(procs) => put_procs(alloc, &mut out, &procs.copy(alloc)?)?,
-        Err(fault) => put_fault(alloc, &mut out, fault)?,
-    }
-    Ok(out)
+/// What is printed of a text.
+#[derive(Clone, Copy)]
+enum What {
+    /// Its procedures.
+    Procs,
+    /// The body of its first procedure.
+    Body,
 }
 
-/// The body of a copy of the first procedure of a text, printed, or the fault.
-fn printed_body(alloc: Global, text: &[u8]) -> Result<Vec<u8>, NoMemory>
-    requires { length text.now < 2 ^ 32 }
-{
+/// Procedures, printed from a copy. Procedures are left to the end of the process: that they may be dropped would be proved in each
+/// function that owns some.
+fn put_copy(alloc: Global, out: &mut Vec<u8>, procs: &Procs) -> Result<(), NoMemory> {
+    let copy = procs.copy(alloc)?;
+    let put = put_procs(alloc, out, &copy);
+    forget(copy);
+    put
+}
+
+/// A body, printed from a copy of its procedure.
+fn put_body_of_copy(alloc: Global, out: &mut Vec<u8>, proc: &Proc) -> Result<(), NoMemory> {
+    let copy = proc.copy(alloc)?;
+    let put = put_body(alloc, out, copy.body());
+    forget(copy);
+    put
+}
+
+/// What is to be printed of procedures.
+fn put_what(alloc: Global, out: &mut Vec<u8>, what: What, procs: &Procs) -> Result<(), NoMemory> {
+    match (what, procs.get(0)) {
+        (What::Procs, _) => put_copy(alloc, out, procs),
+        (What::Body, Some(proc)) => put_body_of_copy(alloc, out, proc),
+        (What::Body, None) => Ok(()),
+    }
+}
+
+/// What is to be printed of a text, or the fault.
+fn printed(alloc: Global, what: What, text: &[u8]) -> Result<Vec<u8>, Fail> {
+    if text.len() > 2000 {
+        return Err(Fail::from("a test reads few bytes"));
+    }
     let mut out = Vec::new(alloc);
     match read_procs(alloc, text) {
         Ok(procs) => {
-            if let Some(proc) = procs.get(0) {
-                put_body(alloc, &mut out, proc.copy(alloc)?.body())?;
-            }
+            let put = put_what(alloc, &mut out, what, &procs);
+            forget(procs);
+            put?;
         }
         Err(fault) => put_fault(alloc, &mut out, fault)?,
     }
     Ok(out)
 }
 
-#[test]
-fn texts_have_their_outcomes(rt: HostRuntime) -> Result<(), Fail> {
+/// What a text means; of a body, where it stands behind the front of a procedure.
+fn told(alloc: Global, what: What, text: &[u8]) -> Result<Vec<u8>, Fail> {
+    match what {
+        What::Procs => printed(alloc, what, text),
+        What::Body => printed(
+            alloc,
+            what,
+            repeated(alloc, FRONT, text, 1, b" }")?.as_slice(),
+        ),
+    }
+}
+
+/// Fails at the first line that is not what the text on the line before it means.
+fn check(alloc: Global, what: What, lines: &[u8]) -> Result<(), Fail> {
     let mut text = b"".as_slice();
-    for (i, line) in TEXTS.split(|byte| *byte == b'\n').enumerate() {
-        if i % 2 == 0 {
+    for (row, line) in lines.split(|byte| *byte == b'\n').enumerate() {
+        if row % 2 == 0 {
             text = line;
-            continue;
+        } else if told(alloc, what, text)?.as_slice() != line {
+            return Err(wrong(row));
         }
-        assert!(rt; text.len() < 1000);
-        let out = printed(rt.alloc(), text)?;
-        assert_eq!(rt; out.as_slice(), line, "line {i}");
     }
     Ok(())
 }
 
 #[test]
+fn texts_have_their_outcomes(rt: HostRuntime) -> Result<(), Fail> {
+    check(rt.alloc(), What::Procs, TEXTS)
+}
+
+#[test]
 fn bodies_have_their_outcomes(rt: HostRuntime) -> Result<(), Fail> {
-    let mut body = b"".as_slice();
-    for (i, line) in BODIES.split(|byte| *byte == b'\n').enumerate() {
-        if i % 2 == 0 {
-            body = line;
-            continue;
+    check(rt.alloc(), What::Body, BODIES)
+}
+
+/// The fault of a text, if it has one.
+fn fault_of(alloc: Global, text: &[u8]) -> Result<Option<ProcError>, Fail> {
+    if text.len() > 2000 {
+        return Err(Fail::from("a test reads few bytes"));
+    }
+    match read_procs(alloc, text) {
+        Ok(procs) => {
+            forget(procs);
+            Ok(None)
         }
-        let mut text = Vec::from_slice(rt.alloc(), FRONT)?;
-        text.extend_from_slice(body)?;
-        text.extend_from_slice(b" }")?;
-        assert!(rt; text.len() < 1000);
-        let out = printed_body(rt.alloc(), text.as_slice())?;
-        assert_eq!(rt; out.as_slice(), line, "line {i}");
+        Err(fault) => Ok(Some(fault)),
+    }
+}
+
+/// Fails at the first text with another fault.
+fn check_repeated(alloc: Global) -> Result<(), Fail> {
+    for (row, (front, piece, times, back, want)) in REPEATED.iter().enumerate() {
+        let text = repeated(alloc, front, piece, *times, back)?;
+        if fault_of(alloc, text.as_slice())? != *want {
+            return Err(wrong(row));
+        }
     }
     Ok(())
 }
 
 #[test]
 fn what_is_one_too_many_is_told(rt: HostRuntime) -> Result<(), Fail> {
-    for (i, (front, piece, times, back, want)) in REPEATED.iter().enumerate() {
-        let mut text = Vec::from_slice(rt.alloc(), front)?;
-        for _ in 0..*times {
-            text.extend_from_slice(piece)?;
-        }
-        text.extend_from_slice(back)?;
-        assert!(rt; text.len() < 2000);
-        let read = read_procs(rt.alloc(), text.as_slice());
-        assert_eq!(rt; read.err(), *want, "pieces {i}");
-    }
-    Ok(())
+    check_repeated(rt.alloc())
+}
+
+/// The built-in procedures, printed.
+fn built_in(alloc: Global) -> Result<Vec<u8>, Fail> {
+    let procs = builtin_procs(alloc)?;
+    let mut out = Vec::new(alloc);
+    let put = put_procs(alloc, &mut out, &procs);
+    forget(procs);
+    put?;
+    Ok(out)
 }
 
 #[test]
 fn the_built_in_text_means_the_built_in_procedures(rt: HostRuntime) -> Result<(), Fail> {
-    let mut out = Vec::new(rt.alloc());
-    put_procs(rt.alloc(), &mut out, &builtin_procs(rt.alloc())?)?;
-    assert!(rt; BUILTIN.len() < 2000);
-    assert_eq!(rt; printed(rt.alloc(), BUILTIN)?, out);
+    assert!(rt; printed(rt.alloc(), What::Procs, BUILTIN)? == built_in(rt.alloc())?);
     Ok(())
 }

@@ -2,6 +2,7 @@
 ghost use Rattle.std.specs.Prelude.{◌≡◌, false};
 
 use crate::cases::{Want, holds_in};
+use crate::wrong;
 use dt_graph::QueueSched;
 use dt_lock::NoGate;
 use dt_run::Nodes;
@@ -60,22 +61,21 @@ fn few_phases<R: Threads + Wait + Sync>(
     holds_in(rt, alloc, cluster.as_bytes(), TWO, Want::FewPhases(MOST, 3))
 }
 
-/// Whether they are, whatever is lost.
-fn always_few_phases<R: Threads + Wait + Sync>(rt: &R, alloc: Global) -> Result<bool, Fail> {
+/// Fails at the first plan with which they are not.
+fn check_plans<R: Threads + Wait + Sync>(rt: &R, alloc: Global) -> Result<(), Fail> {
     for drop in &DROPS {
         for repeat in &REPEATS {
             if !few_phases(rt, alloc, *drop, *repeat)? {
-                return Ok(false);
+                return Err(Fail::new(format_args!("drop {drop}, repeat {repeat}")));
             }
         }
     }
-    Ok(true)
+    Ok(())
 }
 
 #[test]
 fn two_transfers_are_done_after_few_phases_whatever_is_lost(rt: HostRuntime) -> Result<(), Fail> {
-    assert!(rt; always_few_phases(&rt, rt.alloc())?);
-    Ok(())
+    check_plans(&rt, rt.alloc())
 }
 
 /// A session at region 0 that makes n calls.
@@ -100,9 +100,9 @@ const BACKLOGS: &[(&[u8], u32, u64, u64)] = &[
     (b"regions = 2\ndrop = 2\n", 300, 6, 3),
 ];
 
-/// Whether each backlog takes the phases that it says.
-fn all_take_their_phases<R: Threads + Wait + Sync>(rt: &R, alloc: Global) -> Result<bool, Fail> {
-    for (cluster, calls, made, quiet) in BACKLOGS {
+/// Fails at the first backlog that takes other phases.
+fn check_backlogs<R: Threads + Wait + Sync>(rt: &R, alloc: Global) -> Result<(), Fail> {
+    for (row, (cluster, calls, made, quiet)) in BACKLOGS.iter().enumerate() {
         let workload = backlog(alloc, *calls)?;
         if !holds_in(
             rt,
@@ -111,16 +111,15 @@ fn all_take_their_phases<R: Threads + Wait + Sync>(rt: &R, alloc: Global) -> Res
             workload.as_slice(),
             Want::Phases(*made, *quiet),
         )? {
-            return Ok(false);
+            return Err(wrong(row));
         }
     }
-    Ok(true)
+    Ok(())
 }
 
 #[test]
 fn a_log_longer_than_a_packet_waits_through_three_silent_phases(
     rt: HostRuntime,
 ) -> Result<(), Fail> {
-    assert!(rt; all_take_their_phases(&rt, rt.alloc())?);
-    Ok(())
+    check_backlogs(&rt, rt.alloc())
 }

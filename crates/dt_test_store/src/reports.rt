@@ -1,5 +1,6 @@
 //! Reports: the words of each outcome, and reports of hundreds of lines.
 use crate::rows::key_of;
+use crate::wrong;
 use dt_access::TxnId;
 use dt_eval::{Cause, Values};
 use dt_report::{EventList, Ran, Rans, Replies, Reply, Report, Tables, print};
@@ -178,14 +179,19 @@ const WORDS: &[(What, &str)] = &[
     (What::Stale, "stale b had 0 by 1.5"),
 ];
 
-/// Whether each outcome has its words in a report.
-fn all_worded(alloc: Global) -> Result<bool, Fail> {
-    for (what, words) in WORDS {
+/// Fails at the first outcome that has other words in a report.
+fn check_words(alloc: Global) -> Result<(), Fail> {
+    for (row, (what, words)) in WORDS.iter().enumerate() {
         if told(alloc, *what, 1)?.as_slice() != wanted(alloc, words)?.as_bytes() {
-            return Ok(false);
+            return Err(wrong(row));
         }
     }
-    Ok(true)
+    Ok(())
+}
+
+#[test]
+fn each_outcome_has_its_words_in_a_report(rt: HostRuntime) -> Result<(), Fail> {
+    check_words(rt.alloc())
 }
 
 /// Numbers of rows, and the bytes of the report: 37 of headings; an answer, an attempt and a row have 15, 15 and 24.
@@ -197,19 +203,17 @@ const LENGTHS: &[(u32, usize)] = &[
     (600, 32437),
 ];
 
-/// Whether each report is as long as it says.
-fn all_long(alloc: Global) -> Result<bool, Fail> {
-    for (count, want) in LENGTHS {
+/// Fails at the first report that is shorter or longer.
+fn check_lengths(alloc: Global) -> Result<(), Fail> {
+    for (row, (count, want)) in LENGTHS.iter().enumerate() {
         if told(alloc, What::GaveNothing, *count)?.len() != *want {
-            return Ok(false);
+            return Err(wrong(row));
         }
     }
-    Ok(true)
+    Ok(())
 }
 
 #[test]
-fn each_outcome_has_its_words_and_a_report_hundreds_of_lines(rt: HostRuntime) -> Result<(), Fail> {
-    assert!(rt; all_worded(rt.alloc())?);
-    assert!(rt; all_long(rt.alloc())?);
-    Ok(())
+fn a_report_has_hundreds_of_lines(rt: HostRuntime) -> Result<(), Fail> {
+    check_lengths(rt.alloc())
 }

@@ -1,5 +1,6 @@
 //! Rows: their values, homes and moves after changes, and which of them are shown.
 
+use crate::wrong;
 use dt_access::{TxnId, Writes, is_unit};
 use dt_table::{Effect, Shown, Table, UnitName};
 use dt_text::{Key, NoMemory, Value, put_u64, put_value};
@@ -270,20 +271,19 @@ const ROWS: &[(u8, Changes<'static>, &[u8], &[u8])] = &[
     ),
 ];
 
-/// Whether each row has what the changes gave it.
-fn all_told(alloc: Global) -> Result<bool, Fail> {
-    for (version, changes, key, want) in ROWS {
+/// Fails at the first row that has something else than the changes gave it.
+fn check(alloc: Global) -> Result<(), Fail> {
+    for (row, (version, changes, key, want)) in ROWS.iter().enumerate() {
         if told(alloc, *version, changes, key)?.as_slice() != *want {
-            return Ok(false);
+            return Err(wrong(row));
         }
     }
-    Ok(true)
+    Ok(())
 }
 
 #[test]
 fn rows_have_what_changes_and_moves_of_their_units_gave_them(rt: HostRuntime) -> Result<(), Fail> {
-    assert!(rt; all_told(rt.alloc())?);
-    Ok(())
+    check(rt.alloc())
 }
 
 /// Moves a key n times, each with a write of another key, and tells what it has then, and what the table shows.
@@ -307,18 +307,17 @@ fn length_of_many(alloc: Global, count: u32) -> Result<usize, Fail> {
 /// Numbers of moves, and how much is reported.
 const LENGTHS: &[(u32, usize)] = &[(1, 43), (255, 3493), (256, 3507), (257, 3521), (600, 8323)];
 
-/// Whether as much is reported of each number of moves as it says.
-fn all_long(alloc: Global) -> Result<bool, Fail> {
-    for (count, want) in LENGTHS {
+/// Fails at the first number of moves of which less or more is reported.
+fn check_lengths(alloc: Global) -> Result<(), Fail> {
+    for (row, (count, want)) in LENGTHS.iter().enumerate() {
         if length_of_many(alloc, *count)? != *want {
-            return Ok(false);
+            return Err(wrong(row));
         }
     }
-    Ok(true)
+    Ok(())
 }
 
 #[test]
 fn a_table_has_hundreds_of_rows_and_moves(rt: HostRuntime) -> Result<(), Fail> {
-    assert!(rt; all_long(rt.alloc())?);
-    Ok(())
+    check_lengths(rt.alloc())
 }

@@ -1,6 +1,7 @@
 //! What is reported of runs of generated loads, by reports that were made by hand.
 use crate::reports::{empty_report, text_of};
 use crate::rows::key_of;
+use crate::wrong;
 use dt_events::read_events;
 use dt_report::{EventList, Report, Tables};
 use dt_sum::summary;
@@ -99,18 +100,17 @@ const RUNS: &[Run] = &[
     ),
 ];
 
-/// Whether of each run is reported what it says.
-fn all_told(alloc: Global) -> Result<bool, Fail> {
-    for run in RUNS {
+/// Fails at the first run of which something else is reported.
+fn check(alloc: Global) -> Result<(), Fail> {
+    for (row, run) in RUNS.iter().enumerate() {
         if !is_told(alloc, run)? {
-            return Ok(false);
+            return Err(wrong(row));
         }
     }
-    Ok(true)
+    Ok(())
 }
 
 #[test]
 fn a_run_is_told_in_three_lines(rt: HostRuntime) -> Result<(), Fail> {
-    assert!(rt; all_told(rt.alloc())?);
-    Ok(())
+    check(rt.alloc())
 }

@@ -5,6 +5,7 @@ ghost use Rattle.std.specs.Prelude.{IfOk};
 ghost use Rattle.dt_txn.specs.Transaction.{CanRun, HasItsUses};
 
 use crate::rows::{key_of, move_to, opened, put_all, put_number, put_option};
+use crate::wrong;
 use dt_access::{Mode, Part, TxnId, put_id};
 use dt_proc::{Procs, builtin_procs};
 use dt_table::{Effect, Table};
@@ -354,26 +355,25 @@ const ROWS: &[Row] = &[
     ),
 ];
 
-/// Whether each row is answered as it says.
-fn all_answered(alloc: Global, procs: &Procs) -> Result<bool, Fail> {
-    for row in ROWS {
-        if !is_answered(alloc, procs, row)? {
-            return Ok(false);
+/// Fails at the first row that is answered in another way.
+fn check(alloc: Global, procs: &Procs) -> Result<(), Fail> {
+    for (row, asked) in ROWS.iter().enumerate() {
+        if !is_answered(alloc, procs, asked)? {
+            return Err(wrong(row));
         }
     }
-    Ok(true)
+    Ok(())
 }
 
 /// The same with the built-in procedures, which are left to the end of the process, too.
-fn all_answered_by_builtin(alloc: Global) -> Result<bool, Fail> {
+fn check_by_builtin(alloc: Global) -> Result<(), Fail> {
     let procs = builtin_procs(alloc)?;
-    let all = all_answered(alloc, &procs);
+    let checked = check(alloc, &procs);
     forget(procs);
-    all
+    checked
 }
 
 #[test]
 fn a_move_has_parts_at_its_homes_and_is_stale_after_another(rt: HostRuntime) -> Result<(), Fail> {
-    assert!(rt; all_answered_by_builtin(rt.alloc())?);
-    Ok(())
+    check_by_builtin(rt.alloc())
 }

@@ -1,4 +1,5 @@
 //! Events: what a file of them is read as, and what is printed of it.
+use crate::wrong;
 use dt_events::{Event, EventsError, Stamped, put_event, read_events};
 use std::alloc::Global;
 use std::mem::size_of;
@@ -7,19 +8,22 @@ use std::test::Fail;
 /// More bytes than a test reads.
 const MANY: usize = 100000;
 
+/// Events, each copied and printed.
+fn printed(alloc: Global, events: &[(u32, Event)]) -> Result<Vec<u8>, Fail> {
+    let mut out = Vec::new(alloc);
+    for (_line, event) in events {
+        put_event(alloc, &mut out, &event.copy(alloc)?)?;
+    }
+    Ok(out)
+}
+
 /// The events of a file, each copied and printed, or the first line that is not an event.
 fn told(alloc: Global, file: &[u8]) -> Result<Vec<u8>, Fail> {
     if file.len() > MANY {
         return Err(Fail::from("a test reads few bytes"));
     }
     match read_events(alloc, file) {
-        Ok(events) => {
-            let mut out = Vec::new(alloc);
-            for (_line, event) in events.as_slice() {
-                put_event(alloc, &mut out, &event.copy(alloc)?)?;
-            }
-            Ok(out)
-        }
+        Ok(events) => printed(alloc, events.as_slice()),
         Err(EventsError::Form(line)) => {
             Ok(
                 format!(in alloc; "no event in line {line}")?
@@ -32,7 +36,7 @@ fn told(alloc: Global, file: &[u8]) -> Result<Vec<u8>, Fail> {
 }
 
 /// Files, each with its events as they are printed, or the first line that is not an event.
-const FILES: [(&[u8], &[u8]); 30] = [
+const FILES: &[(&[u8], &[u8])] = &[
     (b"", b""),
     (b"submit 0 a", b"submit 0 a\n"),
     (b"append 255 0 4294967295", b"append 255 0 4294967295\n"),
@@ -68,37 +72,62 @@ const FILES: [(&[u8], &[u8]); 30] = [
     (b"submit 0 a\nsubmit 0", b"no event in line 2"),
 ];
 
+/// Fails at the first file of which something else is told.
+fn check_files(alloc: Global) -> Result<(), Fail> {
+    for (row, (file, want)) in FILES.iter().enumerate() {
+        if told(alloc, file)?.as_slice() != *want {
+            return Err(wrong(row));
+        }
+    }
+    Ok(())
+}
+
 #[test]
 fn each_line_is_an_event_in_one_spelling_or_none(rt: HostRuntime) -> Result<(), Fail> {
-    for (file, want) in FILES {
-        assert_eq!(rt; told(rt.alloc(), file)?.as_slice(), want);
+    check_files(rt.alloc())
+}
+
+/// The front of a file, a piece, how often it stands behind it, and the back.
+const LONG: &[(&[u8], &[u8], u32, &[u8])] = &[
+    (b"", b"deliver 1 0 0 2\n", 700, b""),
+    (b"", b"answer 0 a\n", 5000, b""),
+    (b"resolve 0", b" 1.0", 700, b"\n"),
+];
+
+/// Whether the events of such a file are printed as they stand there.
+fn is_told(
+    alloc: Global,
+    front: &[u8],
+    piece: &[u8],
+    times: u32,
+    back: &[u8],
+) -> Result<bool, Fail> {
+    let mut file = front.to_vec(alloc)?;
+    for _ in 0..times {
+        file.extend_from_slice(piece)?;
+    }
+    file.extend_from_slice(back)?;
+    Ok(told(alloc, file.as_slice())? == file)
+}
+
+/// Fails at the first long file of which something else is told.
+fn check_long(alloc: Global) -> Result<(), Fail> {
+    for (row, (front, piece, times, back)) in LONG.iter().enumerate() {
+        if !is_told(alloc, front, piece, *times, back)? {
+            return Err(wrong(row));
+        }
     }
     Ok(())
 }
 
 #[test]
 fn there_are_as_many_events_and_ids_as_are_listed(rt: HostRuntime) -> Result<(), Fail> {
-    let files: [(&[u8], &[u8], u32); 3] = [
-        (b"", b"deliver 1 0 0 2\n", 700),
-        (b"", b"answer 0 a\n", 5000),
-        (b"resolve 0", b" 1.0", 700),
-    ];
-    for (front, piece, times) in files {
-        let mut file = front.to_vec(rt.alloc())?;
-        for _ in 0..times {
-            file.extend_from_slice(piece)?;
-        }
-        if !file.ends_with(b"\n") {
-            file.push(b'\n')?;
-        }
-        assert_eq!(rt; told(rt.alloc(), file.as_slice())?, file);
-    }
-    Ok(())
+    check_long(rt.alloc())
 }
 
 /// Each region keeps all events that it made.
 #[test]
 fn an_event_takes_two_words_and_its_stamp_one(rt: HostRuntime) -> Result<(), Fail> {
-    assert_eq!(rt; [size_of::<Event>(), size_of::<Stamped>()], [16, 24]);
+    assert!(rt; size_of::<Event>() == 16 && size_of::<Stamped>() == 24);
     Ok(())
 }

@@ -3,6 +3,7 @@ ghost use Rattle.std.specs.Prelude.{◌<◌, ◌^◌, IsTrue, length};
 ghost use Rattle.dt_lists.specs.Lists.{AllIn};
 ghost use Rattle.dt_access.specs.Orders.{KeyBefore};
 
+use crate::wrong;
 use dt_access::{
     Access, Homes, Ids, Keys, Mode, Part, TryCopy, TxnId, Writes, clash, granule, is_granule,
     put_id, read_id,
@@ -13,7 +14,7 @@ use std::cmp::Ordering;
 use std::test::Fail;
 
 /// A short key.
-fn key_of(alloc: Global, bytes: &[u8]) -> Result<Key, Fail> {
+pub(crate) fn key_of(alloc: Global, bytes: &[u8]) -> Result<Key, Fail> {
     if bytes.len() > 200 {
         return Err(Fail::from("a test reads few bytes"));
     }
@@ -69,7 +70,7 @@ fn clashes(alloc: Global, left: &[Use], right: &[Use]) -> Result<(bool, bool), F
 }
 
 /// Uses of two parts, and whether these clash.
-const CLASHES: [(&[Use<'static>], &[Use<'static>], bool); 22] = [
+const CLASHES: &[(&[Use<'static>], &[Use<'static>], bool)] = &[
     // On one key, unless both read it.
     (&[(b"b", Mode::Read)], &[(b"b", Mode::Read)], false),
     (&[(b"b", Mode::Read)], &[(b"b", Mode::Write)], true),
@@ -135,12 +136,20 @@ const CLASHES: [(&[Use<'static>], &[Use<'static>], bool); 22] = [
     (&[(b"//", Mode::Whole)], &[(b"/", Mode::Read)], true),
 ];
 
-#[test]
-fn parts_clash_on_a_row_or_on_a_granule(rt: HostRuntime) -> Result<(), Fail> {
-    for (left, right, want) in CLASHES {
-        assert_eq!(rt; clashes(rt.alloc(), left, right)?, (want, want));
+/// Fails at the first two parts that clash and should not, or should and do not, in one order or in the other.
+fn check_clashes(alloc: Global) -> Result<(), Fail> {
+    for (row, (left, right, want)) in CLASHES.iter().enumerate() {
+        let (one, other) = clashes(alloc, left, right)?;
+        if one != *want || other != *want {
+            return Err(wrong(row));
+        }
     }
     Ok(())
+}
+
+#[test]
+fn parts_clash_on_a_row_or_on_a_granule(rt: HostRuntime) -> Result<(), Fail> {
+    check_clashes(rt.alloc())
 }
 
 /// The granule of a key, and a `!` where the key is its own.
@@ -154,7 +163,7 @@ fn granule_told(alloc: Global, key: &[u8]) -> Result<Vec<u8>, Fail> {
 }
 
 /// Keys, each with its granule, and a `!` behind it where it is its own one.
-const GRANULES: [(&[u8], &[u8]); 10] = [
+const GRANULES: &[(&[u8], &[u8])] = &[
     (b"b", b"b!"),
     (b"b/1", b"b"),
     (b"b/1/x", b"b"),
@@ -167,21 +176,29 @@ const GRANULES: [(&[u8], &[u8]); 10] = [
     (b"//x", b"/"),
 ];
 
-#[test]
-fn a_granule_ends_before_the_first_slash_with_a_byte_before_it(
-    rt: HostRuntime,
-) -> Result<(), Fail> {
-    for (key, want) in GRANULES {
-        assert_eq!(rt; granule_told(rt.alloc(), key)?.as_slice(), want);
+/// Fails at the first key that has another granule.
+fn check_granules(alloc: Global) -> Result<(), Fail> {
+    for (row, (key, want)) in GRANULES.iter().enumerate() {
+        if granule_told(alloc, key)?.as_slice() != *want {
+            return Err(wrong(row));
+        }
     }
     Ok(())
 }
 
+#[test]
+fn a_granule_ends_before_the_first_slash_with_a_byte_before_it(
+    rt: HostRuntime,
+) -> Result<(), Fail> {
+    check_granules(rt.alloc())
+}
+
 /// The id that a word spells, printed.
-fn id_of(alloc: Global, word: &[u8]) -> Result<Vec<u8>, Fail>
-    requires { length word.now < 2 ^ 32 }
-{
+fn id_of(alloc: Global, word: &[u8]) -> Result<Vec<u8>, Fail> {
     let mut out = Vec::new(alloc);
+    if word.len() > 20 {
+        return Err(Fail::from("a test reads few bytes"));
+    }
     if let Some(id) = read_id(word) {
         put_id(alloc, &mut out, id)?;
     }
@@ -189,7 +206,7 @@ fn id_of(alloc: Global, word: &[u8]) -> Result<Vec<u8>, Fail>
 }
 
 /// Words, each with the id that it spells, printed, or nothing.
-const IDS: [(&[u8], &[u8]); 15] = [
+const IDS: &[(&[u8], &[u8])] = &[
     (b"1.0", b"1.0"),
     (b"20.7", b"20.7"),
     (b"4294967295.255", b"4294967295.255"),
@@ -207,19 +224,25 @@ const IDS: [(&[u8], &[u8]); 15] = [
     (b"+1.0", b""),
 ];
 
-#[test]
-fn an_id_has_one_spelling(rt: HostRuntime) -> Result<(), Fail> {
-    for (word, want) in IDS {
-        assert!(rt; word.len() < 20);
-        assert_eq!(rt; id_of(rt.alloc(), word)?.as_slice(), want);
+/// Fails at the first word that spells another id.
+fn check_ids(alloc: Global) -> Result<(), Fail> {
+    for (row, (word, want)) in IDS.iter().enumerate() {
+        if id_of(alloc, word)?.as_slice() != *want {
+            return Err(wrong(row));
+        }
     }
     Ok(())
+}
+
+#[test]
+fn an_id_has_one_spelling(rt: HostRuntime) -> Result<(), Fail> {
+    check_ids(rt.alloc())
 }
 
 /// Whether an access, and a write of its key, are copied.
 fn access_is_copied(alloc: Global) -> Result<bool, Fail> {
     let access = Access {
-        key: Key::read(alloc, b"b")?,
+        key: key_of(alloc, b"b")?,
         mode: Mode::Write,
         home: 1,
         counter: 2,

@@ -1,9 +1,11 @@
 //! What bytes are read as: keys, names, texts, numbers, lines and words.
 ghost use Rattle.std.specs.Prelude.{◌<◌, ◌^◌, length};
 
+use crate::parts::key_of;
+use crate::wrong;
 use dt_text::{
-    Key, Lines, Listed, Name, Str, Value, Word, put_i64, put_text, put_u64, put_value, read_i64,
-    read_u32, words,
+    Key, KeyError, Lines, Listed, Name, Str, Value, Word, put_i64, put_text, put_u64, put_value,
+    read_i64, read_u32, words,
 };
 use std::alloc::Global;
 use std::test::Fail;
@@ -39,13 +41,18 @@ fn told(alloc: Global, what: What, bytes: &[u8]) -> Result<Vec<u8>, Fail> {
     }
 }
 
+/// Why bytes are no key or no name.
+fn cause(alloc: Global, error: KeyError) -> Result<Vec<u8>, Fail> {
+    Ok(format!(in alloc; "{error}")?.as_bytes().to_vec(alloc)?)
+}
+
 /// The bytes of a copy of the key that is read.
 fn key(alloc: Global, bytes: &[u8]) -> Result<Vec<u8>, Fail>
     requires { length bytes.now < 2 ^ 32 }
 {
     match Key::read(alloc, bytes) {
         Ok(key) => Ok(key.copy(alloc)?.bytes().to_vec(alloc)?),
-        Err(error) => Ok(format!(in alloc; "{error}")?.as_bytes().to_vec(alloc)?),
+        Err(error) => cause(alloc, error),
     }
 }
 
@@ -55,22 +62,25 @@ fn name(alloc: Global, bytes: &[u8]) -> Result<Vec<u8>, Fail>
 {
     match Name::read(alloc, bytes) {
         Ok(name) => Ok(name.copy(alloc)?.bytes().to_vec(alloc)?),
-        Err(error) => Ok(format!(in alloc; "{error}")?.as_bytes().to_vec(alloc)?),
+        Err(error) => cause(alloc, error),
     }
 }
 
-/// The text that is read, printed from a copy of a value of it.
+/// A text, printed from a copy of it, and from a copy of a value of it.
+fn text_told(alloc: Global, text: Str) -> Result<Vec<u8>, Fail> {
+    let mut out = Vec::new(alloc);
+    put_text(alloc, &mut out, &text.copy(alloc)?)?;
+    let value = Value::Text(text).copy(alloc)?;
+    put_value(alloc, &mut out, &value)?;
+    Ok(out)
+}
+
+/// The text that is read, printed.
 fn text(alloc: Global, bytes: &[u8]) -> Result<Vec<u8>, Fail>
     requires { length bytes.now < 2 ^ 32 }
 {
     match Str::read(alloc, bytes) {
-        Ok(text) => {
-            let mut out = Vec::new(alloc);
-            put_text(alloc, &mut out, &text.copy(alloc)?)?;
-            let value = Value::Text(text).copy(alloc)?;
-            put_value(alloc, &mut out, &value)?;
-            Ok(out)
-        }
+        Ok(text) => text_told(alloc, text),
         Err(error) => Ok(format!(in alloc; "{error}")?.as_bytes().to_vec(alloc)?),
     }
 }
@@ -138,8 +148,21 @@ fn words_of(alloc: Global, line: &[u8]) -> Result<Vec<u8>, Fail>
     Ok(out)
 }
 
+/// Bytes, what they are read as, and what is told of them.
+type Row = (What, &'static [u8], &'static [u8]);
+
+/// Fails at the first row of which something else is told.
+fn check(alloc: Global, rows: &[Row]) -> Result<(), Fail> {
+    for (row, (what, bytes, want)) in rows.iter().enumerate() {
+        if told(alloc, *what, bytes)?.as_slice() != *want {
+            return Err(wrong(row));
+        }
+    }
+    Ok(())
+}
+
 /// Bytes, and the key, name or text that they are, or the first cause against it.
-const READ: [(What, &[u8], &[u8]); 23] = [
+const READ: &[Row] = &[
     (What::Key, b"", b"no bytes"),
     (What::Key, b"stock/7", b"stock/7"),
     (What::Key, b"a-z_0.9/", b"a-z_0.9/"),
@@ -169,18 +192,11 @@ const READ: [(What, &[u8], &[u8]); 23] = [
 fn keys_names_and_texts_are_read_or_refused_by_the_first_cause(
     rt: HostRuntime,
 ) -> Result<(), Fail> {
-    for (row, (what, bytes, want)) in READ.iter().enumerate() {
-        assert_eq!(rt;
-            told(rt.alloc(), *what, bytes)?.as_slice(),
-            *want,
-            "row {row}"
-        );
-    }
-    Ok(())
+    check(rt.alloc(), READ)
 }
 
 /// Words, and the numbers that they spell, printed.
-const NUMBERS: [(What, &[u8], &[u8]); 23] = [
+const NUMBERS: &[Row] = &[
     (What::Unsigned, b"", b""),
     (What::Unsigned, b"0", b"0"),
     (What::Unsigned, b"00", b""),
@@ -216,18 +232,11 @@ const NUMBERS: [(What, &[u8], &[u8]); 23] = [
 
 #[test]
 fn numbers_have_one_spelling(rt: HostRuntime) -> Result<(), Fail> {
-    for (row, (what, bytes, want)) in NUMBERS.iter().enumerate() {
-        assert_eq!(rt;
-            told(rt.alloc(), *what, bytes)?.as_slice(),
-            *want,
-            "row {row}"
-        );
-    }
-    Ok(())
+    check(rt.alloc(), NUMBERS)
 }
 
 /// Bytes, and the lines of such a file, or the words of such a line.
-const CUT: [(What, &[u8], &[u8]); 27] = [
+const CUT: &[Row] = &[
     (What::Lines, b"", b""),
     (What::Lines, b"\n", b""),
     (What::Lines, b"a", b"1:a;"),
@@ -259,14 +268,7 @@ const CUT: [(What, &[u8], &[u8]); 27] = [
 
 #[test]
 fn a_file_is_made_of_lines_and_a_line_of_words(rt: HostRuntime) -> Result<(), Fail> {
-    for (row, (what, bytes, want)) in CUT.iter().enumerate() {
-        assert_eq!(rt;
-            told(rt.alloc(), *what, bytes)?.as_slice(),
-            *want,
-            "row {row}"
-        );
-    }
-    Ok(())
+    check(rt.alloc(), CUT)
 }
 
 /// How many bytes are shown of a piece that stands `times` times between others.
@@ -287,7 +289,7 @@ fn told_of_many(
 }
 
 /// A piece that stands n times between others, and how many bytes are shown of it.
-const LONG: [(What, &[u8], &[u8], u32, &[u8], usize); 7] = [
+const LONG: &[(What, &[u8], &[u8], u32, &[u8], usize)] = &[
     // A text has 256 bytes, however many its word has.
     (What::Text, b"", b"\"", 256, b"", 1028),
     (What::Words, b"\"", b"\\\"", 255, b"\"", 513),
@@ -299,43 +301,65 @@ const LONG: [(What, &[u8], &[u8], u32, &[u8], usize); 7] = [
     (What::Lines, b"", b"#\n", 70000, b"a\nb", 16),
 ];
 
-#[test]
-fn there_is_no_limit_but_those_that_are_said(rt: HostRuntime) -> Result<(), Fail> {
+/// Fails at the first piece of which another number of bytes is shown.
+fn check_long(alloc: Global) -> Result<(), Fail> {
     for (row, (what, front, piece, times, back, want)) in LONG.iter().enumerate() {
-        let told = told_of_many(rt.alloc(), *what, front, piece, *times, back)?;
-        assert_eq!(rt; told, *want, "row {row}");
+        if told_of_many(alloc, *what, front, piece, *times, back)? != *want {
+            return Err(wrong(row));
+        }
     }
     Ok(())
 }
 
+#[test]
+fn there_is_no_limit_but_those_that_are_said(rt: HostRuntime) -> Result<(), Fail> {
+    check_long(rt.alloc())
+}
+
 /// Whether the first of two keys is below the other.
-fn are_in_order(alloc: Global, low: &[u8; 2], high: &[u8; 2]) -> Result<bool, Fail> {
-    let low = Key::read(alloc, low)?;
-    let high = Key::read(alloc, high)?;
+fn are_in_order(alloc: Global, low: &[u8], high: &[u8]) -> Result<bool, Fail> {
+    let low = key_of(alloc, low)?;
+    let high = key_of(alloc, high)?;
     Ok(low < high && low != high)
+}
+
+/// Two keys, and whether the first is below the other.
+const ORDER: &[(&[u8], &[u8], bool)] = &[
+    (b"az", b"b0", true),
+    (b"a.", b"a/", true),
+    (b"zz", b"aa", false),
+    (b"aa", b"aa", false),
+];
+
+/// Fails at the first two keys that stand in another order.
+fn check_order(alloc: Global) -> Result<(), Fail> {
+    for (row, (low, high, want)) in ORDER.iter().enumerate() {
+        if are_in_order(alloc, low, high)? != *want {
+            return Err(wrong(row));
+        }
+    }
+    Ok(())
 }
 
 #[test]
 fn keys_are_ordered_by_their_bytes(rt: HostRuntime) -> Result<(), Fail> {
-    for (low, high, want) in [
-        (b"az", b"b0", true),
-        (b"a.", b"a/", true),
-        (b"zz", b"aa", false),
-        (b"aa", b"aa", false),
-    ] {
-        assert_eq!(rt; are_in_order(rt.alloc(), low, high)?, want);
+    check_order(rt.alloc())
+}
+
+/// Whether a list gives back what was added last, and keeps the others in their order.
+fn keeps_items(alloc: Global) -> Result<bool, Fail> {
+    let mut list = Listed::new(alloc);
+    let mut items = Vec::new(alloc);
+    for number in 0..599u32 {
+        list.push(number)?;
+        items.push(number)?;
     }
-    Ok(())
+    list.push(599)?;
+    Ok(list.pop() == Some(599) && list == Listed::from_vec(items))
 }
 
 #[test]
 fn lists_keep_their_items_in_order(rt: HostRuntime) -> Result<(), Fail> {
-    let mut list = Listed::new(rt.alloc());
-    for number in 0..600u32 {
-        list.push(number)?;
-    }
-    let last = list.pop();
-    let items: Vec<u32> = (0..599u32).collect(rt.alloc())?;
-    assert!(rt; last == Some(599) && list == Listed::from_vec(items));
+    assert!(rt; keeps_items(rt.alloc())?);
     Ok(())
 }

@@ -1,6 +1,7 @@
 //! Cases of worlds, each with what comes of its events.
 use crate::scripts::Play;
 use crate::worlds::Asked;
+use crate::wrong;
 use std::alloc::Global;
 use std::mem::forget;
 use std::test::Fail;
@@ -264,23 +265,22 @@ fn is_reported(alloc: Global, play: &mut Play, case: &Case) -> Result<bool, Fail
     Ok(play.told(alloc, Asked::Report)? == play.wanted(alloc)?)
 }
 
-/// Whether each case is reported as it says. Plays are left to the end of the process: that they may be dropped would be proved here.
-fn all_reported(alloc: Global) -> Result<bool, Fail> {
-    for case in CASES {
+/// Fails at the first case that is reported in another way. Plays are left to the end of the process: that they may be dropped would be proved here.
+fn check(alloc: Global) -> Result<(), Fail> {
+    for (row, case) in CASES.iter().enumerate() {
         let mut play = Play::new(alloc);
         let reported = is_reported(alloc, &mut play, case);
         forget(play);
         if !reported? {
-            return Ok(false);
+            return Err(wrong(row));
         }
     }
-    Ok(true)
+    Ok(())
 }
 
 #[test]
 fn events_are_refused_by_their_rules_and_the_others_reported(rt: HostRuntime) -> Result<(), Fail> {
-    assert!(rt; all_reported(rt.alloc())?);
-    Ok(())
+    check(rt.alloc())
 }
 
 /// Whether the regions keep these lines of the case that is tried in this play.

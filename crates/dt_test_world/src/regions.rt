@@ -4,6 +4,7 @@ ghost use Rattle.dt_table.specs.Table.{opening};
 ghost use Rattle.dt_txn.specs.Transaction.{homes_of};
 ghost use Rattle.dt_region.specs.Rules.{opening_state};
 
+use crate::wrong;
 use dt_access::{Access, Mode, TxnId};
 use dt_events::put_event;
 use dt_plain::PlainSched;
@@ -135,20 +136,19 @@ const REQUESTS: &[(Option<Request>, &[u8])] = &[
     (Some((4294967295, 0, false)), b"0 0 false 0 true false\n"),
 ];
 
-/// Whether after each request is seen what it says.
-fn all_seen(alloc: Global) -> Result<bool, Fail> {
-    for (request, want) in REQUESTS {
+/// Fails at the first request after which something else is seen.
+fn check(alloc: Global) -> Result<(), Fail> {
+    for (row, (request, want)) in REQUESTS.iter().enumerate() {
         if seen_after(alloc, *request)?.as_slice() != *want {
-            return Ok(false);
+            return Err(wrong(row));
         }
     }
-    Ok(true)
+    Ok(())
 }
 
 #[test]
 fn a_request_is_placed_in_its_turn_under_the_next_stamp_and_else_changes_nothing(
     rt: HostRuntime,
 ) -> Result<(), Fail> {
-    assert!(rt; all_seen(rt.alloc())?);
-    Ok(())
+    check(rt.alloc())
 }

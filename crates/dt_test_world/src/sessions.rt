@@ -2,6 +2,7 @@
 ghost use Rattle.dt_cluster.specs.Valid.{IsValidCluster};
 
 use crate::worlds::{cluster_of, workload_of};
+use crate::wrong;
 use dt_access::TxnId;
 use dt_cluster::Cluster;
 use dt_eval::Values;
@@ -185,20 +186,19 @@ const CASES: &[(&[u8], &[Step], &[u8])] = &[
     ),
 ];
 
-/// Whether in each case is seen what it says.
-fn all_seen(alloc: Global) -> Result<bool, Fail> {
-    for (workload, steps, want) in CASES {
+/// Fails at the first case in which something else is seen.
+fn check(alloc: Global) -> Result<(), Fail> {
+    for (row, (workload, steps, want)) in CASES.iter().enumerate() {
         if seen_after(alloc, workload, steps)?.as_slice() != *want {
-            return Ok(false);
+            return Err(wrong(row));
         }
     }
-    Ok(true)
+    Ok(())
 }
 
 #[test]
 fn sessions_stand_by_their_names_with_what_they_wait_for_until_all_are_answered(
     rt: HostRuntime,
 ) -> Result<(), Fail> {
-    assert!(rt; all_seen(rt.alloc())?);
-    Ok(())
+    check(rt.alloc())
 }

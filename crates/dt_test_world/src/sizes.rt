@@ -3,6 +3,7 @@ use crate::circles::{all_ranks, circle};
 use crate::scripts::{File, Play, Script};
 use crate::tries::tries_of_a_call;
 use crate::worlds::Asked;
+use crate::wrong;
 use std::alloc::Global;
 use std::mem::forget;
 use std::test::Fail;
@@ -49,18 +50,18 @@ fn comes_as_wanted(alloc: Global, play: &mut Play, size: Size) -> Result<bool, F
     Ok(play.told(alloc, Asked::Report)? == play.wanted(alloc)?)
 }
 
-/// Whether all comes of the worlds of these sizes. Plays are left to the end of the process: that they may be dropped would be proved
+/// Fails at the first of these sizes of whose world something else comes. Plays are left to the end of the process: that they may be dropped would be proved
 /// here.
-fn all_come(alloc: Global, sizes: &[Size]) -> Result<bool, Fail> {
-    for size in sizes {
+fn check(alloc: Global, sizes: &[Size]) -> Result<(), Fail> {
+    for (row, size) in sizes.iter().enumerate() {
         let mut play = Play::new(alloc);
         let comes = comes_as_wanted(alloc, &mut play, *size);
         forget(play);
         if !comes? {
-            return Ok(false);
+            return Err(wrong(row));
         }
     }
-    Ok(true)
+    Ok(())
 }
 
 /// Groups that are resolved.
@@ -75,8 +76,7 @@ const GROUPS: [Size; 6] = [
 
 #[test]
 fn groups_have_many_members(rt: HostRuntime) -> Result<(), Fail> {
-    assert!(rt; all_come(rt.alloc(), &GROUPS)?);
-    Ok(())
+    check(rt.alloc(), &GROUPS)
 }
 
 /// Calls of many homes; calls of many tries, of which the last one succeeds or not; one session of many calls, and many sessions; and
@@ -97,8 +97,7 @@ const OTHERS: [Size; 11] = [
 
 #[test]
 fn there_are_many_homes_tries_calls_sessions_and_rows(rt: HostRuntime) -> Result<(), Fail> {
-    assert!(rt; all_come(rt.alloc(), &OTHERS)?);
-    Ok(())
+    check(rt.alloc(), &OTHERS)
 }
 
 /// The beginning of a cluster of n regions, each the home of one key.
