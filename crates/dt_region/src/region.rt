@@ -486,8 +486,8 @@ impl<S: Scheduler> Region<S> {
     }
 
     /// Makes room for n executions: each unit of it is enough for any one execution that is finished. Nothing else
-    /// changes, and after `NoMemory` the region is as before. The changes of 252,645,136 executions are too many for a table to
-    /// count by 32 bits: so that many or more get `NoMemory` whatever memory there is.
+    /// changes, and after `NoMemory` the region is as before. Beside room for 4,294,967,295 executions, which takes terabytes,
+    /// `execute` answers `NoMemory` whatever memory there is: it needs one place more, and 32 bits count no further.
     pub fn reserve(&mut self, alloc: Global, runs: u32) -> Result<(), NoMemory>
         ensures ok { OnOk result (self.new ≡ record self.old { room = max self.old.room runs }) }
         ensures err { OnErr result (self.new ≡ self.old) }
