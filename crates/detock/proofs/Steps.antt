@@ -48,12 +48,16 @@ module _ (cluster : Cluster) (workload : Workload) (events : List Event) (i : �
       sym (ap (world_after cluster workload) one_more ∙ world_from_append cluster workload (opening_world cluster workload) front (next_one ∷ []))
 
   module _ (numbered : List (ℕ × Event)) (same_events : events ≡ unnumbered numbered) (line : ℕ) (same_line : line ≡ get_or (map (λ (event : ℕ × Event). event.0) numbered) i line) where
+    -- it stands among those with numbers
+    there : i < length numbered
+    there = subst (λ n. i < n) (ap length same_events ∙ length-map numbered (λ (event : ℕ × Event). event.1)) inside
+
     -- the next event, with the number of its line
     numbered_one : get_or numbered i (line, x) ≡ (line, next_one)
     numbered_one =
-        let of_line : (get_or numbered i (line, x)).0 ≡ line = sym (get_or-map (λ event. event.0) numbered i (line, x)) ∙ sym same_line in
+        let of_line : (get_or numbered i (line, x)).0 ≡ line = sym (get_or-map (λ event. event.0) numbered i (line, x) line there) ∙ sym same_line in
         let of_event : (get_or numbered i (line, x)).1 ≡ next_one =
-        sym (get_or-map (λ event. event.1) numbered i (line, x)) ∙ ap (λ all. get_or all i x) (sym same_events) in λ j. (of_line j, of_event j)
+        sym (get_or-map (λ event. event.1) numbered i (line, x) x there) ∙ ap (λ all. get_or all i x) (sym same_events) in λ j. (of_line j, of_event j)
 
     -- the events so far, with the numbers of their lines
     numbered_front : unnumbered (take i numbered) ≡ front
@@ -62,17 +66,15 @@ module _ (cluster : Cluster) (workload : Workload) (events : List Event) (i : �
     -- an event that is not legal after legal ones is the first that is not
     first_illegal : (rule : ℕ) → AreLegal cluster workload front → ¬ IsLegal cluster workload (world_after cluster workload front) next_one
         → rule ≡ rule_of next_one → IsFirstIllegal cluster workload numbered line rule
-    first_illegal rule before illegal by =
-        let there : i < length numbered = subst (λ n. i < n) (ap length same_events ∙ length-map (λ (event : ℕ × Event). event.1) numbered) inside in
-        record {
-          before = take i numbered;
-          event = next_one;
-          after = drop (i + 1) numbered;
-          cut = sym (take-append-drop i numbered) ∙ ap (λ rest. take i numbered ++ rest) (drop_more numbered i (line, x) there ∙ ap (λ one. one ∷ drop (i + 1) numbered) numbered_one);
-          legal = subst (AreLegal cluster workload) (sym numbered_front) before;
-          illegal = subst (λ all. ¬ IsLegal cluster workload (world_after cluster workload all) next_one) (sym numbered_front) illegal;
-          number = by;
-        }
+    first_illegal rule before illegal by = record {
+      before = take i numbered;
+      event = next_one;
+      after = drop (i + 1) numbered;
+      cut = sym (take-append-drop i numbered) ∙ ap (λ rest. take i numbered ++ rest) (drop_more numbered i (line, x) there ∙ ap (λ one. one ∷ drop (i + 1) numbered) numbered_one);
+      legal = subst (AreLegal cluster workload) (sym numbered_front) before;
+      illegal = subst (λ all. ¬ IsLegal cluster workload (world_after cluster workload all) next_one) (sym numbered_front) illegal;
+      number = by;
+    }
 
   module _ (old : WorldView) (is : IsAfter cluster workload events i old) where
     -- where the world stands and what comes next, in the words of the definitions
