@@ -7,7 +7,7 @@ use Rattle.std.proofs.Crossing.{send}
 use Rattle.dt_pool.proofs.Callers.{and_moved, captures_send, no_more, server_send}
 use Rattle.dt_proc.proofs.Callers.{procs_sync}
 use Rattle.dt_run.proofs.LeftLinks.{still_there}
-use Rattle.dt_run.proofs.seat.Seat.TheSendSync as seat_send
+use Rattle.dt_run.proofs.SeatMoves.{seat_moves}
 use Rattle.dt_run.proofs.to_end.fn.with_links.scope.Goals as goal
 
 workers_send : IsSend (UInt w32)
@@ -16,12 +16,12 @@ workers_send = search sendable
 -- a helper's thread is given rt, alloc, its own side, procs, workers and gate
 pub spawn-served-requires-send-F : goal.spawn-served-requires-send-F
 spawn-served-requires-send-F g c κs within =
-    let name : IsSend g.row.N = c.requires.send.0 in
-    let seat : IsSend g.row.S = c.requires.send.1 in
+    let name = c.requires.send.0 in
+    let seat = c.requires.send.1 in
     param_send _ _ (arg_send _ no _ (captures_send _ _
     (and_moved _ _ (shr_send _ _ _ c.requires.send.2)
     (and_moved _ _ send
-    (and_moved _ _ (server_send _ _ _ (search (sendable, seat_send.the_send, seat)) name)
+    (and_moved _ _ (server_send _ _ _ (seat_moves _ _ seat) name)
     (and_moved _ _ (shr_send _ _ _ procs_sync)
     (and_moved _ _ workers_send
     (and_moved _ _ (shr_send _ _ _ c.requires.send.3) no_more))))))))
