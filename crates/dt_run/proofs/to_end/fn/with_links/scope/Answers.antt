@@ -21,7 +21,7 @@ spawn-served-requires-send-F g c κs within =
     param_send _ _ (arg_send _ no _ (captures_send _ _
     (and_moved _ _ (shr_send _ _ _ c.requires.send.2)
     (and_moved _ _ send
-    (and_moved _ _ (server_send _ _ _ (seat_moves _ _ seat) name)
+    (and_moved _ _ (server_send _ _ _ (seat_moves _ g.S.Scheduler seat) name)
     (and_moved _ _ (shr_send _ _ _ procs_sync)
     (and_moved _ _ workers_send
     (and_moved _ _ (shr_send _ _ _ c.requires.send.3) no_more))))))))
