@@ -1,5 +1,5 @@
 -- Links that are taken one by one from the end of a list: those that are left stand where they stood.
-use Rattle.std.proofs.Common.{◌≡◌, ◌<◌, ◌+◌, ℕ, zero, suc, List, [], ◌∷◌, slice_get, take, refl, sym, ap, ◌∙◌, arith}
+use Rattle.std.proofs.Common.{◌≡◌, ◌<◌, ◌+◌, ℕ, zero, suc, List, [], ◌∷◌, ◌++◌, Some, length, slice_get, take, refl, sym, ap, ◌∙◌, arith}
 
 front_of : {A : Type 0} (n : ℕ) (xs : List A) (k : ℕ) → k < n → slice_get (take n xs) k ≡ slice_get xs k
 front_of zero xs k lt = absurd (omega (arith, lt))
@@ -10,3 +10,8 @@ front_of (suc n) (x ∷ xs) (suc k) lt = front_of n xs k (omega (arith, lt))
 pub still_there : {A : Type 0} (all before left : List A) (n m : ℕ) → left ≡ take m before → m + 1 ≡ n → ((k : ℕ) → k < n → slice_get all k ≡ slice_get before k) → (k : ℕ) → k < m
     → slice_get all k ≡ slice_get left k
 still_there all before left n m is one there k lt = there k (omega (arith, lt, one)) ∙ sym (ap (λ l. slice_get l k) is ∙ front_of m before k lt)
+
+-- the last one stands at the end
+at_end : {A : Type 0} (left : List A) (x : A) → slice_get (left ++ x ∷ []) (length left) ≡ Some x
+at_end [] x = refl
+at_end (y ∷ ys) x = at_end ys x

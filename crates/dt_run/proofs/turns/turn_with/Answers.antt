@@ -8,7 +8,7 @@ lend_last-requires-clause-can g c = all_lent (c.requires.turns (some_of _ _ c.is
 pub turn_all-requires-2-clause-can : goal.turn_all-requires-2-clause-can
 turn_all-requires-2-clause-can g c =
     let lent = c.lend_last.ensures in
-    left_can c.lend_last.new.helpers c.lend_last.new.items.len c.lend_last.new.items.ok.0 (lent.len ∙ c.args.seats.now.ok.0) lent.front c.as_mut_slice-2.ensures.value c.requires.can
+    left_can _ _ c.lend_last.new.helpers c.lend_last.new.items.len c.lend_last.new.items.ok.0 (lent.len ∙ c.args.seats.now.ok.0) lent.front c.as_mut_slice-2.ensures.value c.requires.can
 
 pub returns : goal.returns
 returns g c =

@@ -32,3 +32,6 @@ loop-link-preserved-else-is_err-2 g c =
     let last : vec_len c.loop-link.links - 1 ≡ vec_len c.pop.new.self = omega (arith, one) in
     still_there g.N.Named.links c.loop-link.links.items c.pop.new.self.items (vec_len c.loop-link.links) (vec_len c.pop.new.self)
     (subst (λ n. c.pop.new.self.items ≡ take n c.loop-link.links.items) last c.pop.ensures.rest) one c.loop-link.invariant
+
+pub hire-requires : goal.hire-requires
+hire-requires g c = ?
