@@ -26,13 +26,6 @@ pub some_of : (n : ℕ) (empty : Bool) → empty ≡ eqb n 0 → empty ≡ false
 some_of zero empty is e = absurd (false≢true (sym e ∙ is))
 some_of (suc n) empty is e = omega arith
 
--- each of the seats that are left may make its turn
-pub left_can : {procs : List ProcTree} {seats left lent : List SeatView} (helpers : List (Option SeatView)) (n : ℕ) → n ≡ length left → n + length helpers ≡ length seats
-    → ((k : ℕ) (d : SeatView) → k < n → get_or left k d ≡ get_or seats k d) → lent ≡ left → All (SeatCan procs) seats → All (SeatCan procs) lent
-left_can {procs} helpers n n_is many front lent_is all = subst (All (SeatCan procs)) (sym lent_is) (λ region s lt.
-  let first : region < n = subst (λ m. region < m) (sym n_is) lt in
-  subst (SeatCan procs) (sym (front region s first)) (all region s (omega (arith, first, many))))
-
 module _ {procs : List ProcTree} {can : SeatView → Type 0} {goes : SeatView → SeatView → Type 0} (lends : LendsTurns procs can goes) where
   -- what may make its turn may be lent
   pub all_lent : (seats : List SeatView) → All (SeatCan procs) seats → All can seats
