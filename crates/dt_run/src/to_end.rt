@@ -106,6 +106,8 @@ fn with_links<
     ensures running { AreRunning setting.now.cluster setting.now.workload result.0.seats.items result.0.broken result.0.counts }
     ensures run { HasRunOn (nodes_of setting.now course.seats.items course.broken) (nodes_of setting.now result.0.seats.items result.0.broken) result.1 }
 {
+    let procs = &setting.cluster.procs;
+    let workers = setting.cluster.workers;
     thread::scope(
         thread::scope_env(),
         rt,
@@ -118,8 +120,6 @@ fn with_links<
             ensures running { AreRunning setting.entry.now.cluster setting.entry.now.workload result.0.seats.items result.0.broken result.0.counts }
             ensures run { HasRunOn (nodes_of setting.entry.now course.seats.items course.broken) (nodes_of setting.entry.now result.0.seats.items result.0.broken) result.1 }
         {
-            let procs = &setting.cluster.procs;
-            let workers = setting.cluster.workers;
             let mut links = links;
             let mut helpers = Vec::new(alloc);
             while let Some(link) = links.pop() {
@@ -182,9 +182,8 @@ fn make_phases<R: Threads + Wait + Sync, S: Scheduler + Drop + Send, G: Gate, N:
 {
     let mut course = course;
     'phases: loop {
-        match course.phase(rt, alloc, setting, gate, helpers) {
-            Ok(()) => (),
-            Err(refused) => return (course, Err(refused)),
+        if let Err(refused) = course.phase(rt, alloc, setting, gate, helpers) {
+            return (course, Err(refused));
         }
         if all_done(course.seats.as_slice()) {
             return (course, Ok(()));

@@ -15,20 +15,20 @@ pub beside_all-requires : goal.beside_all-requires
 beside_all-requires g c =
     ends_apart c.requires.running.seated c.requires.sound c.turn_with.ensures c.turn_with.new.seats.len c.turn_with.new.seats.ok.0 c.as_mut_slice.ensures.value
 
-pub after-self-requires-clause-kept : goal.after-self-requires-clause-kept
-after-self-requires-clause-kept g c =
+pub after-requires-clause-kept : goal.after-requires-clause-kept
+after-requires-clause-kept g c =
     kept_fits c.requires.running c.requires.sound c.turn_with.ensures c.turn_with.new.seats.len c.turn_with.new.seats.ok.0 c.as_mut_slice.ensures.value
     c.as_slice.ensures.value (c.some_failed.ensures.0 c.if-some_failed.false) c.beside_all.ensures c.as_slice-2.ensures.value
 
-pub after-self-requires-clause-quiet : goal.after-self-requires-clause-quiet
-after-self-requires-clause-quiet g c =
+pub after-requires-clause-quiet : goal.after-requires-clause-quiet
+after-requires-clause-quiet g c =
     quiet_fits c.requires.running c.requires.sound c.turn_with.ensures c.turn_with.new.seats.len c.turn_with.new.seats.ok.0 c.as_mut_slice.ensures.value
     c.as_slice.ensures.value (c.some_failed.ensures.0 c.if-some_failed.false) c.beside_all.ensures c.as_slice-2.ensures.value
 
 pub returns-clause-running : goal.returns-clause-running
 returns-clause-running g c =
     running_now c.requires.running c.requires.sound c.turn_with.ensures c.turn_with.new.seats.len c.turn_with.new.seats.ok.0 c.as_mut_slice.ensures.value
-    c.as_slice.ensures.value (c.some_failed.ensures.0 c.if-some_failed.false) c.beside_all.ensures c.as_slice-2.ensures.value c.after-self.ensures.made c.after-self.ensures.kept c.after-self.ensures.quiet
+    c.as_slice.ensures.value (c.some_failed.ensures.0 c.if-some_failed.false) c.beside_all.ensures c.as_slice-2.ensures.value c.after.ensures.made c.after.ensures.kept c.after.ensures.quiet
 
 pub returns-clause-phase : goal.returns-clause-phase
 returns-clause-phase g c =
