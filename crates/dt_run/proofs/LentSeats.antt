@@ -1,6 +1,5 @@
 -- Turns of which some were made by helpers: the last seats were lent to them, one to each, and taken back behind the others.
-use Rattle.std.proofs.Common.{◌≡◌, ◌<◌, ◌+◌, ◌⊎◌, ℕ, zero, suc, Bool, false, eqb, All, List, Option, Some, get_or, length, slice_get, sym, subst, ◌∙◌, inl, inr, arith}
-use Rattle.std.proofs.lemmas.Bool.{false≢true}
+use Rattle.std.proofs.Common.{◌≡◌, ◌<◌, ◌+◌, ◌⊎◌, ℕ, zero, suc, All, List, Option, Some, get_or, length, slice_get, sym, subst, ap, ◌∙◌, inl, inr, arith}
 use Rattle.dt_proc.specs.Tree.{ProcTree}
 use Rattle.dt_run.specs.Helping.{LendsTurns}
 use Rattle.dt_run.specs.SeatsInner.{EachGoes, SeatCan, SeatGoes, SeatView, no_seat, seat_at}
@@ -21,28 +20,23 @@ pub all_went : {procs : List ProcTree} (len : ℕ) {seats lent turned : List Sea
 all_went {procs} len {seats} {lent} {turned} full is goes =
     let g : EachGoes procs seats turned = subst (λ l. EachGoes procs l turned) is goes in subst (EachGoes procs seats) (sym (put_back_is len seats turned full g.many)) g
 
--- a list that is not empty
-pub some_of : (n : ℕ) (empty : Bool) → empty ≡ eqb n 0 → empty ≡ false → 0 < n
-some_of zero empty is e = absurd (false≢true (sym e ∙ is))
-some_of (suc n) empty is e = omega arith
-
 module _ {procs : List ProcTree} {can : SeatView → Type 0} {goes : SeatView → SeatView → Type 0} (lends : LendsTurns procs can goes) where
   -- what may make its turn may be lent
-  pub all_lent : (seats : List SeatView) → All (SeatCan procs) seats → All can seats
-  all_lent seats all = λ region s lt. (lends.can_turn _).1 (all region s lt)
+  pub all_lent : {seats : List SeatView} → All (SeatCan procs) seats → All can seats
+  all_lent all = λ region s lt. (lends.can_turn _).1 (all region s lt)
 
   -- the last of these seats were lent to helpers, and each of those that were left made its turn
   module _ {seats left lent turned : List SeatView} (helpers : List (Option SeatView)) (n : ℕ) (n_is : n ≡ length left) (many : n + length helpers ≡ length seats)
       (front : (k : ℕ) (d : SeatView) → k < n → get_or left k d ≡ get_or seats k d)
       (last : (k : ℕ) (d : SeatView) → k < length helpers → slice_get helpers k ≡ Some (Some (get_or seats (n + k) d))) (lent_is : lent ≡ left) (went : EachGoes procs lent turned) where
+    g : EachGoes procs left (put_back n left turned)
+    g = all_went n n_is lent_is went
+
     -- and what was lent is behind them
     pub back_again : {all : List SeatView} → length all ≡ n + length helpers → ((k : ℕ) (d : SeatView) → k < n → get_or all k d ≡ get_or (put_back n left turned) k d)
         → ((k : ℕ) (d s : SeatView) → k < length helpers → slice_get helpers k ≡ Some (Some s) → goes s (get_or all (n + k) d)) → EachGoes procs seats all
     back_again {all} full same back = record { many = full ∙ many; each = λ region lt. one region lt (below region n) }
       where
-        g : EachGoes procs left (put_back n left turned)
-        g = all_went n n_is lent_is went
-
         one : (region : ℕ) → region < length seats → (region < n) ⊎ ((k : ℕ) × (region ≡ n + k)) → SeatGoes procs (seat_at seats region) (seat_at all region)
         one region lt (inl first) =
             subst (λ s. SeatGoes procs s (seat_at all region)) (front region no_seat first)

@@ -1,5 +1,5 @@
 //! How far a run has come: what its phases change.
-ghost use Rattle.std.specs.Prelude.{◌≡◌, ◌↔◌, ◌<◌, length, OnErr, OnOk, IsFalse, false, true};
+ghost use Rattle.std.specs.Prelude.{◌≡◌, ◌↔◌, ◌<◌, OnErr, OnOk, IsFalse, false, true};
 ghost use Rattle.dt_lists.specs.Lists.{AllIn};
 ghost use Rattle.dt_run.specs.Helping.{LendsTurns, nodes_of};
 ghost use Rattle.dt_run.specs.Phase.{EndsInStep, IsPhase};

@@ -1,5 +1,5 @@
 //! The turns of a phase: one at every seat, by helpers that are kept over all phases, or in threads that are started for it.
-ghost use Rattle.std.specs.Prelude.{◌<◌, length, All, OnOk};
+ghost use Rattle.std.specs.Prelude.{◌<◌, All, OnOk};
 ghost use Rattle.dt_round.specs.Rounds.{CanRound, Continues};
 ghost use Rattle.dt_txn.specs.Replica.{IsDrained};
 ghost use Rattle.dt_run.specs.SeatsInner.{EachGoes, SeatCan, SeatGoes};
@@ -31,7 +31,7 @@ pub fn turn_with<S: Scheduler + Drop + Send, R: Threads + Wait + Sync, G: Gate, 
 )
     requires threads { 0 < threads }
     requires can { All (SeatCan procs.now) seats.old.items }
-    requires turns { 0 < length helpers.old → LendsTurns procs.now N.can N.goes }
+    requires turns { LendsTurns procs.now N.can N.goes }
     ensures { EachGoes procs.now seats.old.items seats.new.items }
 {
     if helpers.is_empty() || seats.len() <= helpers.len() {
