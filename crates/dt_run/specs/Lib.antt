@@ -7,7 +7,6 @@ pub mod Run
 pub mod Silence
 pub mod EndLaws
 pub mod SeatsInner
-pub mod Helping
 pub mod LinksInner
 pub mod MergingInner
 pub mod NodesCode

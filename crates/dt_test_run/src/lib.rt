@@ -1,11 +1,9 @@
-//! Tests of what runs are made of: packets, loss plans, links and helpers.
+//! Tests of what runs are made of: packets, loss plans and links.
 //! Each is a table of expected values that were worked out independently, with one loop and one assertion; there is no other code.
 #![tactic(auto)]
 
 #[cfg(test)]
 mod ends;
-#[cfg(test)]
-mod helpers;
 #[cfg(test)]
 mod losses;
 #[cfg(test)]
