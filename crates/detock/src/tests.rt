@@ -4,7 +4,6 @@ use crate::top::{detock, detock_alone};
 use crate::words::threaded_words;
 use dt_cluster_file::{ClusterCause, ClusterFault, ClusterPlace};
 use dt_outside::{MemoryFolder, MemorySink};
-use dt_text::put_u64;
 use dt_workload::WorkloadCause;
 use std::alloc::Global;
 use std::sync::Wait;
@@ -19,23 +18,6 @@ mod runs;
 /// Room that no report or fault line of these tests uses up.
 const AMPLE: u64 = 4096;
 
-/// Files, each by its name.
-type Files<'a> = &'a [(&'a str, &'a [u8])];
-
-/// A call of the program: its words, the files of its folder, the numbers of the loads that fail, and the room in `out` and in `err`.
-#[derive(Clone, Copy)]
-struct Call<'a> {
-    words: &'a [&'a str],
-    files: Files<'a>,
-    failing: &'a [u64],
-    room: (u64, u64),
-}
-
-/// The failure of a table at a row.
-fn wrong(row: usize) -> Fail {
-    Fail::new(format_args!("row {row}"))
-}
-
 /// The words of a command line.
 fn words_of(alloc: Global, words: &[&str]) -> Result<Vec<String>, Fail> {
     let mut all = Vec::new(alloc);
@@ -45,88 +27,71 @@ fn words_of(alloc: Global, words: &[&str]) -> Result<Vec<String>, Fail> {
     Ok(all)
 }
 
-/// Copies of files.
-fn files_of(alloc: Global, files: Files) -> Result<Vec<(String, Vec<u8>)>, Fail> {
+/// A folder with these files, whose loads of these numbers fail.
+fn folder_of(
+    alloc: Global,
+    files: &[(&str, &[u8])],
+    failing: &[u64],
+) -> Result<MemoryFolder, Fail> {
     let mut all = Vec::new(alloc);
     for (name, bytes) in files {
         all.push((String::from_str(alloc, name)?, bytes.to_vec(alloc)?))?;
     }
-    Ok(all)
-}
-
-/// The folder of a call.
-fn folder_of(alloc: Global, call: &Call) -> Result<MemoryFolder, Fail> {
-    let failing = call.failing.to_vec(alloc)?;
-    Ok(MemoryFolder::new(files_of(alloc, call.files)?, failing))
-}
-
-/// Adds these pieces.
-fn put_all(out: &mut Vec<u8>, pieces: &[&[u8]]) -> Result<(), Fail> {
-    for piece in pieces {
-        out.extend_from_slice(*piece)?;
-    }
-    Ok(())
+    Ok(MemoryFolder::new(all, failing.to_vec(alloc)?))
 }
 
 /// How a call ended: the exit number of its status, what `err` holds, and behind a `|` what `out` holds.
-fn ended(alloc: Global, exit: u8, err: &[u8], out: &[u8]) -> Result<Vec<u8>, Fail> {
-    let mut told = Vec::new(alloc);
-    put_u64(alloc, &mut told, u64::from(exit))?;
-    put_all(&mut told, &[b" ", err, b"|", out])?;
+fn ended(
+    alloc: Global,
+    status: &Status,
+    out: &MemorySink,
+    err: &MemorySink,
+) -> Result<Vec<u8>, Fail> {
+    let exit = status.exit();
+    let mut told = format!(in alloc; "{exit} ")?.as_bytes().to_vec(alloc)?;
+    told.extend_from_slice(err.bytes())?;
+    told.push(b'|')?;
+    told.extend_from_slice(out.bytes())?;
     Ok(told)
 }
 
-/// The exit number of a status, which is let go.
-fn exit_of(status: Status) -> u8 {
-    status.exit()
-}
-
-/// How a call of the program with these words over a folder ends, with this much room in `out` and in `err`.
-fn ended_over<R: Threads + Wait + Sync>(
+/// How a call of the program over a folder ends, with this much room in `out` and in `err`.
+fn call<R: Threads + Wait + Sync>(
     rt: &R,
     alloc: Global,
-    words: &[String],
-    files: &mut MemoryFolder,
+    words: &[&str],
+    mut files: MemoryFolder,
     room: (u64, u64),
 ) -> Result<Vec<u8>, Fail> {
+    let words = words_of(alloc, words)?;
     let mut out = MemorySink::new(alloc, room.0)?;
     let mut err = MemorySink::new(alloc, room.1)?;
-    let exit = exit_of(detock(rt, alloc, words, files, &mut out, &mut err));
-    ended(alloc, exit, err.bytes(), out.bytes())
-}
-
-/// How a call of the program ends.
-fn called<R: Threads + Wait + Sync>(rt: &R, alloc: Global, call: &Call) -> Result<Vec<u8>, Fail> {
-    let words = words_of(alloc, call.words)?;
-    let mut files = folder_of(alloc, call)?;
-    ended_over(rt, alloc, words.as_slice(), &mut files, call.room)
+    let status = detock(rt, alloc, words.as_slice(), &mut files, &mut out, &mut err);
+    ended(alloc, &status, &out, &err)
 }
 
 /// How a call of the program without threads over a folder ends.
-fn ended_alone(alloc: Global, words: &[String], files: &mut MemoryFolder) -> Result<Vec<u8>, Fail> {
+fn call_alone(alloc: Global, words: &[&str], mut files: MemoryFolder) -> Result<Vec<u8>, Fail> {
+    let words = words_of(alloc, words)?;
     let mut out = MemorySink::new(alloc, AMPLE)?;
     let mut err = MemorySink::new(alloc, AMPLE)?;
-    if threaded_words(words).is_some() {
+    if threaded_words(words.as_slice()).is_some() {
         return Err(Fail::new("a replay needs no threads"));
     }
-    let exit = exit_of(detock_alone(alloc, words, files, &mut out, &mut err));
-    ended(alloc, exit, err.bytes(), out.bytes())
-}
-
-/// How a call of the program without threads ends.
-fn called_alone(alloc: Global, call: &Call) -> Result<Vec<u8>, Fail> {
-    let words = words_of(alloc, call.words)?;
-    let mut files = folder_of(alloc, call)?;
-    ended_alone(alloc, words.as_slice(), &mut files)
+    let status = detock_alone(alloc, words.as_slice(), &mut files, &mut out, &mut err);
+    ended(alloc, &status, &out, &err)
 }
 
 /// The word of the built-in cluster that stands in these bytes, or that of the file `c`, where they are a cluster's file.
 fn cluster_word(cluster: &[u8]) -> &'static str {
-    match cluster {
-        b":1\n" => ":1",
-        b":2\n" => ":2",
-        b":3\n" => ":3",
-        _ => "c",
+    if cluster == b":1\n".as_slice() {
+        ":1"
+    } else if cluster == b":2\n".as_slice() {
+        ":2"
+    } else if cluster == b":3\n".as_slice() {
+        ":3"
+    } else {
+        "c"
     }
 }
 
@@ -138,13 +103,13 @@ fn replay<R: Threads + Wait + Sync>(
     workload: &[u8],
     events: &[u8],
 ) -> Result<Vec<u8>, Fail> {
-    let call = Call {
-        words: &["replay", cluster_word(cluster), "w", "e"],
-        files: &[("c", cluster), ("w", workload), ("e", events)],
-        failing: &[],
-        room: (AMPLE, AMPLE),
-    };
-    called(rt, alloc, &call)
+    let files = folder_of(
+        alloc,
+        &[("c", cluster), ("w", workload), ("e", events)],
+        &[],
+    )?;
+    let words = ["replay", cluster_word(cluster), "w", "e"];
+    call(rt, alloc, &words, files, (AMPLE, AMPLE))
 }
 
 /// How a run ends, on a built-in cluster, or on that of the file `c` with these bytes.
@@ -154,50 +119,41 @@ fn run_of<R: Threads + Wait + Sync>(
     cluster: &[u8],
     workload: &[u8],
 ) -> Result<Vec<u8>, Fail> {
-    let call = Call {
-        words: &["run", cluster_word(cluster), "w"],
-        files: &[("c", cluster), ("w", workload)],
-        failing: &[],
-        room: (AMPLE, AMPLE),
-    };
-    called(rt, alloc, &call)
+    let files = folder_of(alloc, &[("c", cluster), ("w", workload)], &[])?;
+    let words = ["run", cluster_word(cluster), "w"];
+    call(rt, alloc, &words, files, (AMPLE, AMPLE))
 }
 
 /// The lines of a file.
 fn file_of(alloc: Global, lines: &[&str]) -> Result<Vec<u8>, Fail> {
     let mut file = Vec::new(alloc);
     for line in lines {
-        put_all(&mut file, &[line.as_bytes(), b"\n"])?;
+        file.extend_from_slice(line.as_bytes())?;
+        file.push(b'\n')?;
     }
     Ok(file)
 }
 
 /// How a replay of events that are legal ends, from the report's lines up to its events.
 fn reported(alloc: Global, report: &[&str], events: &[u8]) -> Result<Vec<u8>, Fail> {
-    let lines = file_of(alloc, report)?;
-    let mut want = Vec::new(alloc);
-    put_all(&mut want, &[b"0 |", lines.as_slice(), b"events\n", events])?;
+    let mut want = b"0 |".to_vec(alloc)?;
+    want.extend_from_slice(file_of(alloc, report)?.as_slice())?;
+    want.extend_from_slice(b"events\n")?;
+    want.extend_from_slice(events)?;
     Ok(want)
 }
 
 /// How a call ends that reports a fault.
 fn refused(alloc: Global, exit: u8, line: &str) -> Result<Vec<u8>, Fail> {
-    ended(alloc, exit, line.as_bytes(), b"")
-}
-
-/// Whether a call ends by reporting this fault.
-fn is_refused<R: Threads + Wait + Sync>(
-    rt: &R,
-    alloc: Global,
-    call: &Call,
-    exit: u8,
-    line: &str,
-) -> Result<bool, Fail> {
-    Ok(called(rt, alloc, call)? == refused(alloc, exit, line)?)
+    Ok(
+        format!(in alloc; "{exit} {line}|")?
+            .as_bytes()
+            .to_vec(alloc)?,
+    )
 }
 
 /// A cluster and a workload, one of them at fault, the exit number, and the fault that is reported.
-const FAULTS: &[(&str, &str, u8, &str)] = &[
+const FAULTS: [(&str, &str, u8, &str); 17] = [
     ("regions =\n", "no line\n", 4, "detock: cluster: no toml\n"),
     (
         "regions = 9\n",
@@ -297,88 +253,49 @@ const FAULTS: &[(&str, &str, u8, &str)] = &[
     ),
 ];
 
-/// Whether a replay and a run end in this way.
-fn both_end_so<R: Threads + Wait + Sync>(
-    rt: &R,
-    alloc: Global,
-    cluster: &[u8],
-    workload: &[u8],
-    want: &[u8],
-) -> Result<bool, Fail> {
-    let replayed = replay(rt, alloc, cluster, workload, b"no event\n")?;
-    let ran = run_of(rt, alloc, cluster, workload)?;
-    Ok(replayed.as_slice() == want && ran.as_slice() == want)
-}
-
-/// Fails at the first cluster and workload that end in another way.
-fn check_faults<R: Threads + Wait + Sync>(rt: &R, alloc: Global) -> Result<(), Fail> {
-    for (row, (cluster, workload, exit, line)) in FAULTS.iter().enumerate() {
-        let want = refused(alloc, *exit, line)?;
-        let (cluster, workload) = (cluster.as_bytes(), workload.as_bytes());
-        if !both_end_so(rt, alloc, cluster, workload, want.as_slice())? {
-            return Err(wrong(row));
-        }
-    }
-    Ok(())
-}
-
 #[test]
 fn the_first_fault_of_the_first_file_is_told(rt: HostRuntime) -> Result<(), Fail> {
-    check_faults(&rt, rt.alloc())
-}
-
-/// Words, the numbers of the loads that fail, the exit number, and the fault that is reported.
-type Row = (&'static [&'static str], &'static [u64], u8, &'static str);
-
-/// Fails at the first of these calls that ends in another way, over a folder of these files.
-fn check<R: Threads + Wait + Sync>(
-    rt: &R,
-    alloc: Global,
-    files: Files,
-    rows: &[Row],
-) -> Result<(), Fail> {
-    for (row, (words, failing, exit, line)) in rows.iter().enumerate() {
-        let call = Call {
-            words,
-            files,
-            failing,
-            room: (AMPLE, AMPLE),
-        };
-        if !is_refused(rt, alloc, &call, *exit, line)? {
-            return Err(wrong(row));
-        }
+    for (cluster, workload, exit, line) in FAULTS {
+        let (cluster, workload) = (cluster.as_bytes(), workload.as_bytes());
+        let replayed = replay(&rt, rt.alloc(), cluster, workload, b"no event\n")?;
+        assert_eq!(rt; replayed, refused(rt.alloc(), exit, line)?);
+        let ran = run_of(&rt, rt.alloc(), cluster, workload)?;
+        assert_eq!(rt; ran, refused(rt.alloc(), exit, line)?);
     }
     Ok(())
 }
 
-/// What is reported of words that ask for no task.
-const USAGE: &str = "detock: usage: replay CLUSTER WORKLOAD EVENTS, run CLUSTER WORKLOAD, big N\n";
-
 /// Words that ask for no task.
-const OTHER_WORDS: &[Row] = &[
-    (&[], &[], 2, USAGE),
-    (&["replay"], &[], 2, USAGE),
-    (&["replay", ":1", "w"], &[], 2, USAGE),
-    (&["replay", ":1", "w", "e", "e"], &[], 2, USAGE),
-    (&["replay", ":0", "w", "e"], &[], 2, USAGE),
-    (&["replay", ":9", "w", "e"], &[], 2, USAGE),
-    (&["replay", ":01", "w", "e"], &[], 2, USAGE),
-    (&["replay", "", "w", "e"], &[], 2, USAGE),
-    (&["replay", ":1", "", "e"], &[], 2, USAGE),
-    (&["replay", ":1", "w", ""], &[], 2, USAGE),
-    (&["Replay", ":1", "w", "e"], &[], 2, USAGE),
-    (&["run", ":9", "w"], &[], 2, USAGE),
-    (&["run", ":1", ""], &[], 2, USAGE),
-    (&["big", "0"], &[], 2, USAGE),
-    (&["big", "20001"], &[], 2, USAGE),
-    (&["big", "007"], &[], 2, USAGE),
-    (&["run", ":1", "w", "e"], &[], 2, USAGE),
-    (&["big", "1", "1"], &[], 2, USAGE),
+const OTHER_WORDS: [&[&str]; 18] = [
+    &[],
+    &["replay"],
+    &["replay", ":1", "w"],
+    &["replay", ":1", "w", "e", "e"],
+    &["replay", ":0", "w", "e"],
+    &["replay", ":9", "w", "e"],
+    &["replay", ":01", "w", "e"],
+    &["replay", "", "w", "e"],
+    &["replay", ":1", "", "e"],
+    &["replay", ":1", "w", ""],
+    &["Replay", ":1", "w", "e"],
+    &["run", ":9", "w"],
+    &["run", ":1", ""],
+    &["big", "0"],
+    &["big", "20001"],
+    &["big", "007"],
+    &["run", ":1", "w", "e"],
+    &["big", "1", "1"],
 ];
 
 #[test]
 fn other_words_are_told_which_words_there_are(rt: HostRuntime) -> Result<(), Fail> {
-    check(&rt, rt.alloc(), &[], OTHER_WORDS)
+    let line = "detock: usage: replay CLUSTER WORKLOAD EVENTS, run CLUSTER WORKLOAD, big N\n";
+    for words in OTHER_WORDS {
+        let files = folder_of(rt.alloc(), &[], &[])?;
+        let told = call(&rt, rt.alloc(), words, files, (AMPLE, AMPLE))?;
+        assert_eq!(rt; told, refused(rt.alloc(), 2, line)?);
+    }
+    Ok(())
 }
 
 /// The cluster and the calls of a shop: the second call has not enough credit.
@@ -428,8 +345,8 @@ const ONE_PUT_REPORT: [&str; 6] = [
     "b = 5 home 0 moves 0",
 ];
 
-/// Calls over files that cannot be read.
-const UNREAD: &[Row] = &[
+/// Words, the numbers of the loads that fail, the exit number, and the fault that is reported.
+const UNREAD: [(&[&str], &[u64], u8, &str); 12] = [
     (
         &["replay", "c", "w", "e"],
         &[1],
@@ -487,60 +404,51 @@ const UNREAD: &[Row] = &[
     (&["run", ":1", "x"], &[], 3, "detock: cannot read word 3\n"),
 ];
 
-/// The files that are there.
-const TEXTS: Files<'static> = &[
-    ("c", b"regions = 1\n"),
-    ("w", ONE_PUT),
-    (
-        "n",
-        b"session a at 0\nmove aaaaaaaaaaaaaaaaaaaaaaaaaaaaaaaaaaaaaaaaaaaaaaaaaaaaaaaaaaaaaaaaaaaaaaaaaaaaaaaaaaaaaaaaaaaaaaaaaaaaaaaaaaaaaaaaaaaaaaaaaaaaaaaa to 0\n",
-    ),
-    ("e", ONE_PUT_EVENTS),
-];
-
 #[test]
 fn a_file_that_cannot_be_read_is_told_by_its_word(rt: HostRuntime) -> Result<(), Fail> {
-    check(&rt, rt.alloc(), TEXTS, UNREAD)
-}
-
-/// A replay whose files have names that begin with a colon.
-const COLONS: Call<'static> = Call {
-    words: &["replay", ":1", ":w", ":2"],
-    files: &[(":w", ONE_PUT), (":2", ONE_PUT_EVENTS)],
-    failing: &[],
-    room: (AMPLE, AMPLE),
-};
-
-#[test]
-fn a_colon_begins_only_the_words_of_built_in_clusters(rt: HostRuntime) -> Result<(), Fail> {
-    let told = called_alone(rt.alloc(), &COLONS)?;
-    let want = reported(rt.alloc(), &ONE_PUT_REPORT, ONE_PUT_EVENTS)?;
-    assert!(rt; told == want);
+    let texts: [(&str, &[u8]); 4] = [
+        ("c", b"regions = 1\n"),
+        ("w", ONE_PUT),
+        (
+            "n",
+            b"session a at 0\nmove aaaaaaaaaaaaaaaaaaaaaaaaaaaaaaaaaaaaaaaaaaaaaaaaaaaaaaaaaaaaaaaaaaaaaaaaaaaaaaaaaaaaaaaaaaaaaaaaaaaaaaaaaaaaaaaaaaaaaaaaaaaaaaaa to 0\n",
+        ),
+        ("e", ONE_PUT_EVENTS),
+    ];
+    for (words, failing, exit, line) in UNREAD {
+        let files = folder_of(rt.alloc(), &texts, failing)?;
+        let told = call(&rt, rt.alloc(), words, files, (AMPLE, AMPLE))?;
+        assert_eq!(rt; told, refused(rt.alloc(), exit, line)?);
+    }
     Ok(())
 }
 
-/// The status whose exit number is this one, from 0 to 7.
-fn status_of(number: u8) -> Status {
-    match number {
-        0 => Status::Done,
-        1 => Status::NoMemory,
-        2 => Status::BadWords,
-        3 => Status::CannotRead(3),
-        4 => {
-            Status::BadCluster(ClusterFault {
-                place: ClusterPlace::Whole,
-                cause: ClusterCause::NotToml,
-            })
-        }
-        5 => Status::BadWorkload(1, WorkloadCause::Form),
-        6 => Status::BadEvents(1, EventsCause::Rule(1)),
-        _ => Status::CannotWrite,
-    }
+#[test]
+fn a_colon_begins_only_the_words_of_built_in_clusters(rt: HostRuntime) -> Result<(), Fail> {
+    let files = folder_of(rt.alloc(), &[(":w", ONE_PUT), (":2", ONE_PUT_EVENTS)], &[])?;
+    let told = call_alone(rt.alloc(), &["replay", ":1", ":w", ":2"], files)?;
+    let want = reported(rt.alloc(), &ONE_PUT_REPORT, ONE_PUT_EVENTS)?;
+    assert_eq!(rt; told, want);
+    Ok(())
 }
 
 #[test]
 fn each_status_has_its_exit_number(rt: HostRuntime) {
-    for number in 0..8 {
-        assert!(rt; exit_of(status_of(number)) == number, "{number}");
+    let fault = ClusterFault {
+        place: ClusterPlace::Whole,
+        cause: ClusterCause::NotToml,
+    };
+    let cases = [
+        (Status::Done, 0),
+        (Status::NoMemory, 1),
+        (Status::BadWords, 2),
+        (Status::CannotRead(3), 3),
+        (Status::BadCluster(fault), 4),
+        (Status::BadWorkload(1, WorkloadCause::Form), 5),
+        (Status::BadEvents(1, EventsCause::Rule(1)), 6),
+        (Status::CannotWrite, 7),
+    ];
+    for (status, number) in &cases {
+        assert_eq!(rt; status.exit(), *number);
     }
 }

@@ -1,7 +1,6 @@
 //! Files that are cut, too long or hold one thing too many, and sinks that fail in the middle.
-use super::{
-    AMPLE, Call, ONE_PUT, ONE_PUT_EVENTS, ONE_PUT_REPORT, called, is_refused, reported, wrong,
-};
+use super::{AMPLE, ONE_PUT, ONE_PUT_EVENTS, ONE_PUT_REPORT, call, folder_of, refused, reported};
+use dt_outside::MemoryFolder;
 use std::alloc::Global;
 use std::sync::Wait;
 use std::test::Fail;
@@ -17,62 +16,34 @@ fn one_put<R: Threads + Wait + Sync>(
     events: &[u8],
     room: (u64, u64),
 ) -> Result<Vec<u8>, Fail> {
-    let call = Call {
-        words: &["replay", ":1", "w", "e"],
-        files: &[("w", ONE_PUT), ("e", events)],
-        failing: &[],
-        room,
-    };
-    called(rt, alloc, &call)
+    let files = folder_of(alloc, &[("w", ONE_PUT), ("e", events)], &[])?;
+    call(rt, alloc, &["replay", ":1", "w", "e"], files, room)
 }
 
-/// Whether a sink of this room, which is less than the report has, holds as much of it as fits.
-fn holds_what_fits<R: Threads + Wait + Sync>(
+/// Whether a sink that has less room than the report holds as much of it as fits, and one with that room the whole.
+fn each_room_holds_what_fits<R: Threads + Wait + Sync>(
     rt: &R,
     alloc: Global,
-    report: &[u8],
-    room: u64,
 ) -> Result<bool, Fail> {
-    let told = one_put(rt, alloc, ONE_PUT_EVENTS, (room, AMPLE))?;
+    let whole = reported(alloc, &ONE_PUT_REPORT, ONE_PUT_EVENTS)?;
     let fails = b"7 detock: cannot write\n|".as_slice();
-    Ok(match told.as_slice().strip_prefix(fails) {
-        Some(held) => held.len() as u64 == room && report.starts_with(held),
-        None => false,
-    })
-}
-
-/// Fails at the first room that holds less or more than fits.
-fn check_rooms<R: Threads + Wait + Sync>(rt: &R, alloc: Global, report: &[u8]) -> Result<(), Fail> {
+    let mut holds = true;
     for room in 0..REPORT_BYTES {
-        if !holds_what_fits(rt, alloc, report, room)? {
-            return Err(Fail::new(room));
-        }
+        let told = one_put(rt, alloc, ONE_PUT_EVENTS, (room, AMPLE))?;
+        let held = told.as_slice().strip_prefix(fails);
+        let report = whole.as_slice().strip_prefix(b"0 |".as_slice());
+        holds = holds
+            && match (held, report) {
+                (Some(held), Some(report)) => held.len() as u64 == room && report.starts_with(held),
+                _ => false,
+            };
     }
-    Ok(())
-}
-
-/// Whether a sink that has the room of the report holds the whole.
-fn holds_whole<R: Threads + Wait + Sync>(
-    rt: &R,
-    alloc: Global,
-    whole: &[u8],
-) -> Result<bool, Fail> {
     let told = one_put(rt, alloc, ONE_PUT_EVENTS, (REPORT_BYTES, AMPLE))?;
-    Ok(told.as_slice() == whole)
-}
-
-#[test]
-fn a_small_sink_holds_what_fits(rt: HostRuntime) -> Result<(), Fail> {
-    let whole = reported(rt.alloc(), &ONE_PUT_REPORT, ONE_PUT_EVENTS)?;
-    let Some(report) = whole.as_slice().strip_prefix(b"0 |".as_slice()) else {
-        return Err(Fail::new("a report is behind its exit number"));
-    };
-    assert!(rt; holds_whole(&rt, rt.alloc(), whole.as_slice())?);
-    check_rooms(&rt, rt.alloc(), report)
+    Ok(holds && told == whole)
 }
 
 /// Events of one put, the room in `out` and in `err`, and how their replay ends.
-const SMALL_ROOMS: &[(&[u8], (u64, u64), &[u8])] = &[
+const SMALL_ROOMS: [(&[u8], (u64, u64), &[u8]); 2] = [
     // A fault of `err` changes no status.
     (
         ONE_PUT_EVENTS,
@@ -87,108 +58,91 @@ const SMALL_ROOMS: &[(&[u8], (u64, u64), &[u8])] = &[
     ),
 ];
 
-/// Fails at the first small room that is not filled.
-fn check_small_rooms<R: Threads + Wait + Sync>(rt: &R, alloc: Global) -> Result<(), Fail> {
-    for (row, (events, room, want)) in SMALL_ROOMS.iter().enumerate() {
-        if one_put(rt, alloc, events, *room)?.as_slice() != *want {
-            return Err(wrong(row));
-        }
-    }
-    Ok(())
-}
-
-#[test]
-fn a_small_sink_for_faults_changes_no_status(rt: HostRuntime) -> Result<(), Fail> {
-    check_small_rooms(&rt, rt.alloc())
-}
-
-/// How a replay of events that are cut ends.
-#[derive(Clone, Copy)]
-enum End {
-    /// By a report: they are cut behind an event.
-    Report,
-    /// By the fault of the line that is cut.
-    Fault(&'static [u8]),
-}
-
-/// Two lengths, and how events end that are cut at a length from the first to the second.
-const CUTS: &[(usize, usize, End)] = &[
-    (0, 0, End::Report),
-    (1, 9, End::Fault(b"6 detock: events line 1: no event\n|")),
-    (10, 11, End::Report),
-    (12, 22, End::Fault(b"6 detock: events line 2: no event\n|")),
-    (23, 24, End::Report),
-    (25, 33, End::Fault(b"6 detock: events line 3: no event\n|")),
-    (34, 35, End::Report),
-    (36, 47, End::Fault(b"6 detock: events line 4: no event\n|")),
-    (48, 49, End::Report),
-    (50, 58, End::Fault(b"6 detock: events line 5: no event\n|")),
-    (59, 60, End::Report),
-];
-
-/// Whether a replay of the first n bytes of the events ends so.
-fn ends_so<R: Threads + Wait + Sync>(
+/// Whether each small room is filled.
+fn each_small_room_is_filled<R: Threads + Wait + Sync>(
     rt: &R,
     alloc: Global,
-    length: usize,
-    end: End,
 ) -> Result<bool, Fail> {
-    let events = ONE_PUT_EVENTS.get(..length).unwrap_or_default();
-    let told = one_put(rt, alloc, events, (AMPLE, AMPLE))?;
-    Ok(match end {
-        End::Report => told.as_slice().starts_with(b"0 |replies\n"),
-        End::Fault(fault) => told.as_slice() == fault,
-    })
-}
-
-/// Fails at the first length at which events that are cut end in another way.
-fn check_cuts<R: Threads + Wait + Sync>(rt: &R, alloc: Global) -> Result<(), Fail> {
-    for (first, last, end) in CUTS {
-        for length in *first..=*last {
-            if !ends_so(rt, alloc, length, *end)? {
-                return Err(Fail::new(length));
-            }
-        }
+    let mut holds = true;
+    for (events, room, want) in SMALL_ROOMS {
+        holds = holds && one_put(rt, alloc, events, room)?.as_slice() == want;
     }
-    Ok(())
+    Ok(holds)
 }
 
-#[test]
-fn events_that_are_cut_end_by_the_line_that_is_cut(rt: HostRuntime) -> Result<(), Fail> {
-    check_cuts(&rt, rt.alloc())
-}
-
-/// Names of files, and what is reported where that file has one byte more than any file may have.
-const TOO_LONG: &[(&str, u8, &str)] = &[
-    ("c", 4, "detock: cluster: too long\n"),
-    ("w", 5, "detock: workload line 0: too long\n"),
-    ("e", 6, "detock: events line 0: too long\n"),
+/// Two lengths: the line that is faulty in events that are cut at a length from the first to the second, or none, where that is behind
+/// an event.
+const CUTS: [(usize, usize, Option<u32>); 11] = [
+    (0, 0, None),
+    (1, 9, Some(1)),
+    (10, 11, None),
+    (12, 22, Some(2)),
+    (23, 24, None),
+    (25, 33, Some(3)),
+    (34, 35, None),
+    (36, 47, Some(4)),
+    (48, 49, None),
+    (50, 58, Some(5)),
+    (59, 60, None),
 ];
 
-/// Fails at the first file of these bytes that is not reported.
-fn check_too_long<R: Threads + Wait + Sync>(
-    rt: &R,
-    alloc: Global,
-    bytes: &[u8],
-) -> Result<(), Fail> {
-    for (row, (name, exit, line)) in TOO_LONG.iter().enumerate() {
-        let call = Call {
-            words: &["replay", "c", "w", "e"],
-            files: &[(*name, bytes), ("c", b"regions = 1\n"), ("w", b"")],
-            failing: &[],
-            room: (AMPLE, AMPLE),
-        };
-        if !is_refused(rt, alloc, &call, *exit, line)? {
-            return Err(wrong(row));
-        }
-    }
-    Ok(())
+/// Whether what a replay told is the fault of this line, or, where no line is faulty, the beginning of a report.
+fn ends_by(alloc: Global, told: &[u8], faulty: Option<u32>) -> Result<bool, Fail> {
+    let Some(line) = faulty else {
+        return Ok(told.starts_with(b"0 |replies\n"));
+    };
+    let fault = format!(in alloc; "detock: events line {line}: no event\n")?;
+    Ok(told == refused(alloc, 6, fault.as_str())?.as_slice())
 }
 
-#[test]
-fn a_file_that_is_too_long_is_told(rt: HostRuntime) -> Result<(), Fail> {
-    let bytes = vec![in rt.alloc(); b' '; 16_777_217]?;
-    check_too_long(&rt, rt.alloc(), bytes.as_slice())
+/// Whether events that are cut end by the line in which they are cut.
+fn each_cut_ends_by_its_line<R: Threads + Wait + Sync>(
+    rt: &R,
+    alloc: Global,
+) -> Result<bool, Fail> {
+    let mut holds = true;
+    for (first, last, faulty) in CUTS {
+        for length in first..=last {
+            let events = ONE_PUT_EVENTS.get(..length).unwrap_or_default();
+            let told = one_put(rt, alloc, events, (AMPLE, AMPLE))?;
+            holds = holds && ends_by(alloc, told.as_slice(), faulty)?;
+        }
+    }
+    Ok(holds)
+}
+
+/// How a replay ends where the file of this name has one byte more than any file may have.
+fn of_long_file<R: Threads + Wait + Sync>(
+    rt: &R,
+    alloc: Global,
+    name: &str,
+) -> Result<Vec<u8>, Fail> {
+    let files = vec![in alloc;
+        (
+            String::from_str(alloc, name)?,
+            vec![in alloc; b' '; 16_777_217]?
+        ),
+        (
+            String::from_str(alloc, "c")?,
+            b"regions = 1\n".to_vec(alloc)?
+        ),
+        (String::from_str(alloc, "w")?, Vec::new(alloc)),
+    ]?;
+    let files = MemoryFolder::new(files, Vec::new(alloc));
+    call(rt, alloc, &["replay", "c", "w", "e"], files, (AMPLE, AMPLE))
+}
+
+/// Whether each file that is too long is reported.
+fn each_long_file_is_told<R: Threads + Wait + Sync>(rt: &R, alloc: Global) -> Result<bool, Fail> {
+    let mut holds = true;
+    for (name, exit, line) in [
+        ("c", 4u8, "detock: cluster: too long\n"),
+        ("w", 5, "detock: workload line 0: too long\n"),
+        ("e", 6, "detock: events line 0: too long\n"),
+    ] {
+        holds = holds && of_long_file(rt, alloc, name)? == refused(alloc, exit, line)?;
+    }
+    Ok(holds)
 }
 
 /// A file, by its front, the piece that follows it, how often, and its back.
@@ -202,7 +156,7 @@ const NOTHING: Repeated = ("", "", 0, "");
 
 /// A cluster and a workload with one thing too many: the items of a text, the brackets that are open in a procedure, its `{` among
 /// them, and the calls.
-const TOO_MANY: &[(Repeated, Repeated, u8, &str)] = &[
+const TOO_MANY: [(Repeated, Repeated, u8, &str); 3] = [
     (
         ONE_REGION,
         ("session a at 0\ncall note \"t\" \"", "x", 257, "\"\n"),
@@ -239,37 +193,35 @@ fn repeated(alloc: Global, file: Repeated) -> Result<Vec<u8>, Fail> {
     Ok(bytes)
 }
 
-/// Whether a run of these files ends by reporting this fault.
-fn run_is_refused<R: Threads + Wait + Sync>(
+/// Whether each thing that is one too many is reported.
+fn each_thing_too_many_is_told<R: Threads + Wait + Sync>(
     rt: &R,
     alloc: Global,
-    cluster: Repeated,
-    workload: Repeated,
-    exit: u8,
-    line: &str,
 ) -> Result<bool, Fail> {
-    let cluster = repeated(alloc, cluster)?;
-    let workload = repeated(alloc, workload)?;
-    let call = Call {
-        words: &["run", "c", "w"],
-        files: &[("c", cluster.as_slice()), ("w", workload.as_slice())],
-        failing: &[],
-        room: (AMPLE, AMPLE),
-    };
-    is_refused(rt, alloc, &call, exit, line)
-}
-
-/// Fails at the first files whose one thing too many is not reported.
-fn check_too_many<R: Threads + Wait + Sync>(rt: &R, alloc: Global) -> Result<(), Fail> {
-    for (row, (cluster, workload, exit, line)) in TOO_MANY.iter().enumerate() {
-        if !run_is_refused(rt, alloc, *cluster, *workload, *exit, line)? {
-            return Err(wrong(row));
-        }
+    let mut holds = true;
+    for (cluster, workload, exit, line) in TOO_MANY {
+        let cluster = repeated(alloc, cluster)?;
+        let workload = repeated(alloc, workload)?;
+        let texts = [("c", cluster.as_slice()), ("w", workload.as_slice())];
+        let files = folder_of(alloc, &texts, &[])?;
+        let told = call(rt, alloc, &["run", "c", "w"], files, (AMPLE, AMPLE))?;
+        holds = holds && told == refused(alloc, exit, line)?;
     }
-    Ok(())
+    Ok(holds)
 }
 
 #[test]
-fn one_thing_too_many_is_told(rt: HostRuntime) -> Result<(), Fail> {
-    check_too_many(&rt, rt.alloc())
+fn cut_and_long_files_and_small_sinks_end_by_their_causes(rt: HostRuntime) -> Result<(), Fail> {
+    let alloc = rt.alloc();
+    let answers = [
+        ("rooms", each_room_holds_what_fits(&rt, alloc)?),
+        ("small rooms", each_small_room_is_filled(&rt, alloc)?),
+        ("cuts", each_cut_ends_by_its_line(&rt, alloc)?),
+        ("long files", each_long_file_is_told(&rt, alloc)?),
+        ("things too many", each_thing_too_many_is_told(&rt, alloc)?),
+    ];
+    for (shows, holds) in answers {
+        assert!(rt; holds, "{shows}");
+    }
+    Ok(())
 }

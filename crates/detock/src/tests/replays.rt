@@ -1,5 +1,5 @@
 //! Replays: what events come to, and the first fault in them.
-use super::{ended, file_of, moves, replay, reported, wrong};
+use super::{file_of, moves, replay, reported};
 use std::alloc::Global;
 use std::sync::Wait;
 use std::test::Fail;
@@ -489,8 +489,12 @@ fn wanted(alloc: Global, case: &Case) -> Result<Vec<u8>, Fail> {
     if case.exit == 0 {
         return reported(alloc, case.told, events_of(alloc, case)?.as_slice());
     }
-    let fault = file_of(alloc, case.told)?;
-    ended(alloc, case.exit, fault.as_slice(), b"")
+    let mut fault = format!(in alloc; "{} ", case.exit)?
+        .as_bytes()
+        .to_vec(alloc)?;
+    fault.extend_from_slice(file_of(alloc, case.told)?.as_slice())?;
+    fault.push(b'|')?;
+    Ok(fault)
 }
 
 /// How a case ends.
@@ -507,37 +511,23 @@ fn told<R: Threads + Wait + Sync>(rt: &R, alloc: Global, case: &Case) -> Result<
     )
 }
 
-/// Fails at the first case that ends in another way.
-fn check<R: Threads + Wait + Sync>(rt: &R, alloc: Global, cases: &[Case]) -> Result<(), Fail> {
-    for case in cases {
-        if told(rt, alloc, case)? != wanted(alloc, case)? {
-            return Err(Fail::new(case.shows));
+#[test]
+fn replays_end_with_a_report_or_with_the_first_fault(rt: HostRuntime) -> Result<(), Fail> {
+    for cases in [CASES, moves::CASES] {
+        for case in cases {
+            assert_eq!(rt;
+                told(&rt, rt.alloc(), case)?,
+                wanted(rt.alloc(), case)?,
+                "{}",
+                case.shows
+            );
         }
     }
     Ok(())
 }
 
-#[test]
-fn replays_end_with_a_report_or_with_the_first_fault(rt: HostRuntime) -> Result<(), Fail> {
-    check(&rt, rt.alloc(), CASES)
-}
-
-#[test]
-fn replays_with_moves_end_with_a_report_or_with_the_first_fault(
-    rt: HostRuntime,
-) -> Result<(), Fail> {
-    check(&rt, rt.alloc(), moves::CASES)
-}
-
 /// The lines of a cluster and of a workload with one session `a` at region 0, how many calls it makes, and the report of them.
-type Turn = (
-    &'static [&'static str],
-    &'static [&'static str],
-    u32,
-    &'static [&'static str],
-);
-
-const IN_TURN: &[Turn] = &[
+const IN_TURN: [(&[&str], &[&str], u32, &[&str]); 3] = [
     (
         &[
             "regions = 1",
@@ -643,34 +633,22 @@ fn in_turn(alloc: Global, calls: u32) -> Result<Vec<u8>, Fail> {
     Ok(events)
 }
 
-/// Whether a replay of these events reports what the session is to be answered.
-fn is_answered<R: Threads + Wait + Sync>(
-    rt: &R,
-    alloc: Global,
-    turn: &Turn,
-    events: &[u8],
-) -> Result<bool, Fail> {
-    let (cluster, workload, _, report) = *turn;
-    let cluster = file_of(alloc, cluster)?;
-    let workload = file_of(alloc, workload)?;
-    let told = replay(rt, alloc, cluster.as_slice(), workload.as_slice(), events)?;
-    Ok(told == reported(alloc, report, events)?)
-}
-
-/// Fails at the first session that is answered in another way.
-fn check_turns<R: Threads + Wait + Sync>(rt: &R, alloc: Global) -> Result<(), Fail> {
-    for (row, turn) in IN_TURN.iter().enumerate() {
-        let events = in_turn(alloc, turn.2)?;
-        if !is_answered(rt, alloc, turn, events.as_slice())? {
-            return Err(wrong(row));
-        }
-    }
-    Ok(())
-}
-
 #[test]
 fn a_session_makes_one_call_after_another_and_each_is_answered(
     rt: HostRuntime,
 ) -> Result<(), Fail> {
-    check_turns(&rt, rt.alloc())
+    for (cluster, workload, calls, report) in IN_TURN {
+        let cluster = file_of(rt.alloc(), cluster)?;
+        let workload = file_of(rt.alloc(), workload)?;
+        let events = in_turn(rt.alloc(), calls)?;
+        let told = replay(
+            &rt,
+            rt.alloc(),
+            cluster.as_slice(),
+            workload.as_slice(),
+            events.as_slice(),
+        )?;
+        assert_eq!(rt; told, reported(rt.alloc(), report, events.as_slice())?);
+    }
+    Ok(())
 }

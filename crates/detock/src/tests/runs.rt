@@ -1,5 +1,5 @@
 //! Runs: all regions at once, which make the events themselves.
-use super::{AMPLE, Call, SHOP, SHOP_CALLS, called, file_of, words_of, wrong};
+use super::{AMPLE, SHOP, SHOP_CALLS, call, file_of, folder_of, words_of};
 use crate::words::threaded_words;
 use std::alloc::Global;
 use std::sync::Wait;
@@ -22,7 +22,7 @@ struct Case {
     events: &'static [&'static str],
 }
 
-const CASES: &[Case] = &[
+const CASES: [Case; 4] = [
     Case {
         shows: "a run of nothing reports nothing",
         cluster: &["regions = 1"],
@@ -132,13 +132,9 @@ fn told<R: Threads + Wait + Sync>(
     workload: &[u8],
     events: &[u8],
 ) -> Result<Vec<u8>, Fail> {
-    let call = Call {
-        words,
-        files: &[("c", cluster), ("w", workload), ("e", events)],
-        failing: &[],
-        room: (AMPLE, AMPLE),
-    };
-    called(rt, alloc, &call)
+    let texts = [("c", cluster), ("w", workload), ("e", events)];
+    let files = folder_of(alloc, &texts, &[])?;
+    call(rt, alloc, words, files, (AMPLE, AMPLE))
 }
 
 /// The events behind these lines of a report, if they are its lines from the order up to the events, behind these replies.
@@ -162,15 +158,12 @@ fn events_behind<'a>(
     Ok(rest.strip_prefix(lines.as_slice()))
 }
 
-/// Whether the run of the case's files is as it says: the report has its replies, in some order, what follows them, and these events;
-/// and a replay of the events that are printed reports the same bytes.
-fn is_so_of<R: Threads + Wait + Sync>(
-    rt: &R,
-    alloc: Global,
-    case: &Case,
-    cluster: &[u8],
-    workload: &[u8],
-) -> Result<bool, Fail> {
+/// Whether the case is as it says: the report has its replies, in some order, what follows them, and these events; and a
+/// replay of the events that are printed reports the same bytes.
+fn is_so<R: Threads + Wait + Sync>(rt: &R, alloc: Global, case: &Case) -> Result<bool, Fail> {
+    let cluster = file_of(alloc, case.cluster)?;
+    let workload = file_of(alloc, case.workload)?;
+    let (cluster, workload) = (cluster.as_slice(), workload.as_slice());
     let ran = told(rt, alloc, &["run", "c", "w"], cluster, workload, b"")?;
     let Some(events) = events_behind(alloc, ran.as_slice(), case.replies, case.told)? else {
         return Ok(false);
@@ -180,45 +173,26 @@ fn is_so_of<R: Threads + Wait + Sync>(
     Ok(again.as_slice() == ran.as_slice() && each_stands_in(alloc, events, case.events)?)
 }
 
-/// Whether the case is as it says.
-fn is_so<R: Threads + Wait + Sync>(rt: &R, alloc: Global, case: &Case) -> Result<bool, Fail> {
-    let cluster = file_of(alloc, case.cluster)?;
-    let workload = file_of(alloc, case.workload)?;
-    is_so_of(rt, alloc, case, cluster.as_slice(), workload.as_slice())
-}
-
-/// Fails at the first case that is not as it says.
-fn check<R: Threads + Wait + Sync>(rt: &R, alloc: Global) -> Result<(), Fail> {
+#[test]
+fn what_a_run_prints_is_replayed_to_the_same_bytes(rt: HostRuntime) -> Result<(), Fail> {
     for case in CASES {
-        if !is_so(rt, alloc, case)? {
-            return Err(Fail::new(case.shows));
-        }
+        let is_so = is_so(&rt, rt.alloc(), &case)?;
+        assert!(rt; is_so, "{}", case.shows);
     }
     Ok(())
 }
 
 #[test]
-fn what_a_run_prints_is_replayed_to_the_same_bytes(rt: HostRuntime) -> Result<(), Fail> {
-    check(&rt, rt.alloc())
-}
-
-/// A big run of one call, in an empty folder.
-const BIG: Call<'static> = Call {
-    words: &["big", "1"],
-    files: &[],
-    failing: &[],
-    room: (AMPLE, AMPLE),
-};
-
-#[test]
 fn a_big_run_tells_its_calls_its_answers_and_its_sum(rt: HostRuntime) -> Result<(), Fail> {
-    let told = called(&rt, rt.alloc(), &BIG)?;
-    assert!(rt; told.as_slice() == b"0 |calls 1\nanswers 1\nsum 100000\n".as_slice());
+    let files = folder_of(rt.alloc(), &[], &[])?;
+    let told = call(&rt, rt.alloc(), &["big", "1"], files, (AMPLE, AMPLE))?;
+    let want = b"0 |calls 1\nanswers 1\nsum 100000\n".as_slice();
+    assert_eq!(rt; told.as_slice(), want);
     Ok(())
 }
 
 /// Words that ask for what threads do.
-const THREADED: &[&[&str]] = &[
+const THREADED: [&[&str]; 5] = [
     &["run", ":1", "w"],
     &["run", ":8", ":w"],
     &["run", "c", "w"],
@@ -226,18 +200,12 @@ const THREADED: &[&[&str]] = &[
     &["big", "20000"],
 ];
 
-/// Fails at the first words that are not asked of threads.
-fn check_threaded(alloc: Global) -> Result<(), Fail> {
-    for (row, words) in THREADED.iter().enumerate() {
-        let words = words_of(alloc, words)?;
-        if threaded_words(words.as_slice()).is_none() {
-            return Err(wrong(row));
-        }
-    }
-    Ok(())
-}
-
 #[test]
 fn runs_and_big_runs_are_asked_of_threads(rt: HostRuntime) -> Result<(), Fail> {
-    check_threaded(rt.alloc())
+    for words in THREADED {
+        let words = words_of(rt.alloc(), words)?;
+        let threaded = threaded_words(words.as_slice()).is_some();
+        assert!(rt; threaded);
+    }
+    Ok(())
 }
