@@ -1,6 +1,5 @@
 -- All is done where all seats say so; and then the events of the nodes are a finished list.
-use Rattle.std.proofs.Common.{◌≡◌, ◌<◌, ◌≤◌, ◌+◌, ◌↔◌, ℕ, zero, suc, false, Bool, IsTrue, List, [], ◌∷◌, length, sym, subst, ◌∙◌, arith}
-use Rattle.std.proofs.lemmas.Bool.{false≢true}
+use Rattle.std.proofs.Common.{◌≡◌, ◌<◌, ◌≤◌, ◌+◌, ◌↔◌, ℕ, zero, suc, Bool, IsTrue, List, [], ◌∷◌, length, sym, subst, arith}
 use Rattle.dt_lists.specs.Lists.{AllIn}
 use Rattle.dt_events.specs.Stamps.{events_of}
 use Rattle.dt_cluster.specs.declared.Cluster.{Cluster}
@@ -12,6 +11,7 @@ use Rattle.dt_site.proofs.Callers.{HasShortLists, legal_short, many_here}
 use Rattle.dt_node.specs.NodeInWorld.{NodeFits}
 use Rattle.dt_node.specs.NodeView.{NodeView, number_of}
 use Rattle.dt_run.specs.Done.{IsAllDone, HasDone}
+use Rattle.dt_run.specs.Helping.{HaveAllDone}
 use Rattle.dt_run.specs.NodesView.{NodesView, node_in}
 use Rattle.dt_run.specs.SeatsInner.{AreSeated, HasFewSubmitted, SeatView, nodes_view, seat_at}
 use Rattle.dt_run.proofs.Laws.{few_events, reached}
@@ -57,18 +57,11 @@ module _ {cluster : Cluster} {workload : Workload} {seats : List SeatView} {brok
   pub are_done : AllIn (λ s. EachNameIsAnswered s.node.sessions) seats → AllIn (λ source. AllIn (λ s. HasDone s.node source.node) seats) seats → IsAllDone v
   are_done answered executed = record { answered = answered_all answered; executed = done_each executed }
 
-  -- whether all is done, as it is asked of seats in turn
-  pub done_if : {asked told : List SeatView} → asked ≡ seats → told ≡ seats → AllIn (λ s. EachNameIsAnswered s.node.sessions) asked
-      → (b : Bool) → (IsTrue b ↔ AllIn (λ source. AllIn (λ s. HasDone s.node source.node) told) told) → IsTrue b ↔ IsAllDone v
-  done_if {asked} {told} asked_is told_is answered b executed = (
-    λ t. are_done (subst (AllIn (λ s. EachNameIsAnswered s.node.sessions)) asked_is answered) (subst (λ l. AllIn (λ source. AllIn (λ s. HasDone s.node source.node) l) l) told_is (executed.0 t)),
-    λ d. executed.1 (subst (λ l. AllIn (λ source. AllIn (λ s. HasDone s.node source.node) l) l) (sym told_is) (each_done d.executed)),
-  )
-
-  pub not_done_if : {asked : List SeatView} → asked ≡ seats → (b : Bool) → (IsTrue b ↔ AllIn (λ s. EachNameIsAnswered s.node.sessions) asked) → b ≡ false → IsTrue b ↔ IsAllDone v
-  not_done_if asked_is b answered fails = (
-    λ t. absurd (false≢true (sym fails ∙ t)),
-    λ d. answered.1 (subst (AllIn (λ s. EachNameIsAnswered s.node.sessions)) (sym asked_is) (all_answered d.answered)),
+  -- whether all is done, as it is asked of the seats
+  pub done_where : {asked : List SeatView} → asked ≡ seats → (b : Bool) → (IsTrue b ↔ HaveAllDone asked) → IsTrue b ↔ IsAllDone v
+  done_where {asked} is b told = (
+    λ t. let d : HaveAllDone seats = subst HaveAllDone is (told.0 t) in are_done d.answered d.executed,
+    λ d. told.1 (subst HaveAllDone (sym is) (record { answered = all_answered d.answered; executed = each_done d.executed })),
   )
 
   -- submissions are counted by 32 bits

@@ -27,6 +27,9 @@ pub mod PhaseInStep
 pub mod NodesAfterPhase
 pub mod KeptLists
 pub mod PhaseMade
+pub mod LentSeats
+pub mod LeftLinks
+pub mod SeatMoves
 pub mod OpeningSeats
 pub mod SomeHome
 pub mod AllArrived

@@ -54,45 +54,33 @@ pub put_back_is : {A : Type 0} (len : ℕ) (items now : List A) → len ≡ leng
 put_back_is len items now full same = ap (λ n. take n (now ++ drop (length now) items)) (full ∙ sym same) ∙ take-append_seam now (drop (length now) items)
 
 -- the same of seats in their vector
-module _ {cluster : Cluster} {workload : Workload} {seats : List SeatView} {broken : Bool} (a : AreSeated cluster workload seats broken) (sound : broken ≡ false) (len : ℕ) (full : len ≡ length seats)
-    {lent turned : List SeatView} (lent_is : lent ≡ seats) (goes : EachGoes cluster.procs lent turned) where
-  g : EachGoes cluster.procs seats turned
-  g = subst (λ l. EachGoes cluster.procs l turned) lent_is goes
+module _ {cluster : Cluster} {workload : Workload} {seats : List SeatView} {broken : Bool} (a : AreSeated cluster workload seats broken) (sound : broken ≡ false) {turned : List SeatView}
+    (g : EachGoes cluster.procs seats turned) where
+  pub failed_seats : AreSeated cluster workload turned true
+  failed_seats = failed_seated a sound g
 
-  turned_is : put_back len seats turned ≡ turned
-  turned_is = put_back_is len seats turned full g.many
+  pub phase_failed : IsPhase (nodes_view cluster workload seats broken) (nodes_view cluster workload turned true)
+  phase_failed = failed_phase a sound g
 
-  pub failed_seats : AreSeated cluster workload (put_back len seats turned) true
-  failed_seats = subst (λ l. AreSeated cluster workload l true) (sym turned_is) (failed_seated a sound g)
+  module _ (len : ℕ) (full : len ≡ length turned) {lent : List SeatView} (lent_is : lent ≡ turned) where
+    pub ends_apart : AreLinkedBy EndsAreApart lent
+    ends_apart = subst (AreLinkedBy EndsAreApart) (sym lent_is) (links_apart a sound g)
 
-  pub phase_failed : {before : NodesView} → nodes_view cluster workload seats broken ≡ before → IsPhase before (nodes_view cluster workload (put_back len seats turned) true)
-  phase_failed is =
-      subst (λ v. IsPhase v (nodes_view cluster workload (put_back len seats turned) true)) is
-      (subst (λ l. IsPhase (nodes_view cluster workload seats broken) (nodes_view cluster workload l true)) (sym turned_is) (failed_phase a sound g))
-
-  module _ {lent2 : List SeatView} (lent2_is : lent2 ≡ put_back len seats turned) where
-    pub ends_apart : AreLinkedBy EndsAreApart lent2
-    ends_apart = subst (AreLinkedBy EndsAreApart) (sym (lent2_is ∙ turned_is)) (links_apart a sound g)
-
-    module _ {asked : List SeatView} (asked_is : asked ≡ put_back len seats turned) (none : AllIn (λ s. s.failed ≡ false) asked) {beside : List SeatView} (so_far : BesideSoFar (length lent2) lent2 beside) where
+    module _ {asked : List SeatView} (asked_is : asked ≡ turned) (none : AllIn (λ s. s.failed ≡ false) asked) {beside : List SeatView} (so_far : BesideSoFar (length lent) lent beside) where
       n : AllIn (λ s. s.failed ≡ false) turned
-      n = subst (AllIn (λ s. s.failed ≡ false)) (asked_is ∙ turned_is) none
+      n = subst (AllIn (λ s. s.failed ≡ false)) asked_is none
 
       b : BesideSoFar (length turned) turned beside
-      b = subst (λ l. BesideSoFar (length l) l beside) (lent2_is ∙ turned_is) so_far
+      b = subst (λ l. BesideSoFar (length l) l beside) lent_is so_far
 
-      beside_is : put_back len (put_back len seats turned) beside ≡ beside
-      beside_is = put_back_is len (put_back len seats turned) beside (full ∙ sym g.many ∙ ap length (sym turned_is)) (b.many ∙ ap length (sym turned_is))
+      beside_is : put_back len turned beside ≡ beside
+      beside_is = put_back_is len turned beside full b.many
 
-      pub seats_made : AreSeated cluster workload (put_back len (put_back len seats turned) beside) broken
+      pub seats_made : AreSeated cluster workload (put_back len turned beside) broken
       seats_made = subst (λ l. AreSeated cluster workload l broken) (sym beside_is) (made_seated a sound g n b)
 
-      pub phase_made : {before : NodesView} → nodes_view cluster workload seats broken ≡ before → IsPhase before (nodes_view cluster workload (put_back len (put_back len seats turned) beside) broken)
-      phase_made is =
-          subst (λ v. IsPhase v (nodes_view cluster workload (put_back len (put_back len seats turned) beside) broken)) is
-          (subst (λ l. IsPhase (nodes_view cluster workload seats broken) (nodes_view cluster workload l broken)) (sym beside_is) (made_phase a sound g n b))
+      pub phase_made : IsPhase (nodes_view cluster workload seats broken) (nodes_view cluster workload (put_back len turned beside) broken)
+      phase_made = subst (λ l. IsPhase (nodes_view cluster workload seats broken) (nodes_view cluster workload l broken)) (sym beside_is) (made_phase a sound g n b)
 
-      pub in_step_made : {before : NodesView} → nodes_view cluster workload seats broken ≡ before → EndsInStep before (nodes_view cluster workload (put_back len (put_back len seats turned) beside) broken)
-      in_step_made is =
-          subst (λ v. EndsInStep v (nodes_view cluster workload (put_back len (put_back len seats turned) beside) broken)) is
-          (subst (λ l. EndsInStep (nodes_view cluster workload seats broken) (nodes_view cluster workload l broken)) (sym beside_is) (made_in_step a sound g n b))
+      pub in_step_made : EndsInStep (nodes_view cluster workload seats broken) (nodes_view cluster workload (put_back len turned beside) broken)
+      in_step_made = subst (λ l. EndsInStep (nodes_view cluster workload seats broken) (nodes_view cluster workload l broken)) (sym beside_is) (made_in_step a sound g n b)

@@ -1,13 +1,12 @@
 -- What a phase needs and leaves of the counts of the nodes, over their seats in a vector: after turns of which some failed, and
 -- after turns of which none did.
-use Rattle.std.proofs.Common.{◌≡◌, ◌<◌, ◌+◌, ◌^◌, ℕ, Bool, true, false, cond, eqb, List, length, refl, sym, subst}
+use Rattle.std.proofs.Common.{◌≡◌, ◌<◌, ◌+◌, ◌^◌, ℕ, Bool, true, false, cond, eqb, List, length, sym, subst}
 use Rattle.std.specs.Prelude.{sum_by}
 use Rattle.std.proofs.lemmas.Bool.{false≢true}
 use Rattle.dt_lists.specs.Lists.{AllIn}
 use Rattle.dt_cluster.specs.declared.Cluster.{Cluster}
 use Rattle.dt_workload.specs.declared.Workload.{Workload}
 use Rattle.dt_run.specs.LinksInner.{BesideSoFar}
-use Rattle.dt_run.specs.NodesView.{NodesView}
 use Rattle.dt_run.specs.Phase.{EndsInStep, IsPhase}
 use Rattle.dt_run.specs.SeatsInner.{HasCounts, AreRunning, AreSeated, EachGoes, SeatView, events_at, nodes_view, seat_at}
 use Rattle.dt_run.specs.Silence.{ComesToAnEnd, PhaseIsCounted}
@@ -15,32 +14,32 @@ use Rattle.dt_run.specs.declared.counts.Counts.{Counts}
 use Rattle.dt_run.proofs.PhaseMade.{failed_seats, in_step_made, phase_made, put_back, seats_made}
 use Rattle.dt_run.proofs.SeatCounts as counting
 
-module _ {cluster : Cluster} {workload : Workload} {seats : List SeatView} {broken : Bool} {counts : Counts} (r : AreRunning cluster workload seats broken counts) (sound : broken ≡ false) (len : ℕ) (full : len ≡ length seats)
-    {lent turned : List SeatView} (lent_is : lent ≡ seats) (goes : EachGoes cluster.procs lent turned) where
+module _ {cluster : Cluster} {workload : Workload} {seats : List SeatView} {broken : Bool} {counts : Counts} (r : AreRunning cluster workload seats broken counts) (sound : broken ≡ false) {turned : List SeatView}
+    (goes : EachGoes cluster.procs seats turned) where
   -- some turn failed
-  pub failed_running : AreRunning cluster workload (put_back len seats turned) true counts
-  failed_running = record { seated = failed_seats r.seated sound len full lent_is goes; counted = λ e. absurd (false≢true (sym e)) }
+  pub failed_running : AreRunning cluster workload turned true counts
+  failed_running = record { seated = failed_seats r.seated sound goes; counted = λ e. absurd (false≢true (sym e)) }
 
   -- none failed, and the ends of all links were brought beside each other
-  module _ {lent2 : List SeatView} (lent2_is : lent2 ≡ put_back len seats turned) {asked : List SeatView} (asked_is : asked ≡ put_back len seats turned) (none : AllIn (λ s. s.failed ≡ false) asked)
-      {beside : List SeatView} (so_far : BesideSoFar (length lent2) lent2 beside) where
+  module _ (len : ℕ) (full : len ≡ length turned) {lent : List SeatView} (lent_is : lent ≡ turned) {asked : List SeatView} (asked_is : asked ≡ turned) (none : AllIn (λ s. s.failed ≡ false) asked)
+      {beside : List SeatView} (so_far : BesideSoFar (length lent) lent beside) where
     abbrev left : List SeatView
-    left = put_back len (put_back len seats turned) beside
+    left = put_back len turned beside
 
     seated : AreSeated cluster workload left broken
-    seated = seats_made r.seated sound len full lent_is goes lent2_is asked_is none so_far
+    seated = seats_made r.seated sound goes len full lent_is asked_is none so_far
 
     phase : IsPhase (nodes_view cluster workload seats broken) (nodes_view cluster workload left broken)
-    phase = phase_made r.seated sound len full lent_is goes lent2_is asked_is none so_far refl
+    phase = phase_made r.seated sound goes len full lent_is asked_is none so_far
 
     ends : EndsInStep (nodes_view cluster workload seats broken) (nodes_view cluster workload left broken)
-    ends = in_step_made r.seated sound len full lent_is goes lent2_is asked_is none so_far refl
+    ends = in_step_made r.seated sound goes len full lent_is asked_is none so_far
 
     counted : HasCounts (nodes_view cluster workload seats broken) counts
     counted = r.counted sound
 
-    pub phase_counts : {before : NodesView} → nodes_view cluster workload seats broken ≡ before → PhaseIsCounted before (nodes_view cluster workload left broken)
-    phase_counts is = subst (λ v. PhaseIsCounted v (nodes_view cluster workload left broken)) is (counting.phase_counted r.seated sound counted seated phase ends)
+    pub phase_counts : PhaseIsCounted (nodes_view cluster workload seats broken) (nodes_view cluster workload left broken)
+    phase_counts = counting.phase_counted r.seated sound counted seated phase ends
 
     pub comes_to_an_end : ComesToAnEnd (nodes_view cluster workload left broken)
     comes_to_an_end = counting.phase_ends r.seated sound counted seated phase ends

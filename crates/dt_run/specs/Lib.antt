@@ -7,6 +7,7 @@ pub mod Run
 pub mod Silence
 pub mod EndLaws
 pub mod SeatsInner
+pub mod Helping
 pub mod LinksInner
 pub mod MergingInner
 pub mod NodesCode

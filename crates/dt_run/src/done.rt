@@ -4,6 +4,7 @@ ghost use Rattle.dt_lists.specs.Lists.{AllIn, Has};
 ghost use Rattle.dt_txn.specs.Replica.{done_ids};
 ghost use Rattle.dt_session.specs.Sessions.{EachNameIsAnswered};
 ghost use Rattle.dt_run.specs.Done.{HasDone};
+ghost use Rattle.dt_run.specs.Helping.{HaveAllDone};
 ghost use Rattle.dt_run.specs.SeatsInner.{HasFewSubmitted};
 
 use crate::seat::Seat;
@@ -11,8 +12,16 @@ use dt_access::TxnId;
 use dt_region::Region;
 use dt_sched::Scheduler;
 
+/// Whether every call of every session is answered, and every region has executed all that every region submitted.
+pub fn all_done<S: Scheduler + Drop>(seats: &[Seat<S>]) -> bool
+    requires { AllIn HasFewSubmitted seats.now }
+    ensures { IsTrue result ↔ HaveAllDone seats.now }
+{
+    are_answered(seats) && have_done_all(seats)
+}
+
 /// Whether every call of every session is answered.
-pub fn are_answered<S: Scheduler + Drop>(seats: &[Seat<S>]) -> bool
+fn are_answered<S: Scheduler + Drop>(seats: &[Seat<S>]) -> bool
     ensures { IsTrue result ↔ AllIn (λ s. EachNameIsAnswered s.node.sessions) seats.now }
 {
     for seat in seats {
@@ -24,7 +33,7 @@ pub fn are_answered<S: Scheduler + Drop>(seats: &[Seat<S>]) -> bool
 }
 
 /// Whether every region has executed all that every region submitted.
-pub fn have_done_all<S: Scheduler + Drop>(seats: &[Seat<S>]) -> bool
+fn have_done_all<S: Scheduler + Drop>(seats: &[Seat<S>]) -> bool
     requires { AllIn HasFewSubmitted seats.now }
     ensures { IsTrue result ↔ AllIn (λ source. AllIn (λ s. HasDone s.node source.node) seats.now) seats.now }
 {

@@ -1,8 +1,8 @@
 //! All nodes of a cluster at once: they run in phases over links that lose packets, until every call is answered.
 //!
-//! In a phase every node makes one turn; the turns are shared out over two threads or more ([`Nodes::phase`]). A node knows
-//! nothing of what the others do meanwhile: what it sends waits on a link, and becomes known between two phases, when the ends
-//! of each link are brought beside each other (`links.rt`). [`run`] makes phases until all is done; there is a bound on
+//! In a phase every node makes one turn. A run has helpers for them, threads that are kept over all its phases (`turns.rt`). A node
+//! knows nothing of what the others do meanwhile: what it sends waits on a link, and becomes known between two phases, when the
+//! ends of each link are brought beside each other (`links.rt`). [`run`] makes phases until all is done; there is a bound on
 //! their number, for every loss plan of a cluster (at most every second packet is lost): `specs/Silence`, and the laws of
 //! `end_laws.rt`.
 //!
@@ -17,10 +17,11 @@
 //! events there were (`HasGone` of `dt_node`).
 //!
 //! Read next: `specs/NodesView`, `specs/Marks`, `specs/NodesStand`, `specs/Phase`, `specs/Done`, `specs/Run`, `specs/Silence`;
-//! then `nodes.rt`.
+//! then `nodes.rt`, `course.rt` and `to_end.rt`.
 #![tactic(auto)]
 
 mod counts;
+mod course;
 mod done;
 mod end_laws;
 mod links;
@@ -29,6 +30,7 @@ mod nodes;
 mod seat;
 mod sites;
 mod to_end;
+mod turns;
 
 pub use counts::Counts;
 pub use end_laws::{

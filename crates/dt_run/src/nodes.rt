@@ -13,21 +13,20 @@ ghost use Rattle.dt_run.specs.NodesStand.{AreNodes};
 ghost use Rattle.dt_run.specs.NodesView.{kept_by, marks_at, opening_nodes};
 ghost use Rattle.dt_run.specs.Phase.{EndsInStep, IsPhase};
 ghost use Rattle.dt_run.specs.Run.{AreMerged, IsRunReport, IsRunSummary, IsRunText};
-ghost use Rattle.dt_run.specs.SeatsInner.{EachGoes, SeatCan, SeatGoes, new_seat, seat_at};
+ghost use Rattle.dt_run.specs.SeatsInner.{new_seat, seat_at};
 ghost use Rattle.dt_run.specs.Silence.{ComesToAnEnd, PhaseIsCounted, counts_in};
 
 use crate::counts::{Counts, answers_by};
-use crate::done::{are_answered, have_done_all};
-use crate::links::{beside_all, link_all};
+use crate::course::{Course, Setting};
+use crate::done::all_done;
+use crate::links::link_all;
 use crate::merge::merged;
 use crate::seat::Seat;
 use crate::sites::sites_of;
 use dt_cluster::Cluster;
 use dt_events::Event;
-use dt_lock::{By, Gate, round};
+use dt_lock::Gate;
 use dt_node::Node;
-use dt_proc::Procs;
-use dt_region::Region;
 use dt_report::Report;
 use dt_sched::Scheduler;
 use dt_site::opening_of;
@@ -37,9 +36,8 @@ use dt_text::NoMemory;
 use dt_workload::Workload;
 use dt_world::{report_of_sites, text_of_sites};
 use std::alloc::Global;
-use std::marker::Model;
+use std::marker::{Brand, Model};
 use std::sync::Wait;
-use std::thread;
 use std::thread::Threads;
 
 /// All nodes of a cluster, and the links between them, with the cluster and the workload.
@@ -48,15 +46,8 @@ use std::thread::Threads;
 /// many events it had kept after each phase, and as `broken` whether a phase has run out of memory.
 #[derive(Drop)]
 pub struct Nodes<S: Scheduler + Drop> {
-    cluster: Cluster,
-    workload: Workload,
-    /// The seat of each region's node, by its number.
-    seats: Vec<Seat<S>>,
-    broken: bool,
-    /// How far they have come.
-    counts: Counts,
-    /// How many events the last phase has kept: the next one is expected to keep as many.
-    grown: u64,
+    pub(crate) setting: Setting,
+    pub(crate) course: Course<S>,
 }
 
 impl<S: Scheduler + Drop> Model for Nodes<S> {
@@ -68,9 +59,9 @@ impl<S: Scheduler + Drop> Model for Nodes<S> {
 
     ghost coded = { nodes_code };
 
-    ghost view = { λ n. nodes_view n.cluster n.workload n.seats.items n.broken };
+    ghost view = { λ n. nodes_view n.setting.cluster n.setting.workload n.course.seats.items n.course.broken };
 
-    ghost invariant = { λ n. AreRunning n.cluster n.workload n.seats.items n.broken n.counts };
+    ghost invariant = { λ n. AreRunning n.setting.cluster n.setting.workload n.course.seats.items n.course.broken n.course.counts };
 }
 
 impl<S: Scheduler + Drop> Nodes<S> {
@@ -94,12 +85,8 @@ impl<S: Scheduler + Drop> Nodes<S> {
         let mut seats = seats(alloc, &cluster, &workload)?;
         link_all(alloc, seats.as_mut_slice())?;
         Ok(Nodes {
-            cluster,
-            workload,
-            seats,
-            broken: false,
-            counts: Counts::none(),
-            grown: 0,
+            setting: Setting { cluster, workload },
+            course: Course::begin(seats),
         })
     }
 
@@ -110,14 +97,14 @@ impl<S: Scheduler + Drop> Nodes<S> {
         ensures counts { result ≡ counts_in self.now }
         ensures ends { ComesToAnEnd self.now }
     {
-        self.counts
+        self.course.counts
     }
 
     /// Whether every call of every session is answered, and every region has executed every attempt. Takes no memory.
     pub fn finished(&self) -> bool
         ensures { IsTrue result ↔ IsAllDone self.now }
     {
-        are_answered(self.seats.as_slice()) && have_done_all(self.seats.as_slice())
+        all_done(self.course.seats.as_slice())
     }
 
     /// The report of the events that all nodes have kept, in the order of their stamps. It is read off the nodes, and nothing is
@@ -129,11 +116,11 @@ impl<S: Scheduler + Drop> Nodes<S> {
         ensures { IfOk result (IsRunReport self.now) }
     {
         let events = self.merged(alloc)?;
-        let sites = sites_of(alloc, self.seats.as_slice())?;
+        let sites = sites_of(alloc, self.course.seats.as_slice())?;
         report_of_sites(
             alloc,
-            &self.cluster,
-            &self.workload,
+            &self.setting.cluster,
+            &self.setting.workload,
             sites.as_slice(),
             events,
         )
@@ -148,13 +135,9 @@ impl<S: Scheduler + Drop> Nodes<S> {
         ensures { IfOk result (λ text. IsRunText self text.items) }
     {
         let merged = self.merged(alloc)?;
-        let Nodes {
-            cluster,
-            workload,
-            seats,
-            ..
-        } = self;
-        let sites = sites_of(alloc, seats.as_slice())?;
+        let Nodes { setting, course } = self;
+        let Setting { cluster, workload } = setting;
+        let sites = sites_of(alloc, course.seats.as_slice())?;
         text_of_sites(
             alloc,
             cluster,
@@ -171,8 +154,8 @@ impl<S: Scheduler + Drop> Nodes<S> {
         requires done { IsAllDone self.now }
         ensures { IfOk result (λ text. IsRunSummary self.now calls text.items) }
     {
-        let answers = answers_by(self.seats.as_slice());
-        let rows = first_rows(alloc, self.seats.as_slice())?;
+        let answers = answers_by(self.course.seats.as_slice());
+        let rows = first_rows(alloc, self.course.seats.as_slice())?;
         summary_text(alloc, calls, answers, rows.as_slice())
     }
 
@@ -180,8 +163,8 @@ impl<S: Scheduler + Drop> Nodes<S> {
     fn merged(&self, alloc: Global) -> Result<Vec<Event>, NoMemory>
         ensures { IfOk result (λ events. AreMerged (kept_by self.now.nodes) events.items) }
     {
-        let mut kept = Vec::with_capacity(alloc, self.seats.len())?;
-        for seat in self.seats.as_slice() {
+        let mut kept = Vec::with_capacity(alloc, self.course.seats.len())?;
+        for seat in self.course.seats.as_slice() {
             kept.push(seat.node.region().events())?;
         }
         merged(alloc, kept)
@@ -206,98 +189,10 @@ impl<S: Scheduler + Drop + Send> Nodes<S> {
         ensures broken { OnErr result (self.new.broken ≡ true) }
         ensures nodes { AreNodes self.new }
     {
-        let threads = threads_for(self.grown);
-        turn_all(
-            rt,
-            alloc,
-            self.seats.as_mut_slice(),
-            &self.cluster.procs,
-            self.cluster.workers,
-            gate,
-            threads,
-        );
-        if some_failed(self.seats.as_slice()) {
-            self.broken = true;
-            return Err(NoMemory);
-        }
-        beside_all(alloc, self.seats.as_mut_slice());
-        let kept = self.counts.kept;
-        self.counts = self.counts.after(self.seats.as_slice());
-        self.grown = self.counts.kept.saturating_sub(kept);
-        Ok(())
+        let mut none = Vec::new(alloc);
+        self.course
+            .phase::<R, G, Brand>(rt, alloc, &self.setting, gate, none.as_mut_slice())
     }
-}
-
-/// From this many events on, the turns of a phase take longer than threads for them take to start and to end.
-const MANY: u64 = 1024;
-
-/// In how many threads the turns of a phase are made that is expected to keep n events: in two where these are few, else in one
-/// for each region that there can be.
-fn threads_for(events: u64) -> usize
-    ensures { 0 < result }
-{
-    if events < MANY { 2 } else { 8 }
-}
-
-/// One turn at every seat, in n threads where they can be made.
-fn turn_all<S: Scheduler + Drop + Send, R: Threads + Wait + Sync, G: Gate>(
-    rt: &R,
-    alloc: Global,
-    seats: &mut [Seat<S>],
-    procs: &Procs,
-    workers: u32,
-    gate: &G,
-    threads: usize,
-)
-    requires threads { 0 < threads }
-    requires can { All (SeatCan procs.now) seats.old }
-    ensures { EachGoes procs.now seats.old seats.new }
-{
-    thread::for_each_mut(
-        rt,
-        seats,
-        threads,
-        &|_, seat: &mut Seat<S>|
-            requires { SeatCan procs.now seat.now }
-            ensures { SeatGoes procs.entry.now seat.entry.now seat.exit.now }
-        {
-            turn_seat(rt, alloc, seat, procs, workers, gate);
-        },
-    );
-}
-
-/// One turn at a seat, with rounds of n workers.
-fn turn_seat<S: Scheduler + Drop + Send, R: Threads + Wait + Sync, G: Gate>(
-    rt: &R,
-    alloc: Global,
-    seat: &mut Seat<S>,
-    procs: &Procs,
-    workers: u32,
-    gate: &G,
-)
-    requires { SeatCan procs.now seat.old }
-    ensures { SeatGoes procs.now seat.old seat.new }
-{
-    let rounds = By {
-        by: |alloc: Global, region: &mut Region<S>, procs: &Procs| -> Result<(), NoMemory>
-            requires { CanRound procs.now region.now }
-            ensures continues { Continues procs.now region.entry.now region.exit.now }
-            ensures drained { OnOk result (IsDrained region.exit.now.state.logs region.exit.now.state.here) }
-        { round(rt, alloc, region, procs, workers, gate) },
-    };
-    seat.turn(alloc, procs, &rounds);
-}
-
-/// Whether the last turn at some seat failed.
-fn some_failed<S: Scheduler>(seats: &[Seat<S>]) -> bool
-    ensures { IsFalse result ↔ AllIn (λ s. s.failed ≡ false) seats.now }
-{
-    for seat in seats {
-        if seat.failed {
-            return true;
-        }
-    }
-    false
 }
 
 /// The rows that the region of the first seat shows.

@@ -1,7 +1,7 @@
 use Rattle.std.proofs.Common.{◌≡◌, false, subst}
 use Rattle.dt_run.specs.SeatsInner.{SeatView}
 use Rattle.dt_run.proofs.EachItem.{all_next}
-use Rattle.dt_run.proofs.nodes.some_failed.Goals as goal
+use Rattle.dt_run.proofs.course.some_failed.Goals as goal
 
 pub loop-seat-preserved : goal.loop-seat-preserved
 loop-seat-preserved g c =

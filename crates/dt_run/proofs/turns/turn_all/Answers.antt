@@ -8,7 +8,7 @@ use Rattle.dt_proc.proofs.Callers.{procs_sync}
 use Rattle.dt_lock.proofs.Callers.{and_shared, captures_sync, no_more}
 use Rattle.dt_run.specs.SeatsInner.{SeatCan, no_seat}
 use Rattle.dt_run.proofs.SeatTurns.{went}
-use Rattle.dt_run.proofs.nodes.turn_all.Goals as goal
+use Rattle.dt_run.proofs.turns.turn_all.Goals as goal
 
 workers_sync : IsSync (UInt w32)
 workers_sync = search sendable

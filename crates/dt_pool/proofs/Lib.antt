@@ -1,0 +1,5 @@
+pub mod Last
+pub mod Lending
+pub mod Moved
+pub mod Sent
+pub mod Callers
