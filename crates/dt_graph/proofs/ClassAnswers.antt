@@ -12,7 +12,7 @@ use Rattle.dt_sched.specs.Views.{View}
 use Rattle.dt_sched.specs.Decide.{IsResolvable}
 use Rattle.dt_class.specs.Graphs.{AdjView, AreAllBlocked, AreVertices, IsInClass, IsSource, Leads}
 use Rattle.dt_queue.specs.Queues.{Waiting}
-use Rattle.dt_waits.specs.Left.{IsOrderly}
+use Rattle.dt_waits.specs.LeftInGraph.{IsOrderly}
 use Rattle.dt_waits.specs.Waits.{id_at}
 use Rattle.dt_waits.specs.Graph.{AllAreStuck, AreVerticesOf, GraphView, IsSomeGraph, IsStuck, KeepsGraph}
 use Rattle.dt_waits.specs.Among.{IsAmong, WaitsOutside}

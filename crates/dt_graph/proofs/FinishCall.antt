@@ -8,7 +8,7 @@ use Rattle.dt_access.specs.declared.TxnId.{TxnId}
 use Rattle.dt_sched.specs.Views.{View, IsClass}
 use Rattle.dt_sched.specs.Decide.{IsExecutable}
 use Rattle.dt_waits.specs.declared.open.Open.{Open}
-use Rattle.dt_waits.specs.Left.{IsLeft, IsOrderly}
+use Rattle.dt_waits.specs.LeftInGraph.{IsLeft, IsOrderly}
 use Rattle.dt_waits.specs.Waits.{id_at}
 use Rattle.dt_waits.specs.Graph.{GraphView, KeepsGraph, IsOpened, IsPlaceOfClass, vertex_at}
 use Rattle.dt_graph.specs.NamesInner.{IsNumberOf}

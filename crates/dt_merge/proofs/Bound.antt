@@ -29,7 +29,7 @@ use Rattle.dt_session.specs.World.{World, Place, Submission, no_node, node_at, l
 use Rattle.dt_agreement.specs.Invariant.{IsPartAt, IsPlaceOf, IsPlaced, IsSubmissionOf, attempts_by}
 use Rattle.dt_agreement.proofs.Callers.{WasSubmitted, done_known, fronts_longer, log_distinct, logs_length, next_keeps, ordered, received_log, received_within, test_of_key, txn_there}
 use Rattle.dt_txn.proofs.Callers.{fronts_at}
-use Rattle.dt_merge.specs.Own.{own, places_at}
+use Rattle.dt_merge.specs.OwnPart.{own, places_at}
 use Rattle.dt_merge.specs.Weight.{most_events, sum_below, weight, world_weight}
 use Rattle.dt_merge.specs.WorldRegions.{HasInvariant}
 use Rattle.dt_merge.proofs.SumsBelow.{sum_below_added, sum_below_const, sum_below_first, sum_below_le}

@@ -14,7 +14,7 @@ use Rattle.dt_sched.specs.Views.{View, log_at, IsLonger}
 use Rattle.dt_txn.specs.Replica.{fronts}
 use Rattle.dt_workload.specs.declared.Session.{Session}
 use Rattle.dt_session.specs.World.{Node, Place, Submission, no_node, is_session, session_at, with_place, find_submission}
-use Rattle.dt_merge.specs.Own.{places_at, HasGrown}
+use Rattle.dt_merge.specs.OwnPart.{places_at, HasGrown}
 
 -- lists that are equal at each place
 pub same_lists : {A : Type 0} (d : A) (xs ys : List A) → length xs ≡ length ys → ((i : ℕ) → get_or xs i d ≡ get_or ys i d) → xs ≡ ys

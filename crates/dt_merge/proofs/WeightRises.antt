@@ -28,7 +28,7 @@ use Rattle.dt_session.specs.Run.{world_from, AreLegalFrom}
 use Rattle.dt_session.specs.Eager.{AllChange}
 use Rattle.dt_agreement.specs.Invariant.{IsPlaceOf}
 use Rattle.dt_agreement.proofs.Callers.{WasSubmitted, Submits, append_cases, executable_known, next_keeps, ordered, received_own, session_found, submits}
-use Rattle.dt_merge.specs.Own.{own}
+use Rattle.dt_merge.specs.OwnPart.{own}
 use Rattle.dt_merge.specs.Weight.{sum_below, weight, world_weight}
 use Rattle.dt_merge.specs.WorldRegions.{HasInvariant}
 use Rattle.dt_merge.proofs.Frames.{frame}

@@ -11,7 +11,7 @@ use Rattle.dt_lists.proofs.Callers.{any_map, all_map, any_of_test, test_of_any}
 use Rattle.dt_access.specs.Ids.{Before, AreAscending, same_id}
 use Rattle.dt_access.specs.declared.TxnId.{TxnId}
 use Rattle.dt_access.proofs.Callers.{before_total, before_transitive, test_of_id, test_of_other, same_id_turned, by_parts, before_less}
-use Rattle.dt_plain.proofs.Same.{ids_same, ids_differ}
+use Rattle.dt_plain.proofs.IdEquality.{ids_same, ids_differ}
 use Rattle.dt_sched.specs.IdLists.{IsOrderOf}
 
 -- a permutation has the same ids, each as often

@@ -8,7 +8,7 @@ use Rattle.dt_sched.specs.Decide.{IsExecutable, IsResolvable}
 use Rattle.dt_access.proofs.Callers.{either_id}
 use Rattle.dt_sched.proofs.Callers.{has_id_decided, class_unique, class_of_member, sooner_breaks_ties}
 use Rattle.dt_plain.proofs.Scan.{refuted}
-use Rattle.dt_plain.proofs.Same.{no_id}
+use Rattle.dt_plain.proofs.IdEquality.{no_id}
 use Rattle.dt_plain.proofs.Walk.{has_at}
 use Rattle.dt_sched.specs.Surroundings.{AreBehind, AreAhead, IsNoObstacle, IsClear, AreCandidates, IsUnhindered}
 use Rattle.dt_sched.specs.IdLists.{AreCommon}

@@ -15,7 +15,7 @@ use Rattle.dt_txn.specs.Replica.{done_ids, view_of}
 use Rattle.dt_region.specs.Region.{RegionState}
 use Rattle.dt_region.specs.Sound.{IsSoundRegion}
 use Rattle.dt_region.proofs.Callers.{fronts_few}
-use Rattle.dt_round.specs.Steps.{steps_of}
+use Rattle.dt_round.specs.StepsInner.{steps_of}
 
 -- no more is inserted than there is
 few_inserted : (counts : List ℕ) (logs : View) → length counts ≡ length logs → ((home : ℕ) → slice_index counts home ≤ length (log_at logs home)) → sum counts ≤ parts_in logs

@@ -18,7 +18,7 @@ use Rattle.dt_session.specs.Step.{IsLegal, next}
 use Rattle.dt_session.specs.Run.{AreLegal, AreLegalFrom, world_after, world_from}
 use Rattle.dt_agreement.proofs.Callers.{legal_append, world_from_append, next_keeps, ordered}
 use Rattle.dt_merge.specs.Merge.{AreLater, IsFed, region_at}
-use Rattle.dt_merge.specs.Own.{HaveGrown, IsSupplied, source_of}
+use Rattle.dt_merge.specs.OwnPart.{HaveGrown, IsSupplied, source_of}
 use Rattle.dt_merge.specs.WorldRegions.{HasInvariant}
 use Rattle.dt_node.specs.Packets.{IsToldOf, IsTruePacket}
 use Rattle.dt_node.specs.Turn.{BringsEntries, BringsRequest, IsBroughtBy}

@@ -26,7 +26,7 @@ use Rattle.dt_run.specs.NodesStand.{AreNodes}
 use Rattle.dt_run.specs.NodesView.{kept_by, no_running_node, opening_nodes}
 use Rattle.dt_run.specs.SeatsInner.{AreBeside, AreLinkedBy, AreNew, AreSeated, SeatView, new_seat, no_seat, nodes_view, seat_at, waits_in}
 use Rattle.dt_run.proofs.FinishedRun.{all_seats, each_seat}
-use Rattle.dt_run.proofs.PhaseMade.{put_back, put_back_is}
+use Rattle.dt_run.proofs.PhaseOfTurns.{put_back, put_back_is}
 use Rattle.dt_run.proofs.OpeningNodes.{AreOpening, opening_nodes_stand}
 
 -- sessions at a region are few

@@ -21,7 +21,7 @@ use Rattle.dt_session.specs.Step.{next}
 use Rattle.dt_session.specs.Run.{AreLegalFrom, world_from}
 use Rattle.dt_agreement.specs.Invariant.{IsPlaceOf}
 use Rattle.dt_agreement.proofs.Callers.{WaitsAt, next_txns, next_keeps, ordered, session_found, waiting_for}
-use Rattle.dt_merge.specs.Own.{HaveGrown, Own, own}
+use Rattle.dt_merge.specs.OwnPart.{HaveGrown, Own, own}
 use Rattle.dt_merge.specs.WorldRegions.{HasInvariant}
 use Rattle.dt_cluster.specs.Valid.{IsValidCluster}
 use Rattle.dt_workload.specs.Valid.{IsValidWorkload}

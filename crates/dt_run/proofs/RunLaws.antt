@@ -28,7 +28,7 @@ use Rattle.dt_world.specs.Telling.{AreSitesAfter}
 use Rattle.dt_world.specs.WorldReport.{report_of}
 use Rattle.dt_node.specs.NodeView.{NodeView}
 use Rattle.dt_node.specs.NodeInWorld.{NodeFits}
-use Rattle.dt_run.specs.Done.{IsAllDone}
+use Rattle.dt_run.specs.EndOfRun.{IsAllDone}
 use Rattle.dt_run.specs.Marks.{kept_by_region}
 use Rattle.dt_run.specs.NodesStand.{AreInStep, AreNodes, BeganEagerly, StandsAmong}
 use Rattle.dt_run.specs.NodesView.{NodesView, kept_by, marks_at, no_running_node, node_in}

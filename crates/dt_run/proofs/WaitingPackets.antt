@@ -18,7 +18,7 @@ use Rattle.dt_workload.specs.declared.Workload.{Workload}
 use Rattle.dt_merge.specs.Merge.{HasLowerStamp, kept_at, those_at}
 use Rattle.dt_node.specs.NodeView.{NodeView, number_of, packet_for}
 use Rattle.dt_node.specs.Packets.{IsTruePacket}
-use Rattle.dt_node.specs.Sending.{copies_of}
+use Rattle.dt_node.specs.TurnPackets.{copies_of}
 use Rattle.dt_node.specs.NodeInWorld.{IsFor, NodeStands}
 use Rattle.dt_run.specs.NodesStand.{AreInStep, AreNodes, LinkTells, StandsAmong}
 use Rattle.dt_run.specs.NodesView.{NodesView, kept_by, link_to, no_running_node, node_in, waiting_at, waiting_between}

@@ -1,6 +1,6 @@
 -- What the proofs of crates above may cite of this crate; they cite nothing else of its proofs.
 pub use Rattle.dt_site.proofs.Lists.{attempt_at, attempts_have, find_some}
-pub use Rattle.dt_site.proofs.Short.{HasShortLists, legal_short}
+pub use Rattle.dt_site.proofs.ListLengths.{HasShortLists, legal_short}
 pub use Rattle.dt_site.proofs.SitesInWorlds.{Steps, after_more, held_in_log, received_stay, a_region, inv, many_here, order, others_stand, own_of, outcome_here, own_log, run_more, txns_stay}
 pub use Rattle.dt_site.proofs.Moves.{can_move, counter_few, fits_region, holds_valid}
 pub use Rattle.dt_site.proofs.Opening.{opening_node_is, opening_stands}

@@ -13,12 +13,12 @@ use Rattle.dt_sched.specs.Decide.{IsResolvable}
 use Rattle.dt_sched.proofs.Callers.{class_of_member, in_own_class, reach_source}
 use Rattle.dt_class.specs.Graphs.{AdjView, AreAllBlocked, IsEdge, IsInClass, IsSource, Leads}
 use Rattle.dt_queue.specs.Queues.{Waiting, neighbours}
-use Rattle.dt_waits.specs.Left.{IsLeft, IsFree, IsOrderly}
+use Rattle.dt_waits.specs.LeftInGraph.{IsLeft, IsFree, IsOrderly}
 use Rattle.dt_waits.specs.Waits.{id_at, HoldsUp}
 use Rattle.dt_waits.specs.Graph.{GraphView, KeepsGraph, IsStuck}
 use Rattle.dt_waits.specs.Among.{HasNeighbour, IsAmong, WaitsOutside}
-use Rattle.dt_waits.proofs.IsLeft.{done_left, left_after, left_decided, out_of_not_left, resolvable_apart, resolvable_left, undone_before}
-use Rattle.dt_waits.proofs.HoldsUp.{edge_of_waits, free_by_queues, reach_by_queues}
+use Rattle.dt_waits.proofs.LeftTransactions.{done_left, left_after, left_decided, out_of_not_left, resolvable_apart, resolvable_left, undone_before}
+use Rattle.dt_waits.proofs.ChainsOfWaits.{edge_of_waits, free_by_queues, reach_by_queues}
 use Rattle.dt_waits.proofs.DegreeZero.{place_has, same_place}
 use Rattle.dt_waits.proofs.NeighbourChains.{neighbour_waits}
 

@@ -29,7 +29,7 @@ use Rattle.dt_agreement.proofs.Callers.{lookup_has, legal_agree, executable_know
 use Rattle.dt_site.proofs.Callers.{order}
 use Rattle.dt_world.specs.SessionReplay.{ran_at}
 use Rattle.dt_world.specs.WorldReport.{IsOutcomeOf, ran, ran_of, rans_of}
-use Rattle.dt_world.proofs.Growth.{grows_to, legal_at, split_at}
+use Rattle.dt_world.proofs.GrowingNodes.{grows_to, legal_at, split_at}
 
 -- an executed id has an outcome
 

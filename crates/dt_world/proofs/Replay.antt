@@ -29,7 +29,7 @@ use Rattle.dt_world.specs.WorldSessions.{no_session}
 use Rattle.dt_world.specs.SessionReplay.{IsReply, after_reply, after_submission, replay_of, count_at, wait_at}
 use Rattle.dt_world.specs.WorldReport.{IsReplyOf, answered_session, replies_from, reply_for, reply_to}
 use Rattle.dt_world.proofs.Executions.{serial_is}
-use Rattle.dt_world.proofs.Growth.{NodeGrows, grows_past}
+use Rattle.dt_world.proofs.GrowingNodes.{NodeGrows, grows_past}
 use Rattle.dt_world.proofs.PlacesOfNames.{no_session_of_none, place_set, session_of_place}
 
 -- replies, with one more event

@@ -40,8 +40,8 @@ use Rattle.dt_world.specs.WorldReport.{IsOutcomeOf, IsReplyOf, answered_name, an
 use Rattle.dt_world.proofs.Executions.{executed_at, order_again, order_new, order_other, outcomes_kept, rans_more}
 use Rattle.dt_world.proofs.Replay.{answer_executed, answer_follows, answer_kept, answer_own, answer_region, answer_replies, answer_waits, now_followed, now_legal, now_listed}
 use Rattle.dt_world.proofs.Replay.{append_same, deliver_same, execute_same, insert_same, replies_more, resolve_same, submit_few, submit_follows, submit_region}
-use Rattle.dt_world.proofs.SitesTold.{reached}
-use Rattle.dt_world.proofs.Growth.{split_at}
+use Rattle.dt_world.proofs.ReportLookups.{reached}
+use Rattle.dt_world.proofs.GrowingNodes.{split_at}
 use Rattle.dt_site.proofs.Callers.{many_here}
 use Rattle.dt_world.proofs.NothingLeftOut.{all_are_answered, all_are_ran}
 use Rattle.dt_world.proofs.WorldLaws.{many_sites, submitted_few}

@@ -7,7 +7,7 @@ use Rattle.dt_graph.proofs.WalkByPlaces.{item_in}
 use Rattle.dt_graph.proofs.ReadyFollowers.{slots_spare, wakes_next}
 use Rattle.dt_graph.proofs.Degrees.{lowered_next, taken_by}
 use Rattle.dt_graph.proofs.Removals.{leaving_slots, leaving_wait}
-use Rattle.dt_graph.proofs.Wakes.{followed_decided}
+use Rattle.dt_graph.proofs.ReadyVertices.{followed_decided}
 use Rattle.dt_graph.proofs.leave.free_all.Goals as goal
 
 pub free_slots-requires-clause-wait : goal.free_slots-requires-clause-wait

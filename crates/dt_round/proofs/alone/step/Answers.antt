@@ -8,7 +8,7 @@ use Rattle.dt_sched.specs.Sched.{CanExecute, CanResolve, IsNextClass, IsNextRead
 use Rattle.dt_region.specs.Conditions.{CanMove, HoldsValid}
 use Rattle.dt_region.specs.Region.{HasStamp, RegionView, sched_of}
 use Rattle.dt_region.specs.RegionInner.{HasInsertedAll}
-use Rattle.dt_round.specs.Steps.{InsertsSome, StepsOn}
+use Rattle.dt_round.specs.StepsInner.{InsertsSome, StepsOn}
 use Rattle.dt_round.proofs.OneStep.{executes, resolves, stops}
 use Rattle.dt_round.proofs.alone.step.Goals as goal
 

@@ -2,8 +2,8 @@ use Rattle.std.proofs.Common.{◌≤◌, ◌<◌, [], length, refl, subst, ◌�
 use Rattle.dt_access.specs.Orders.{HasAscendingKeys}
 use Rattle.dt_node.specs.NodeView.{NodeView}
 use Rattle.dt_node.specs.Turn.{MaySubmitAt}
-use Rattle.dt_node.proofs.Beginning.{begun_all, begun_more, begun_none}
-use Rattle.dt_node.proofs.SteppedSessions.{submitted_all, submitted_more, submitted_none}
+use Rattle.dt_node.proofs.EagerStart.{begun_all, begun_more, begun_none}
+use Rattle.dt_node.proofs.SessionSteps.{submitted_all, submitted_more, submitted_none}
 use Rattle.dt_node.proofs.SmallNumbers.{session_here, sessions_past}
 use Rattle.dt_node.proofs.CallAfterCall.{made_nothing, moves_more}
 use Rattle.dt_node.proofs.SessionsByPlace.{all_submitted, ends_more, ends_none}

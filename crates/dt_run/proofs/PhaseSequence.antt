@@ -4,8 +4,8 @@ use Rattle.std.proofs.Math.Nat.{le-max_left, le-max_right}
 use Rattle.dt_lists.proofs.Callers.{front_trans}
 use Rattle.dt_node.specs.NodeView.{new_items}
 use Rattle.dt_text.specs.declared.NoMemory.{NoMemory}
-use Rattle.dt_run.specs.Done.{IsAllDone}
-use Rattle.dt_run.specs.Helping.{HasRunOn}
+use Rattle.dt_run.specs.EndOfRun.{IsAllDone}
+use Rattle.dt_run.specs.HelpersInner.{HasRunOn}
 use Rattle.dt_run.specs.Marks.{kept_by_region}
 use Rattle.dt_run.specs.NodesView.{NodesView, node_in}
 use Rattle.dt_run.specs.Phase.{IsPhase, KeepsEvents}

@@ -32,7 +32,7 @@ use Rattle.dt_node.proofs.PlacedRequests.{has_placed_if, placed_to_if}
 use Rattle.dt_node.proofs.CallsOfNode.{place_moves, receive_moves}
 use Rattle.dt_node.proofs.CallAfterCall.{made_nothing, new_are, new_none}
 use Rattle.dt_node.proofs.Rule2Append.{can_place, first_of_rest, place_goes}
-use Rattle.dt_node.proofs.Ready.{one_more}
+use Rattle.dt_node.proofs.CallConditions.{one_more}
 
 -- the request that such a packet asks for
 wanted : {cluster : Cluster} {workload : Workload} {events : List Event} {a : NodeView} (source number : ℕ) (txn : Txn) → AreTold cluster workload events (asking_packet a source number (txn ∷ []) ∷ []) a

@@ -36,7 +36,7 @@ use Rattle.dt_site.specs.declared.Origin.{Origin}
 use Rattle.dt_merge.proofs.Callers.{node_there}
 use Rattle.dt_node.specs.NodeView.{NodeView, new_items, number_of}
 use Rattle.dt_node.specs.NodeInWorld.{AreTold, NodeFits}
-use Rattle.dt_run.specs.Done.{IsAllDone}
+use Rattle.dt_run.specs.EndOfRun.{IsAllDone}
 use Rattle.dt_run.specs.NodesStand.{AreNodes}
 use Rattle.dt_run.specs.NodesView.{NodesView, node_in, waiting_at}
 use Rattle.dt_run.specs.Phase.{IsPhase, TurnsOnce}

@@ -16,7 +16,7 @@ use Rattle.dt_session.specs.Run.{world_after}
 use Rattle.dt_site.proofs.Callers.{HasShortLists, counter_few, holds_valid, legal_short}
 use Rattle.dt_node.specs.NodeView.{NodeView, number_of}
 use Rattle.dt_node.specs.TurnInner.{CanGo}
-use Rattle.dt_node.proofs.Few.{few_events}
+use Rattle.dt_node.proofs.EventLimit.{few_events}
 use Rattle.dt_node.proofs.EventsGoOn.{reached}
 
 module _ {procs : List ProcTree} {packets : List Packet} {n : NodeView} (c : CanGo procs packets n) where

@@ -15,7 +15,7 @@ use Rattle.dt_region.specs.Sound.{IsSoundRegion}
 use Rattle.dt_session.specs.Sessions.{MayBeAnswered, MayGo, SessionsView, after_answer, after_wait, answered_seat, seat_of, waiting, waits_of}
 use Rattle.dt_site.specs.declared.Origin.{Origin}
 use Rattle.dt_site.specs.Site.{SiteView, MakesAttempt, in_region}
-use Rattle.dt_node.specs.Measure.{left_for}
+use Rattle.dt_node.specs.MeasureInner.{left_for}
 use Rattle.dt_node.specs.NodeView.{NodeView, new_items, number_of}
 use Rattle.dt_node.specs.Turn.{HasPlacedOwn, MayAnswerAt, last_at}
 use Rattle.dt_node.specs.Steps.{IsNextAt}

@@ -23,7 +23,7 @@ use Rattle.dt_region.specs.Rules.{after_append, after_submit, txn_for, with_even
 use Rattle.dt_region.specs.Sound.{IsSoundRegion}
 use Rattle.dt_region.proofs.Callers.{latest_more}
 use Rattle.dt_test_round.specs.FedRegion.{WasFed}
-use Rattle.dt_test_round.proofs.Delivered.{held_more}
+use Rattle.dt_test_round.proofs.OneDelivery.{held_more}
 
 -- a submission
 

@@ -1,3 +1,4 @@
+-- The item that went through a ring last, as one more goes through it.
 use Rattle.std.proofs.Common.{◌≡◌, List, [], ◌∷◌, ◌++◌, Some, refl}
 use Rattle.std.specs.declared.snapshot.Snapshot.{Snapshot}
 use Rattle.dt_pool.specs.Links.{last_in, last_item}

@@ -39,8 +39,8 @@ use Rattle.dt_node.specs.Turn.{BeginsEagerly, HasGone, HasPlacedOwn, MayAnswerAt
 use Rattle.dt_node.specs.Steps.{AllWhoMight, is_own, own_to_place, placings}
 use Rattle.dt_node.specs.StepsInner.{IsAnswering, IsSubmission, StepsAt}
 use Rattle.dt_node.specs.TurnInner.{EndsAll, EndsOne, HasGoneOn}
-use Rattle.dt_node.specs.Beginning.{BeginsSoFar, HasBegun}
-use Rattle.dt_node.proofs.SteppedSessions.{someone}
+use Rattle.dt_node.specs.EagerStartInner.{BeginsSoFar, HasBegun}
+use Rattle.dt_node.proofs.SessionSteps.{someone}
 use Rattle.dt_node.proofs.CallAfterCall.{gone_more, new_joined, new_none}
 use Rattle.dt_node.proofs.SeatOrder.{opening_seats, set_behind}
 use Rattle.dt_node.proofs.TurnStops.{begins_more}

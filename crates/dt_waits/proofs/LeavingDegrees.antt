@@ -7,11 +7,11 @@ use Rattle.dt_lists.proofs.Callers.{all_get, all_put}
 use Rattle.dt_access.specs.declared.TxnId.{TxnId}
 use Rattle.dt_sched.specs.Views.{View}
 use Rattle.dt_queue.specs.Queues.{Waiting, neighbours}
-use Rattle.dt_waits.specs.Left.{IsLeft}
+use Rattle.dt_waits.specs.LeftInGraph.{IsLeft}
 use Rattle.dt_waits.specs.Waits.{id_at, degree, lowered_by, others}
 use Rattle.dt_waits.specs.Graph.{GraphView, KeepsGraph}
 use Rattle.dt_waits.specs.Steps.{MayLeave}
-use Rattle.dt_waits.proofs.IsLeft.{left_decided}
+use Rattle.dt_waits.proofs.LeftTransactions.{left_decided}
 use Rattle.dt_waits.proofs.Degrees.{lowered_fits}
 use Rattle.dt_waits.proofs.DegreeZero.{zero_sum}
 

@@ -21,7 +21,7 @@ use Rattle.dt_session.specs.Run.{world_after}
 use Rattle.dt_site.specs.Site.{node_of}
 use Rattle.dt_merge.specs.Merge.{HasLowerStamp, those_at}
 use Rattle.dt_node.specs.NodeView.{NodeView, most_items, new_items, number_of, packet_for, stretch_from}
-use Rattle.dt_node.specs.Sending.{copies_of}
+use Rattle.dt_node.specs.TurnPackets.{copies_of}
 use Rattle.dt_node.specs.NodeInWorld.{AreTold, NodeFits}
 use Rattle.dt_node.specs.Turn.{HasHeard, IsTaken, greatest, those_from}
 use Rattle.dt_run.specs.Marks.{kept_by_region, plan_of}

@@ -1,6 +1,6 @@
 -- What is left in the graph. Once all that reaches a transaction is done, it is out: nothing waits for it, and no later part
 -- reaches it. So a scheduler may forget it, and answer from what is left alone. What it answers is stated of the whole view
--- (dt_sched); that what is left determines it is in proofs/IsLeft.antt and proofs/ExecutableTest.antt. Read next: `Waits`, for
+-- (dt_sched); that what is left determines it is in proofs/LeftTransactions.antt and proofs/ExecutableTest.antt. Read next: `Waits`, for
 -- what waits for what among these.
 use Rattle.std.specs.Prelude.{◌≡◌, ◌⊎◌, ◌≤◌, List, length}
 use Rattle.dt_lists.specs.Lists.{AnyIn, Has}

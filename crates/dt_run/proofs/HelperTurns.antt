@@ -2,9 +2,9 @@
 use Rattle.std.proofs.Common.{◌≡◌, ◌<◌, ◌+◌, ◌⊎◌, ℕ, zero, suc, Bool, false, eqb, All, List, Option, Some, get_or, length, slice_get, sym, subst, ◌∙◌, inl, inr, arith}
 use Rattle.std.proofs.lemmas.Bool.{false≢true}
 use Rattle.dt_proc.specs.Tree.{ProcTree}
-use Rattle.dt_run.specs.Helping.{LendsTurns}
+use Rattle.dt_run.specs.HelpersInner.{LendsTurns}
 use Rattle.dt_run.specs.SeatsInner.{EachGoes, SeatCan, SeatGoes, SeatView, no_seat, seat_at}
-use Rattle.dt_run.proofs.PhaseMade.{put_back, put_back_is}
+use Rattle.dt_run.proofs.PhaseOfTurns.{put_back, put_back_is}
 
 -- a number is below another one, or how far it is not
 below : (m n : ℕ) → (m < n) ⊎ ((k : ℕ) × (m ≡ n + k))

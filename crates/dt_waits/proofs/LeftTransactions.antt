@@ -10,7 +10,7 @@ use Rattle.dt_sched.specs.Views.{View, Edge, Reaches, IsPresent, IsClosed, IsLon
 use Rattle.dt_sched.specs.Decide.{IsExecutable, IsResolvable, IsSound}
 use Rattle.dt_sched.proofs.Callers.{each_reaching_decided, edge_target, ids_in, has_of_present, reach_decided, reach_source, has_id_decided}
 use Rattle.dt_sched.proofs.Callers.{complete_of_closed, present_of_complete, present_decided, reaches_back, reaches_longer, class_of, class_of_member, class_unique, several_in_class}
-use Rattle.dt_waits.specs.Left.{IsOut, IsLeft, LeftEdge, IsInResolved, IsOrderly}
+use Rattle.dt_waits.specs.LeftInGraph.{IsOut, IsLeft, LeftEdge, IsInResolved, IsOrderly}
 
 pub out_decided : (view : View) (done : List TxnId) (t : TxnId) → Either (IsOut view done t)
 out_decided view done t = each_reaching_decided view t (Has done) (has_id_decided done)

@@ -20,7 +20,7 @@ use Rattle.dt_merge.specs.Merge.{those_at}
 use Rattle.dt_merge.specs.WorldRegions.{HasInvariant}
 use Rattle.dt_node.specs.NodeView.{NodeView, number_of, packet_for}
 use Rattle.dt_node.specs.Packets.{IsToldOf}
-use Rattle.dt_node.specs.Sending.{copies_of}
+use Rattle.dt_node.specs.TurnPackets.{copies_of}
 use Rattle.dt_node.specs.NodeInWorld.{NodeFits}
 use Rattle.dt_node.specs.Turn.{BringsEntries, BringsRequest}
 use Rattle.dt_run.specs.Marks.{IsToldIn, WasAskedBefore, WerePlacedBefore, kept_before, placings_in, plan_of, submissions_in}

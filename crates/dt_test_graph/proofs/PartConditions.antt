@@ -4,7 +4,7 @@ use Rattle.std.proofs.lemmas.List.Sums.{sum_by-cons}
 use Rattle.dt_lists.specs.Lists.{AllIn}
 use Rattle.dt_sched.specs.Views.{View}
 use Rattle.dt_sched.specs.Sched.{parts_in}
-use Rattle.dt_test_graph.specs.Fitting.{IsShort}
+use Rattle.dt_test_graph.specs.PartConditions.{IsShort}
 
 -- few short logs have few parts
 pub few_parts : (view : View) → AllIn IsShort view → parts_in view ≤ 100 * length view

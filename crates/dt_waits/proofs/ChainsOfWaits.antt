@@ -14,10 +14,10 @@ use Rattle.dt_access.specs.declared.Part.{Part}
 use Rattle.dt_access.proofs.Callers.{either_id}
 use Rattle.dt_sched.specs.Views.{View, log_at, ids_of, AreClashing, Edge, Reaches, IsWellFormed}
 use Rattle.dt_sched.proofs.Callers.{clash_of_uses, uses_of_clash, edge_at_home, home_of_edge}
-use Rattle.dt_waits.specs.Left.{IsLeft, LeftEdge, IsFree}
+use Rattle.dt_waits.specs.LeftInGraph.{IsLeft, LeftEdge, IsFree}
 use Rattle.dt_queue.specs.Queues.{Waiting, entries_clash, neighbours}
 use Rattle.dt_waits.specs.Waits.{id_at, IsUseOf, WaitsWith, FollowsLog, AreUses, HoldsUp}
-use Rattle.dt_waits.proofs.IsLeft.{left_chain}
+use Rattle.dt_waits.proofs.LeftTransactions.{left_chain}
 use Rattle.dt_waits.proofs.NeighbourChains.{neighbour_waits, neighbours_split, nearest_clash, IsNeighbour, chain_of_clash}
 
 -- of two parts that clash in a log, the ids stand in their order

@@ -22,7 +22,7 @@ use Rattle.dt_queue.specs.NextInner.{IsFirstAfter}
 use Rattle.dt_queue.specs.Queues.{IsQueued, Waiting, follower_of, followers_after, is_at, is_neighbour, nearest, neighbours, taken_out}
 use Rattle.dt_queue.specs.RowsInner.{granule_at, granule_name, name_at}
 use Rattle.dt_queue.proofs.InOrder.{IsListed, Rise, listed, listed_less, listed_more, same_list}
-use Rattle.dt_queue.proofs.ShownLists.{Slots, after_is, before_is, entry_is, greater, lesser, meets, near_in, near_rises, nearest_is, of_near, slots_of_list, to_near, without_is}
+use Rattle.dt_queue.proofs.EntryLists.{Slots, after_is, before_is, entry_is, greater, lesser, meets, near_in, near_rises, nearest_is, of_near, slots_of_list, to_near, without_is}
 
 or_one : (s t : Bool) → (s ≡ true) ⊎ (t ≡ true) → (s || t) ≡ true
 or_one true t e = refl

@@ -20,7 +20,7 @@ use Rattle.dt_session.specs.Run.{world_after}
 use Rattle.dt_agreement.proofs.Callers.{IsRequest, request_is}
 use Rattle.dt_site.proofs.Callers.{attempts_have, find_some, inv, order}
 use Rattle.dt_node.specs.NodeView.{NodeView, entry_held, most_items, number_of, stretch_from}
-use Rattle.dt_node.specs.Sending.{LeavesNothingOut}
+use Rattle.dt_node.specs.TurnPackets.{LeavesNothingOut}
 use Rattle.dt_node.specs.NodeInWorld.{NodeFits}
 use Rattle.dt_node.specs.TurnInner.{CanGo}
 use Rattle.dt_node.proofs.EventsGoOn.{reached}

@@ -8,7 +8,7 @@ use Rattle.dt_sched.specs.Views.{View, IsClass, IsClosed, IsLonger, IsWellFormed
 use Rattle.dt_sched.specs.Decide.{IsExecutable, IsResolvable}
 use Rattle.dt_sched.specs.Sched.{CanInsert, with_part}
 use Rattle.dt_sched.proofs.Callers.{class_stays, reaches_back, sound_at_first, sound_execute, sound_longer, sound_resolve, with_part_longer, with_part_well_formed}
-use Rattle.dt_waits.specs.Left.{IsOrderly}
+use Rattle.dt_waits.specs.LeftInGraph.{IsOrderly}
 
 pub orderly_at_first : (regions : ℕ) → IsOrderly (replicate regions []) [] []
 orderly_at_first regions = record { sound = sound_at_first regions; settled = λ t ids d c two. absurd d; before = λ ids u t h m r. absurd h }

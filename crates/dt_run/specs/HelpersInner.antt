@@ -6,7 +6,7 @@ use Rattle.dt_lists.specs.Lists.{AllIn}
 use Rattle.dt_proc.specs.Tree.{ProcTree}
 use Rattle.dt_session.specs.Sessions.{EachNameIsAnswered}
 use Rattle.dt_text.specs.declared.NoMemory.{NoMemory}
-use Rattle.dt_run.specs.Done.{HasDone, IsAllDone}
+use Rattle.dt_run.specs.EndOfRun.{HasDone, IsAllDone}
 use Rattle.dt_run.specs.NodesView.{NodesView}
 use Rattle.dt_run.specs.Phase.{KeepsEvents}
 use Rattle.dt_run.specs.SeatsInner.{SeatCan, SeatGoes, SeatView, nodes_view}

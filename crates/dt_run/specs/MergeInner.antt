@@ -1,4 +1,5 @@
--- Scaffolding: which of the lists of kept events a merge takes its next event from. Read `Run` for what callers see.
+-- Scaffolding: which of the lists of kept events a merge takes its next event from: the one whose first event has the least
+-- stamp, and of several the one of the least region. Read `Run` for what callers see.
 use Rattle.std.specs.Prelude.{◌≡◌, ◌≢◌, ◌<◌, ◌⊎◌, ℕ, List, [], ◌∷◌, ◌++◌, length, Option, None, Some}
 use Rattle.dt_events.specs.declared.Event.{Event}
 use Rattle.dt_events.specs.declared.Stamped.{Stamped}
