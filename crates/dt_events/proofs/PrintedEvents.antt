@@ -194,7 +194,7 @@ one_event line d e is_d is_e =
 -- ---- a file of printed events
 
 -- a byte that ends no line
-abbrev within_line : ℕ → Bool
+abbrev pub within_line : ℕ → Bool
 within_line b = not (b == 10)
 
 visible_within : (b : ℕ) → is_visible b ≡ true → within_line b ≡ true
