@@ -210,36 +210,40 @@ module _ (k : Kept) (kept : AreQueuesKept k) where
       by true e = ap (λ l. entry k.rows.names.keys q ∷ l) e
       by false e = e
 
+  -- the cells that follow a cell of a slot behind another cell
+  abbrev cells_behind : ℕ → Cell → List (ℕ × Cell)
+  cells_behind slot y = filter (λ (q : ℕ × Cell). is_neighbour (waiting_of k) slot q.0) (greater y.number (in_order (entries k.cells)))
+
   -- what is said of the first mark that is next is said of the first follower
   pub follower_is : (slot : ℕ) (x : Cell) → get k.cells slot ≡ Some x → (place : ℕ) (y : Cell) → get k.cells place ≡ Some y → (o : Option Mark) → IsFirstAfter (IsNextMark k x) y.number o
       → option_map (λ (m : Mark). record { slot = m.slot; vertex = m.vertex }) o ≡ slice_get (map follower_of (followers_after (waiting_of k) slot place)) 0
   follower_is slot x e place y f o first =
       shown o first ∙ ap (λ ws. slice_get (map follower_of ws) 0) (sym list)
     where
-      list : followers_after (waiting_of k) slot place ≡ map (entry k.rows.names.keys) (filter (λ (q : ℕ × Cell). is_neighbour (waiting_of k) slot q.0) (greater y.number (in_order (entries k.cells))))
+      list : followers_after (waiting_of k) slot place ≡ map (entry k.rows.names.keys) (cells_behind slot y)
       list = ap (filter (λ w. is_neighbour (waiting_of k) slot w.slot)) (after_is k.rows.names.keys (in_order (entries k.cells)) (place, y) the_list.numbered the_slots (in_list place y f))
           ∙ filter_shown slot (greater y.number (in_order (entries k.cells)))
 
-      rises : EachThen Rise (filter (λ (q : ℕ × Cell). is_neighbour (waiting_of k) slot q.0) (greater y.number (in_order (entries k.cells))))
+      rises : EachThen Rise (cells_behind slot y)
       rises = filter_each Rise (λ (q : ℕ × Cell). is_neighbour (waiting_of k) slot q.0) (greater y.number (in_order (entries k.cells)))
           (filter_each Rise (λ (q : ℕ × Cell). nat_lt y.number q.1.number) (in_order (entries k.cells)) the_list.numbered)
 
-      of_F : (q : ℕ × Cell) → Has (filter (λ (q : ℕ × Cell). is_neighbour (waiting_of k) slot q.0) (greater y.number (in_order (entries k.cells)))) q → IsNextMark k x (mark_of q.0 q.1) × (y.number < q.1.number)
+      of_F : (q : ℕ × Cell) → Has (cells_behind slot y) q → IsNextMark k x (mark_of q.0 q.1) × (y.number < q.1.number)
       of_F q h =
           let a = has_of_filtered (λ (q : ℕ × Cell). is_neighbour (waiting_of k) slot q.0) (greater y.number (in_order (entries k.cells))) q h in
           let b = has_of_filtered (λ (q : ℕ × Cell). nat_lt y.number q.1.number) (in_order (entries k.cells)) q a.0 in
           (next_of slot x e q b.0 a.1, ltb-true _ _ b.1)
 
       to_F : (q : ℕ × Cell) → Has (in_order (entries k.cells)) q → IsNextMark k x (mark_of q.0 q.1) → y.number < q.1.number
-          → Has (filter (λ (q : ℕ × Cell). is_neighbour (waiting_of k) slot q.0) (greater y.number (in_order (entries k.cells)))) q
+          → Has (cells_behind slot y) q
       to_F q own n lt =
           has_filter (λ (q : ℕ × Cell). is_neighbour (waiting_of k) slot q.0) (greater y.number (in_order (entries k.cells))) q
           (has_filter (λ (q : ℕ × Cell). nat_lt y.number q.1.number) (in_order (entries k.cells)) q own (lt-ltb _ _ lt)) (to_next slot x e q own n)
 
       shown : (o : Option Mark) → IsFirstAfter (IsNextMark k x) y.number o
           → option_map (λ (m : Mark). record { slot = m.slot; vertex = m.vertex }) o
-          ≡ slice_get (map follower_of (map (entry k.rows.names.keys) (filter (λ (q : ℕ × Cell). is_neighbour (waiting_of k) slot q.0) (greater y.number (in_order (entries k.cells)))))) 0
-      shown None none = by (filter (λ (q : ℕ × Cell). is_neighbour (waiting_of k) slot q.0) (greater y.number (in_order (entries k.cells)))) (λ q h. of_F q h)
+          ≡ slice_get (map follower_of (map (entry k.rows.names.keys) (cells_behind slot y))) 0
+      shown None none = by (cells_behind slot y) (λ q h. of_F q h)
         where
           by : (L : List (ℕ × Cell)) → ((q : ℕ × Cell) → Has L q → IsNextMark k x (mark_of q.0 q.1) × (y.number < q.1.number)) → None ≡ slice_get (map follower_of (map (entry k.rows.names.keys) L)) 0
           by [] g = refl
@@ -247,12 +251,12 @@ module _ (k : Kept) (kept : AreQueuesKept k) where
             where
               late : (q : ℕ × Cell) → q.1.number ≤ y.number → y.number < q.1.number → ⊥
               late q le lt = omega (arith, le, lt)
-      shown (Some m) found = by (filter (λ (q : ℕ × Cell). is_neighbour (waiting_of k) slot q.0) (greater y.number (in_order (entries k.cells)))) rises (λ q h. of_F q h) here
+      shown (Some m) found = by (cells_behind slot y) rises (λ q h. of_F q h) here
         where
           number : m.number ≡ found.0.0.number
           number = ap (λ (n : Mark). n.number) found.0.2
 
-          here : Has (filter (λ (q : ℕ × Cell). is_neighbour (waiting_of k) slot q.0) (greater y.number (in_order (entries k.cells)))) (m.slot, found.0.0)
+          here : Has (cells_behind slot y) (m.slot, found.0.0)
           here = to_F (m.slot, found.0.0) (in_list m.slot found.0.0 found.0.1) (subst (IsNextMark k x) found.0.2 found.0) (subst (λ n. y.number < n) number found.1)
 
           told : (q : ℕ × Cell) → q ≡ (m.slot, found.0.0) → record { slot = m.slot; vertex = m.vertex } ≡ follower_of (entry k.rows.names.keys q)

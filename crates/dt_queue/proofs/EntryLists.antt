@@ -210,6 +210,12 @@ module _ (names : List (ℕ × Bytes)) where
       lower : Has later b → y.1.number < b.1.number
       lower g = all_get (Rise y) later num.0 b g
 
+      behind : (m : ℕ × Cell) → y ≡ m → b.1.number < m.1.number → y.1.number < b.1.number → ⊥
+      behind m same lt le = omega (arith, lt, le, ap (λ (z : ℕ × Cell). z.1.number) same)
+
+      more : Has later b × (meets b x ≡ true) × IsFreeOfBoth x later b → Has (y ∷ later) b × (meets b x ≡ true) × IsFreeOfBoth x (y ∷ later) b
+      more r = (inr r.0, r.1, λ m k lt s. elim k [ inl same ↦ absurd (behind m same lt (lower r.0)) | inr j ↦ r.2 m j lt s ])
+
       by : (t : Bool) → (meets y x && is_free x y later) ≡ t → Has (cond t (y ∷ near_in x later) (near_in x later)) b → (Has (near_in x later) b → Has later b × (meets b x ≡ true) × IsFreeOfBoth x later b)
           → Has (y ∷ later) b × (meets b x ≡ true) × IsFreeOfBoth x (y ∷ later) b
       by true e (inl f) rest = (
@@ -221,19 +227,7 @@ module _ (names : List (ℕ × Bytes)) where
           self : (m : ℕ × Cell) → y ≡ m → y.1.number < m.1.number → ⊥
           self m same lt = omega (arith, lt, ap (λ (z : ℕ × Cell). z.1.number) same)
       by true e (inr g) rest = more (rest g)
-        where
-          more : Has later b × (meets b x ≡ true) × IsFreeOfBoth x later b → Has (y ∷ later) b × (meets b x ≡ true) × IsFreeOfBoth x (y ∷ later) b
-          more r = (inr r.0, r.1, λ m k lt s. elim k [ inl same ↦ absurd (behind m same lt (lower r.0)) | inr j ↦ r.2 m j lt s ])
-            where
-              behind : (m : ℕ × Cell) → y ≡ m → b.1.number < m.1.number → y.1.number < b.1.number → ⊥
-              behind m same lt le = omega (arith, lt, le, ap (λ (z : ℕ × Cell). z.1.number) same)
       by false e g rest = more (rest g)
-        where
-          more : Has later b × (meets b x ≡ true) × IsFreeOfBoth x later b → Has (y ∷ later) b × (meets b x ≡ true) × IsFreeOfBoth x (y ∷ later) b
-          more r = (inr r.0, r.1, λ m k lt s. elim k [ inl same ↦ absurd (behind m same lt (lower r.0)) | inr j ↦ r.2 m j lt s ])
-            where
-              behind : (m : ℕ × Cell) → y ≡ m → b.1.number < m.1.number → y.1.number < b.1.number → ⊥
-              behind m same lt le = omega (arith, lt, le, ap (λ (z : ℕ × Cell). z.1.number) same)
 
   pub to_near : (x : ℕ × Cell) (B : List (ℕ × Cell)) → EachThen Rise B → (b : ℕ × Cell) → Has B b → meets b x ≡ true → IsFreeOfBoth x B b → Has (near_in x B) b
   to_near x [] num b h e free = absurd h
