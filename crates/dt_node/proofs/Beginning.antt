@@ -76,7 +76,7 @@ module _ {cluster : Cluster} {workload : Workload} {a : NodeView} (f : NodeFits 
       ∙ ap (λ x. x.here) (get_or-replicate cluster.regions (number_of a) (opening_node cluster.regions (opening_table cluster)) no_node f.number)
 
   taken_none : taken_from a.site.region.state.here (number_of a) ≡ 0
-  taken_none = ap (λ (h : Replica). taken_from h (number_of a)) here_is ∙ get_of_replicate cluster.regions (number_of a) 0
+  taken_none = ap (λ (h : Replica). taken_from h (number_of a)) here_is ∙ get_of_replicate {A = ℕ} cluster.regions (number_of a) 0
 
   pub placed_none : HasPlacedOwn a
   placed_none = ap length (ap (λ (h : Replica). get_or h.asked (number_of a) []) here_is ∙ none_asked cluster.regions (number_of a)) ∙ sym taken_none
