@@ -3,7 +3,7 @@ use Rattle.std.proofs.Common.{◌≡◌, ◌<◌, ◌≤◌, ℕ, zero, suc, Lis
 use Rattle.std.specs.Prelude.{slice_index, flat_map}
 use Rattle.std.proofs.lemmas.List.{length-replicate, get_or-replicate, get_or_past}
 use Rattle.dt_lists.specs.Lists.{AllIn, Has, Pairwise, Either}
-use Rattle.dt_lists.proofs.Callers.{either_le, either_nat}
+use Rattle.dt_lists.proofs.Callers.{either_le, either_nat, get_of_replicate}
 use Rattle.dt_access.specs.declared.TxnId.{TxnId}
 use Rattle.dt_sched.specs.Views.{ids_of}
 use Rattle.dt_sched.specs.Decide.{IsSound}
@@ -64,11 +64,6 @@ module _ (cluster : Cluster) (workload : Workload) where
   no_log : (q : ℕ) → log_of w q ≡ []
   no_log q = of_any (λ n. n.log) [] refl refl q
 
-  of_zeros : (n q : ℕ) → slice_index (replicate n 0) q ≡ 0
-  of_zeros zero q = refl
-  of_zeros (suc n) zero = refl
-  of_zeros (suc n) (suc q) = of_zeros n q
-
   of_empties : (n q : ℕ) → ◌≡◌ {A = List TxnId} (get_or (replicate n []) q []) []
   of_empties zero q = refl
   of_empties (suc n) zero = refl
@@ -86,17 +81,17 @@ module _ (cluster : Cluster) (workload : Workload) where
   none_asked q home = of_any (λ n. get_or n.here.asked home []) [] (of_empties cluster.regions home) (of_empties 0 home) q
 
   none_taken : (home q : ℕ) → taken_of w home q ≡ 0
-  none_taken home q = of_any (λ n. slice_index n.here.taken q) 0 (of_zeros cluster.regions q) (of_zeros 0 q) home
+  none_taken home q = of_any (λ n. slice_index n.here.taken q) 0 (get_of_replicate cluster.regions q 0) (get_of_replicate 0 q 0) home
 
   none_inserted : (q home : ℕ) → slice_index (node_at w q).here.inserted home ≡ 0
-  none_inserted q home = of_any (λ n. slice_index n.here.inserted home) 0 (of_zeros cluster.regions home) (of_zeros 0 home) q
+  none_inserted q home = of_any (λ n. slice_index n.here.inserted home) 0 (get_of_replicate cluster.regions home 0) (get_of_replicate 0 home 0) q
 
   none_received : (q home : ℕ) → q < cluster.regions → received_of w q home ≡ 0
   none_received q home lt = by (either_nat home q)
     where
       by : Either (home ≡ q) → received_of w q home ≡ 0
       by (inl e) = subst (λ h. received_of w q h ≡ 0) (sym e) (received_own w q (subst (λ m. q < m) (sym (sized q lt).received) lt) ∙ ap length (no_log q))
-      by (inr n) = received_other w q home n ∙ of_any (λ x. slice_index x.received home) 0 (of_zeros cluster.regions home) (of_zeros 0 home) q
+      by (inr n) = received_other w q home n ∙ of_any (λ x. slice_index x.received home) 0 (get_of_replicate cluster.regions home 0) (get_of_replicate 0 home 0) q
 
   asked : (q home : ℕ) → q < cluster.regions → home < cluster.regions → asked_of w q home ≡ requests home (node_at w q).submitted
   asked q home lq lh = none_asked q home ∙ sym (ap (requests home) (none_submitted q))

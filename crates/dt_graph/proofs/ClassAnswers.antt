@@ -4,7 +4,7 @@ use Rattle.std.proofs.Common.{◌==◌, eqb-true, eq-eqb}
 use Rattle.std.proofs.lemmas.List.{length-map}
 use Rattle.std.proofs.lemmas.Option.{get_or_from_slice_get, slice_get-get_or}
 use Rattle.dt_lists.specs.Lists.{AnyIn, AllIn, Has, Distinct, EachThen}
-use Rattle.dt_lists.proofs.Callers.{all_get, all_image, all_map, all_put, any_get, any_of_image, any_put, at_place, distinct_within, each_map, each_of_image, has_map, has_place, place_of, place_within}
+use Rattle.dt_lists.proofs.Callers.{all_get, all_image, all_map, all_put, any_get, any_of_image, any_put, at_place, distinct_within, each_map, each_of_image, few_below, has_map, has_place, place_of, place_within}
 use Rattle.dt_access.specs.Ids.{AreAscending}
 use Rattle.dt_access.specs.declared.TxnId.{TxnId}
 use Rattle.dt_access.proofs.Callers.{before_differs}
@@ -20,7 +20,6 @@ use Rattle.dt_graph.specs.SmallStepsInner.{AreIdsAt}
 use Rattle.dt_waits.specs.Steps.{HaveSlots}
 use Rattle.dt_waits.proofs.Callers.{each_leads, member_stuck, none_blocked, not_all_blocked, one_place, place_has, place_leads, same_place, source_resolvable}
 use Rattle.dt_graph.proofs.AscendingNumbers.{full_has, full_length}
-use Rattle.dt_graph.proofs.Subsets.{few_below}
 
 -- stuck vertices have the slots of their entries
 pub stuck_slots : (g : GraphView) → IsSomeGraph g → (list : List ℕ) → AllIn (Has g.stuck) list → HaveSlots g.waiting g.vertices list

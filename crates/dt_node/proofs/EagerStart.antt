@@ -9,7 +9,7 @@ use Rattle.std.proofs.lemmas.Map.{keys-set_value}
 use Rattle.std.proofs.lemmas.Option.{slice_get-map}
 use Rattle.std.proofs.Math.ListN.{drop_of_length-le}
 use Rattle.dt_lists.specs.Lists.{EachThen}
-use Rattle.dt_lists.proofs.Callers.{each_image, each_of_image, has_place}
+use Rattle.dt_lists.proofs.Callers.{each_image, each_of_image, get_of_replicate, has_place}
 use Rattle.dt_access.specs.Clash.{Bytes}
 use Rattle.dt_access.specs.Orders.{HasAscendingKeys, KeyBefore}
 use Rattle.dt_access.specs.declared.TxnId.{TxnId}
@@ -20,7 +20,6 @@ use Rattle.dt_proc.specs.Tree.{ProcTree}
 use Rattle.dt_table.specs.Table.{Table}
 use Rattle.dt_txn.specs.declared.Body.{Body}
 use Rattle.dt_txn.specs.Replica.{Replica, opening_replica, taken_from}
-use Rattle.dt_region.proofs.Callers.{number_none}
 use Rattle.dt_packet.specs.declared.packet.Packet.{Packet}
 use Rattle.dt_cluster.specs.declared.Cluster.{Cluster}
 use Rattle.dt_workload.specs.declared.Ranked.{Ranked}
@@ -77,7 +76,7 @@ module _ {cluster : Cluster} {workload : Workload} {a : NodeView} (f : NodeFits 
       ∙ ap (λ x. x.here) (get_or-replicate cluster.regions (number_of a) (opening_node cluster.regions (opening_table cluster)) no_node f.number)
 
   taken_none : taken_from a.site.region.state.here (number_of a) ≡ 0
-  taken_none = ap (λ (h : Replica). taken_from h (number_of a)) here_is ∙ number_none cluster.regions (number_of a)
+  taken_none = ap (λ (h : Replica). taken_from h (number_of a)) here_is ∙ get_of_replicate {A = ℕ} cluster.regions (number_of a) 0
 
   pub placed_none : HasPlacedOwn a
   placed_none = ap length (ap (λ (h : Replica). get_or h.asked (number_of a) []) here_is ∙ none_asked cluster.regions (number_of a)) ∙ sym taken_none

@@ -15,14 +15,13 @@ ghost use Rattle.dt_region.specs.Rules.{opening_state, MakesSubmit, MakesAppend,
 ghost use Rattle.dt_region.specs.Conditions.{IsTableFor, CanAppend, CanDeliver, CanMove, ComesTo, HasRun, HoldsValid};
 ghost use Rattle.dt_region.specs.Sound.{IsSoundRegion};
 
-use crate::ascent::are_ascending;
 use crate::by_id::ById;
 use crate::entries::{add, keep_all, parts_and_txns, place};
 use crate::foreign::Foreign;
 use crate::kept::Kept;
 use crate::opening::{no_counts, no_ids, no_parts};
 use crate::requests::ask;
-use dt_access::{Ids, TxnId};
+use dt_access::{Ids, TxnId, are_ascending};
 use dt_events::{Event, Stamped};
 use dt_log::{Log, Taken};
 use dt_proc::Procs;

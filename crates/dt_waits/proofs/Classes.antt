@@ -4,7 +4,7 @@ use Rattle.std.proofs.Common.{◌≡◌, ◌≢◌, ◌<◌, ◌≤◌, ◌↔�
 use Rattle.dt_lists.specs.Lists.{AnyIn, AllIn, Has, Distinct, Either}
 use Rattle.dt_lists.specs.Chain.{here, onward}
 use Rattle.dt_lists.proofs.Callers.{all_get, all_put, any_get, any_put, any_map, any_of_image, at_place, chain_before, chain_join, chain_step, chain_takes_back, either_and, either_any, one_place}
-use Rattle.dt_lists.proofs.Callers.{either_has, either_nat, either_not, has_map, has_place, place_of, place_within, two_of_different}
+use Rattle.dt_lists.proofs.Callers.{either_has, either_nat, either_not, has_map, has_place, place_of, place_within, some_same, two_of_different}
 use Rattle.dt_access.specs.Ids.{AreAscending}
 use Rattle.dt_access.specs.declared.TxnId.{TxnId}
 use Rattle.dt_access.proofs.Callers.{before_differs, either_id}
@@ -65,9 +65,6 @@ module _ (view : View) (resolved : List (List TxnId)) (done : List TxnId) (k : I
         let r : (u : ℕ) × (v : ℕ) × (slice_get list p ≡ Some u) × (slice_get list q ≡ Some v) × HasNeighbour g.waiting u v = (a.edges p q).0 e in
         by r.0 r.1 r.2 r.3 r.4 (either_nat u v)
       where
-        some_same : {x y : ℕ} → Some x ≡ Some y → x ≡ y
-        some_same s = cc
-
         by : (x y : ℕ) → slice_get list p ≡ Some x → slice_get list q ≡ Some y → HasNeighbour g.waiting x y → Either (u ≡ v) → Reaches view (id_at g.ids u) (id_at g.ids v)
         by x y ex ey h (inl s) = subst (λ z. Reaches view (id_at g.ids u) (id_at g.ids z)) s here
         by x y ex ey h (inr ne) = chain_step (edge_of_waits view done g.ids g.waiting k.sound.well_formed is.uses (id_at g.ids u) (id_at g.ids v)
@@ -126,9 +123,6 @@ module _ (view : View) (resolved : List (List TxnId)) (done : List TxnId) (k : I
             subst (λ x. Reaches view x (id_at g.ids vertex.0)) (ap (id_at g.ids) (some_same (sym back.1 ∙ f.2)) ∙ f.3) back.2,
             subst (λ x. Reaches view (id_at g.ids vertex.0) x) f.3 (subst (λ x. Reaches view (id_at g.ids x) (id_at g.ids f.1)) (some_same (sym forth.1 ∙ vertex.1)) forth.2),
           )
-        where
-          some_same : {x y : ℕ} → Some x ≡ Some y → x ≡ y
-          some_same s = cc
 
       its_class : IsClass view (id_at g.ids vertex.0) ids
       its_class = record { ascending = ascending; members = λ t. (λ h. found_mutual t h, λ m. found_of_reach t (left_after view done stuck.left m.1) m.0) }
