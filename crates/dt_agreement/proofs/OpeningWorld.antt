@@ -7,7 +7,7 @@ use Rattle.dt_lists.proofs.Callers.{either_le, either_nat, get_of_replicate}
 use Rattle.dt_access.specs.declared.TxnId.{TxnId}
 use Rattle.dt_sched.specs.Views.{ids_of}
 use Rattle.dt_sched.specs.Decide.{IsSound}
-use Rattle.dt_sched.proofs.Callers.{well_formed_front}
+use Rattle.dt_sched.proofs.Callers.{sound_with_none, well_formed_front}
 use Rattle.dt_txn.specs.Replica.{done_ids}
 use Rattle.dt_cluster.specs.declared.Cluster.{Cluster}
 use Rattle.dt_workload.specs.declared.Session.{Session}
@@ -110,18 +110,8 @@ module _ (cluster : Cluster) (workload : Workload) where
   sound q lq =
       subst (IsSound (view_at w q) (node_at w q).here.resolved) (sym (none_done q))
       (subst (λ l. IsSound (view_at w q) l []) (sym (of_any (λ n. n.here.resolved) [] refl refl q))
-      (record {
-        well_formed = well_formed_front (view_at w q) (received_logs w q) (fronts_longer (node_at w q).here.inserted (received_logs w q))
-            (well_formed_front (received_logs w q) (logs_of w) (fronts_longer (received_lengths w q) (logs_of w)) (logs_well_formed cluster.regions w nodes numbered asked logs));
-        done_once = tt;
-        done_closed = tt;
-        done_downward = λ u t h p. absurd h;
-        done_in_order = tt;
-        resolved_once = tt;
-        resolved_several = tt;
-        resolved_closed = tt;
-        resolved_classes = tt;
-      }))
+      (sound_with_none (view_at w q) (well_formed_front (view_at w q) (received_logs w q) (fronts_longer (node_at w q).here.inserted (received_logs w q))
+      (well_formed_front (received_logs w q) (logs_of w) (fronts_longer (received_lengths w q) (logs_of w)) (logs_well_formed cluster.regions w nodes numbered asked logs)))))
 
   tables : (q : ℕ) → q < cluster.regions → IsRunOf cluster (opening_table cluster) (txns_of w (done_ids (node_at w q).here)) (node_at w q).here
   tables q lq = subst (λ n. IsRunOf cluster (opening_table cluster) (txns_of w (done_ids n.here)) n.here) (sym (node q lq)) (record { outcomes = refl; table = refl })
