@@ -402,19 +402,23 @@ module _ {cluster : Cluster} {workload : Workload} (ok : IsValidCluster cluster)
       let a : calls_in workload.sessions * 1 ≤ calls_in workload.sessions * cluster.tries = mul-le (calls_in workload.sessions) 1 (calls_in workload.sessions) cluster.tries (omega arith) ok.tries in
       omega arith
 
+  -- how many attempts a region's sessions made, and how many calls are answered
+  abbrev tried_and_answered : ℕ → ℕ
+  tried_and_answered q = length (node_at w q).submitted + sum_by (λ p. p.answered) (places_at q workload.sessions w.places)
+
+  -- what bounds the weight of a region
+  abbrev weight_limit : ℕ → ℕ
+  weight_limit q = tried_and_answered q + (2 * cluster.regions + 2) * length (submissions w)
+
   -- what has happened is bounded
   pub weight_bounded : world_weight cluster.regions workload w ≤ most_events cluster workload
   unfolding there
   weight_bounded =
-      let a : world_weight cluster.regions workload w
-      ≤ sum_below (λ q. length (node_at w q).submitted + sum_by (λ p. p.answered) (places_at q workload.sessions w.places) + (2 * cluster.regions + 2) * length (submissions w)) cluster.regions =
-      sum_below_le (λ q. weight q (own workload w q))
-      (λ q. length (node_at w q).submitted + sum_by (λ p. p.answered) (places_at q workload.sessions w.places) + (2 * cluster.regions + 2) * length (submissions w)) cluster.regions few_weight in
-      let b : sum_below (λ q. length (node_at w q).submitted + sum_by (λ p. p.answered) (places_at q workload.sessions w.places) + (2 * cluster.regions + 2) * length (submissions w)) cluster.regions
-      ≡ sum_below (λ q. length (node_at w q).submitted + sum_by (λ p. p.answered) (places_at q workload.sessions w.places)) cluster.regions
-      + sum_below (λ q. (2 * cluster.regions + 2) * length (submissions w)) cluster.regions =
-      sum_below_added (λ q. length (node_at w q).submitted + sum_by (λ p. p.answered) (places_at q workload.sessions w.places)) (λ q. (2 * cluster.regions + 2) * length (submissions w)) cluster.regions in
-      let c : sum_below (λ q. length (node_at w q).submitted + sum_by (λ p. p.answered) (places_at q workload.sessions w.places)) cluster.regions
+      let a : world_weight cluster.regions workload w ≤ sum_below weight_limit cluster.regions =
+      sum_below_le (λ q. weight q (own workload w q)) weight_limit cluster.regions few_weight in
+      let b : sum_below weight_limit cluster.regions ≡ sum_below tried_and_answered cluster.regions + sum_below (λ q. (2 * cluster.regions + 2) * length (submissions w)) cluster.regions =
+      sum_below_added tried_and_answered (λ q. (2 * cluster.regions + 2) * length (submissions w)) cluster.regions in
+      let c : sum_below tried_and_answered cluster.regions
       ≡ sum_below (λ q. length (node_at w q).submitted) cluster.regions + sum_below (λ q. sum_by (λ p. p.answered) (places_at q workload.sessions w.places)) cluster.regions =
       sum_below_added (λ q. length (node_at w q).submitted) (λ q. sum_by (λ p. p.answered) (places_at q workload.sessions w.places)) cluster.regions in
       let d : sum_below (λ q. (2 * cluster.regions + 2) * length (submissions w)) cluster.regions ≡ cluster.regions * ((2 * cluster.regions + 2) * length (submissions w)) =

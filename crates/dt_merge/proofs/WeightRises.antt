@@ -22,7 +22,7 @@ use Rattle.dt_cluster.specs.declared.Cluster.{Cluster}
 use Rattle.dt_workload.specs.Valid.{IsValidWorkload}
 use Rattle.dt_workload.specs.declared.Session.{Session}
 use Rattle.dt_workload.specs.declared.Workload.{Workload}
-use Rattle.dt_session.specs.World.{World, Place, is_session, node_at, log_of, received_of, received_logs, txn_of, session_at, with_place}
+use Rattle.dt_session.specs.World.{World, Place, Submission, is_session, node_at, log_of, received_of, received_logs, txn_of, session_at, with_place}
 use Rattle.dt_session.specs.Step.{IsLegal, MayAnswer, MaySubmit, answered, next, next_attempt, placed, received, submitted}
 use Rattle.dt_session.specs.Run.{world_from, AreLegalFrom}
 use Rattle.dt_session.specs.Eager.{AllChange}
@@ -132,18 +132,17 @@ module _ (cluster : Cluster) (ok : IsValidCluster cluster) (workload : Workload)
   unfolding Rises
   submit_rises name may =
       let s : Submits cluster workload w region name = submits cluster ok workload w g.order region name may g.inv in
-      let now : Place = record s.place { waits = Some (attempt_of_own cluster region s.session s.place s.call (own workload w region) (next_attempt w s.place.waits)).txn.id } in
-      let sum_now : sum_by (λ p. p.answered) (with_place (local region workload.sessions) (own workload w region).places region s.session.name now) + s.place.answered
-      ≡ sum_by (λ p. p.answered) (own workload w region).places + s.place.answered =
+      let attempt : Submission = attempt_of_own cluster region s.session s.place s.call (own workload w region) (next_attempt w s.place.waits) in
+      let now : Place = record s.place { waits = Some attempt.txn.id } in
+      let places : List Place = with_place (local region workload.sessions) (own workload w region).places region s.session.name now in
+      let sum_now : sum_by (λ p. p.answered) places + s.place.answered ≡ sum_by (λ p. p.answered) (own workload w region).places + s.place.answered =
       answered_with (local region workload.sessions) (own workload w region).places region s.session.name s.session s.place now (in_own name s.session s.place s.named s.found) in
       subst (λ v. weight region (own workload w region) < weight region (own workload v region)) (sym s.next)
       (subst (λ x. weight region (own workload w region) < weight region x) (sym (own_submitted cluster workload w region room s.session s.place s.call))
-      (by_submitted (length (node_at w region).submitted)
-      (length ((node_at w region).submitted ++ attempt_of_own cluster region s.session s.place s.call (own workload w region) (next_attempt w s.place.waits) ∷ []))
-      (sum_by (λ p. p.answered) (own workload w region).places)
-      (sum_by (λ p. p.answered) (with_place (local region workload.sessions) (own workload w region).places region s.session.name now))
+      (by_submitted (length (node_at w region).submitted) (length ((node_at w region).submitted ++ attempt ∷ []))
+      (sum_by (λ p. p.answered) (own workload w region).places) (sum_by (λ p. p.answered) places)
       (sum (set (node_at w region).received region (length (node_at w region).log))) (sum (node_at w region).here.inserted) (length (node_at w region).here.resolved) (length (node_at w region).here.done)
-      (length_push (node_at w region).submitted (attempt_of_own cluster region s.session s.place s.call (own workload w region) (next_attempt w s.place.waits))) (omega arith)))
+      (length_push (node_at w region).submitted attempt) (omega arith)))
 
   answer_rises : (name : Bytes) → MayAnswer cluster w region (session_at workload.sessions w.places region name) → Rises (answered workload w region (session_at workload.sessions w.places region name))
   unfolding Rises
@@ -156,12 +155,11 @@ module _ (cluster : Cluster) (ok : IsValidCluster cluster) (workload : Workload)
           let f : Has workload.sessions session × (session.name ≡ name) × (session.region ≡ region) × IsPlaceOf cluster.tries w session place =
           session_found (IsPlaceOf cluster.tries w) workload.sessions w.places region name session place g.inv.sessions.places e in
           let now : Place = record { answered = place.answered + 1; waits = None } in
-          let sum_now : sum_by (λ p. p.answered) (with_place (local region workload.sessions) (own workload w region).places region session.name now) + place.answered
-          ≡ sum_by (λ p. p.answered) (own workload w region).places + (place.answered + 1) =
+          let places : List Place = with_place (local region workload.sessions) (own workload w region).places region session.name now in
+          let sum_now : sum_by (λ p. p.answered) places + place.answered ≡ sum_by (λ p. p.answered) (own workload w region).places + (place.answered + 1) =
           answered_with (local region workload.sessions) (own workload w region).places region session.name session place now (in_own name session place f.1 e) in
           subst (λ x. weight region (own workload w region) < weight region x) (sym (own_answered cluster workload w region session place))
-          (by_answered (length (node_at w region).submitted) (sum_by (λ p. p.answered) (own workload w region).places)
-          (sum_by (λ p. p.answered) (with_place (local region workload.sessions) (own workload w region).places region session.name now))
+          (by_answered (length (node_at w region).submitted) (sum_by (λ p. p.answered) (own workload w region).places) (sum_by (λ p. p.answered) places)
           (sum (set (node_at w region).received region (length (node_at w region).log))) (sum (node_at w region).here.inserted) (length (node_at w region).here.resolved)
           (length (node_at w region).here.done) (omega arith))
 
