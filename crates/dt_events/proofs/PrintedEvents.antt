@@ -78,9 +78,12 @@ bare_ids : (ids : List TxnId) → AllIn IsCounted ids → AllIn IsBareWord (map 
 bare_ids [] all = tt
 bare_ids (id ∷ ids) all = (bare_id id all.0, bare_ids ids all.1)
 
+bare_of_session : (region : ℕ) (session : List ℕ) → IsRegion region × IsName session → AllIn IsBareWord (decimal region ∷ session ∷ [])
+bare_of_session region session w = (bare_region region w.0, (bare_name session w.1, tt))
+
 bare_words : (e : Event) → IsWritten e → AllIn IsBareWord (event_words e)
 bare_words (Submit region session) w =
-    ((omega arith, (λ e. omega (arith, e)), refl), (bare_region region w.0, (bare_name session w.1, tt)))
+    ((omega arith, (λ e. omega (arith, e)), refl), bare_of_session region session w)
 bare_words (Append home source number) w =
     ((omega arith, (λ e. omega (arith, e)), refl), (bare_region home w.0, (bare_region source w.1, (bare_decimal number w.2, tt))))
 bare_words (Deliver region home first last) w =
@@ -92,7 +95,7 @@ bare_words (Resolve region ids) w =
 bare_words (Execute region id) w =
     ((omega arith, (λ e. omega (arith, e)), refl), (bare_region region w.0, (bare_id id w.1, tt)))
 bare_words (Answer region session) w =
-    ((omega arith, (λ e. omega (arith, e)), refl), (bare_region region w.0, (bare_name session w.1, tt)))
+    ((omega arith, (λ e. omega (arith, e)), refl), bare_of_session region session w)
 
 -- ---- words with spaces between them are these words
 

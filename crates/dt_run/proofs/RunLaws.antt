@@ -85,7 +85,7 @@ module _ {v : NodesView} (n : AreNodes v) (sound : v.broken ≡ false) (some : 1
 
   begins : (region : ℕ) → region < v.cluster.regions
       → IsFront (first_events v.cluster region (opening_table v.cluster) (first_calls (sessions_at region v.workload.sessions)) 0) (filter (λ event. eqb (region_of event) region) events)
-  begins region lr = subst (IsFront (first_events v.cluster region (opening_table v.cluster) (first_calls (sessions_at region v.workload.sessions)) 0)) (sym own) begun
+  begins region lr = subst (IsFront _) (sym own) begun
     where
       step : AreInStep v
       step = n.in_step sound

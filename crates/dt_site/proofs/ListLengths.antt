@@ -107,29 +107,33 @@ none_long : {A : Type 0} (xs : List A) → xs ≡ [] → length xs ≤ 0
 none_long xs e = subst (λ l. length l ≤ 0) (sym e) (omega arith)
 
 module _ (cluster : Cluster) (ok : IsValidCluster cluster) (workload : Workload) (fits : IsValidWorkload cluster workload) where
+  -- a region with the attempt that a submission makes
+  abbrev with_attempt : {w : World} {region : ℕ} {name : Bytes} → Submits cluster workload w region name → Node
+  with_attempt {w} {region} r = node_submitted (node_at w region) (attempt_for cluster w region r.session r.place r.call)
+
   next_short : (w : World) (order : List TxnId) (n : ℕ) (event : Event) → IsLegal cluster workload w event → Inv cluster workload w order → HasShortLists w n → HasShortLists (next cluster workload w event) (n + 1)
   next_short w order n (Submit region name) l i s =
       let r : Submits cluster workload w region name = submits cluster ok workload w order region name l.allowed i in
       subst (λ v. HasShortLists v (n + 1)) (sym r.next) (record {
         submitted = λ q. subm r q (either_nat q region);
         parts = let few : parts_in (logs_of w) ≤ n = s.parts in subst (λ v. parts_in v ≤ n + 1)
-            (sym (map_of_set (λ y. y.log) w.nodes region (node_submitted (node_at w region) (attempt_for cluster w region r.session r.place r.call)) no_node refl)) (omega arith);
+            (sym (map_of_set (λ y. y.log) w.nodes region (with_attempt r) no_node refl)) (omega arith);
         done = all_set _ w.nodes region _ (done_longer w n s) (let few : length (node_at w region).here.done ≤ n = done_at w n s region in omega arith);
         answered = place_put _ workload.sessions w.places region r.session.name _ (places_short w n s) (place_found (λ p. p.answered ≤ n + 1) workload.sessions w.places region name r.session r.place (places_short w n s) r.found);
       })
     where
       subm : (r : Submits cluster workload w region name) (q : ℕ) → Either (q ≡ region)
-          → length (get_or (set w.nodes region (node_submitted (node_at w region) (attempt_for cluster w region r.session r.place r.call))) q no_node).submitted ≤ n + 1
+          → length (get_or (set w.nodes region (with_attempt r)) q no_node).submitted ≤ n + 1
       subm r q (inl e) =
           let few : length (node_at w region).submitted ≤ n = s.submitted region in
-          subst (λ x. length (get_or (set w.nodes region (node_submitted (node_at w region) (attempt_for cluster w region r.session r.place r.call))) x no_node).submitted ≤ n + 1) (sym e)
-          (subst (λ x. length x.submitted ≤ n + 1) (sym (get_or-set_same w.nodes region (node_submitted (node_at w region) (attempt_for cluster w region r.session r.place r.call)) no_node
+          subst (λ x. length (get_or (set w.nodes region (with_attempt r)) x no_node).submitted ≤ n + 1) (sym e)
+          (subst (λ x. length x.submitted ≤ n + 1) (sym (get_or-set_same w.nodes region (with_attempt r) no_node
           (subst (λ m. region < m) (sym i.nodes) l.regions)))
           (let more : length ((node_at w region).submitted ++ attempt_for cluster w region r.session r.place r.call ∷ []) ≡ length (node_at w region).submitted + 1 =
           length_push (node_at w region).submitted (attempt_for cluster w region r.session r.place r.call) in omega arith))
       subm r q (inr m) =
           let few : length (node_at w q).submitted ≤ n = s.submitted q in
-          subst (λ x. length x.submitted ≤ n + 1) (sym (get_or-set_other w.nodes region q (node_submitted (node_at w region) (attempt_for cluster w region r.session r.place r.call)) no_node m)) (omega arith)
+          subst (λ x. length x.submitted ≤ n + 1) (sym (get_or-set_other w.nodes region q (with_attempt r) no_node m)) (omega arith)
   next_short w order n (Append home source number) l i s = elim (append_cases cluster workload w order home source number l.regions.0 l.regions.1 l.allowed i) [
     | inl same ↦ subst (λ v. HasShortLists v (n + 1)) (sym same) (still_short w n s)
     | inr r ↦ subst (λ v. HasShortLists v (n + 1)) (sym r.2) (record {

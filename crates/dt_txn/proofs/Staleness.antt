@@ -50,8 +50,7 @@ first_stale t (a ∷ access) entry (inl here) =
       stale ∙ ap (λ (e : Access). Some (Stale (unit_of t.version e.key) e.counter next.0)) (sym here.0),
     )
 first_stale t (a ∷ access) entry (inr later) =
-    let rest : (by : TxnId) × (next_mover t entry.key entry.counter ≡ Some by)
-    × (stale_of access (map (seen_of t) access) ≡ Some (Stale (unit_of t.version entry.key) entry.counter by)) = first_stale t access entry later.1 in
+    let rest = first_stale t access entry later.1 in
     (rest.0, rest.1, passed t a access later.0 ∙ rest.2)
 
 any_of_first : (t : Table) (access : List Access) (entry : Access) → IsFirstMoved t access entry → AnyIn (IsMovedSince t) access

@@ -40,18 +40,22 @@ module _ (view : View) (resolved : List (List TxnId)) (done : List TxnId) (k : I
         subst (λ x. IsLeft view done (id_at g.ids x)) n.2 (all_get _ g.waiting is.uses.of_left n.0 there),
       )
 
+  -- an entry is of a transaction, and has a neighbour of another one
+  abbrev HasOther : TxnId → Waiting → Type 0
+  HasOther t w = (id_at g.ids w.vertex ≡ t) × AnyIn (λ m. ¬ (id_at g.ids m.vertex ≡ t)) (neighbours g.waiting w.slot)
+
   -- what isn't free waits for something
   some_waits : (t : TxnId) → ¬ (IsFree view done t) → (u : TxnId) × HoldsUp g.ids g.waiting u t
   some_waits t n = elim (either_any _ g.waiting at) [
     | inl a ↦
-        let w : (w : Waiting) × Has g.waiting w × ((id_at g.ids w.vertex ≡ t) × AnyIn (λ m. ¬ (id_at g.ids m.vertex ≡ t)) (neighbours g.waiting w.slot)) = any_get _ g.waiting a in
+        let w : (w : Waiting) × Has g.waiting w × HasOther t w = any_get _ g.waiting a in
         let m : (m : Waiting) × Has (neighbours g.waiting w.0.slot) m × ¬ (id_at g.ids m.vertex ≡ t) = any_get _ (neighbours g.waiting w.0.slot) w.2.1 in
         (id_at g.ids m.0.vertex, (m.2, any_put _ g.waiting w.0 w.1 (w.2.0, any_put _ (neighbours g.waiting w.0.slot) m.0 m.1 refl)))
     | inr none ↦ absurd (n ((free_by_queues view done g.ids g.waiting k.sound.well_formed is.uses t).1 (λ u f.
         none (any_map _ _ g.waiting (λ w a. (a.0, any_map _ _ (neighbours g.waiting w.slot) (λ m e s. f.0 (sym e ∙ s)) a.1)) f.1))))
   ]
     where
-      at : (w : Waiting) → Either ((id_at g.ids w.vertex ≡ t) × AnyIn (λ m. ¬ (id_at g.ids m.vertex ≡ t)) (neighbours g.waiting w.slot))
+      at : (w : Waiting) → Either (HasOther t w)
       at w = either_and _ _ (either_id (id_at g.ids w.vertex) t) (either_any _ (neighbours g.waiting w.slot) (λ m. either_not _ (either_id (id_at g.ids m.vertex) t)))
 
   -- of a list of stuck vertices, each once
