@@ -1,8 +1,8 @@
 -- What is new in a phase came as planned: what a region took from another one stood in a packet of the phase before.
-use Rattle.std.proofs.Common.{◌≡◌, ◌<◌, ◌≤◌, ◌+◌, ◌-◌, ℕ, zero, suc, List, [], ◌∷◌, length, get_or, slice_get, Some, refl, sym, ap, subst, ◌∙◌, arith}
+use Rattle.std.proofs.Common.{◌≡◌, ◌<◌, ◌≤◌, ◌+◌, ◌-◌, ℕ, zero, suc, List, [], length, get_or, slice_get, Some, sym, ap, subst, ◌∙◌, arith}
 use Rattle.std.proofs.lemmas.Option.{slice_get_within}
 use Rattle.dt_lists.specs.Lists.{Has, IsFront}
-use Rattle.dt_lists.proofs.Callers.{get_front, has_place, place_of}
+use Rattle.dt_lists.proofs.Callers.{at_place, get_front, has_place, place_of}
 use Rattle.dt_access.specs.declared.TxnId.{TxnId}
 use Rattle.dt_events.specs.declared.Stamped.{Stamped}
 use Rattle.dt_events.specs.Stamps.{events_of}
@@ -57,7 +57,7 @@ module _ {cluster : Cluster} {workload : Workload} (all : List Stamped) {n : Nod
   pub asked_early : (home number : ℕ) → home < cluster.regions → number < length (asked_of w (number_of n) home)
       → (id : TxnId) × (slice_get (asked_of w (number_of n) home) number ≡ Some id) × (id.seq ≤ submissions_in n.site.region.events)
   asked_early home number lh lt =
-      let g : (id : TxnId) × (slice_get (asked_of w (number_of n) home) number ≡ Some id) = got (asked_of w (number_of n) home) number lt in
+      let g : (id : TxnId) × (slice_get (asked_of w (number_of n) home) number ≡ Some id) = at_place (asked_of w (number_of n) home) number lt in
       let r : IsRequest w home (number_of n) g.0 = request_is cluster workload w good.order home (number_of n) lh f.number good.inv g.0 (has_place (asked_of w (number_of n) home) number g.0 g.1) in
       let at : (i : ℕ) × (slice_get (node_at w (number_of n)).submitted i ≡ Some r.submission) = place_of (node_at w (number_of n)).submitted r.submission r.there in
       let numbered : r.submission.txn.id.seq ≡ at.0 + 1 = ap (λ i. i.seq) (good.inv.ids (number_of n) f.number at.0 r.submission at.1) in
@@ -65,11 +65,6 @@ module _ {cluster : Cluster} {workload : Workload} (all : List Stamped) {n : Nod
       let within : at.0 < length (node_at w (number_of n)).submitted = slice_get_within (node_at w (number_of n)).submitted at.0 r.submission at.1 in
       let many : length (node_at w (number_of n)).submitted ≡ submissions_in n.site.region.events = counted.submitted ∙ ap submissions_in kept_is in
       (g.0, g.1, omega (arith, numbered, is, within, many))
-    where
-      got : {A : Type 0} (xs : List A) (k : ℕ) → k < length xs → (x : A) × (slice_get xs k ≡ Some x)
-      got [] k l = absurd (omega (arith, l))
-      got (x ∷ xs) zero l = (x, refl)
-      got (x ∷ xs) (suc k) l = got xs k (omega (arith, l))
 
   pub placed_early : length (log_of w (number_of n)) ≡ placings_in n.site.region.events
   placed_early = counted.placed ∙ ap placings_in kept_is
