@@ -12,7 +12,7 @@ use Rattle.dt_lists.proofs.Words.{all_map, any_map}
 
 -- a test tells whether two items are alike: whether no two of a list are, is the same of its permutations
 module _ {A : Type 0} (Alike : A → A → Type 0) (same : A → A → Bool)
-  (tells : (x y : A) → same x y ≡ true → Alike x y) (told : (x y : A) → Alike x y → same x y ≡ true) (turned : (x y : A) → same x y ≡ same y x) where
+    (tells : (x y : A) → same x y ≡ true → Alike x y) (told : (x y : A) → Alike x y → same x y ≡ true) (turned : (x y : A) → same x y ≡ same y x) where
   std_distinct : (xs : List A) → EachThen (λ x y. ¬ (Alike x y)) xs → IsDistinct same xs
   unfolding IsDistinct
   std_distinct [] d = tt
