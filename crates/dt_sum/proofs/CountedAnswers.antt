@@ -1,7 +1,7 @@
 -- How many answers there are among legal events: each makes one call more of a session answered, and no other event does. So once
 -- all calls are answered, there are as many as calls.
 use Rattle.std.proofs.Common.{◌≡◌, ℕ, ◌+◌, ◌==◌, ◌&&◌, Bool, true, false, cond, List, [], ◌∷◌, length, map, nat_le, nat_lt, Option, Some, None, slice_get, is_some, refl, sym, ap, ◌∙◌, subst, arith}
-use Rattle.std.specs.List.{cons_option, filter_map, sum_by}
+use Rattle.std.specs.List.{cons_option, filter_map}
 use Rattle.std.specs.Option.{option_and_then}
 use Rattle.std.proofs.lemmas.List.Sums.{sum_by-cons}
 use Rattle.dt_text.specs.Texts.{Bytes}
@@ -25,7 +25,7 @@ use Rattle.dt_sum.specs.Summary.{answer_count, is_answer}
 use Rattle.dt_sum.specs.Laws.{EachCallHasAReply, EachCallIsAnsweredOnce}
 
 module _ (cluster : Cluster) (workload : Workload) where
-  -- the same, by the name that the found session has
+  -- where the place of a session is changed, the answered calls change as that place does: by the name that the found session has
   changes_by : (w : World) (region : ℕ) (name : Bytes) (s : Session) (p now : Place) → session_at workload.sessions w.places region name ≡ Some (s, p)
       → answered_in (with_place workload.sessions w.places region s.name now) + p.answered ≡ answered_in w.places + now.answered
   changes_by w region name s p now e =
