@@ -87,7 +87,7 @@ module _ {cluster : Cluster} {workload : Workload} {w v : World} {region : ℕ} 
   pub sessions_still : {s : SessionsView} → SessionsStandIn cluster workload w region s → SessionsStandIn cluster workload v region s
   sessions_still s = record {
     tries = s.tries;
-    seats = λ name. s.seats name ∙ seat_alike {v = v} good.inv lr (λ id x found own. attempt_same id own) name (session_at workload.sessions w.places region name) refl ∙ ap (option_map (seat_in v)) (found_same name);
+    seats = λ name. s.seats name ∙ seat_alike good.inv v lr (λ id x found own. attempt_same id own) name (session_at workload.sessions w.places region name) refl ∙ ap (option_map (seat_in v)) (found_same name);
   }
 
 -- what a packet says stays so

@@ -24,7 +24,7 @@ use Rattle.dt_session.specs.Step.{IsLegal, MayAnswer, MaySubmit, awaited_at, nex
 use Rattle.dt_session.specs.Tries.{MayEnd, MayTry}
 use Rattle.dt_session.specs.World.{World, Place, Submission, attempt_of, idle_place, is_session, opening_world, outcome_at, session_at, submission_of, with_place}
 use Rattle.dt_agreement.specs.Invariant.{IsPlaceOf, Inv}
-use Rattle.dt_agreement.proofs.Callers.{WaitsAt, each_found, next_found, session_found, waiting_for}
+use Rattle.dt_agreement.proofs.Callers.{WaitsAt, each_found, next_found, session_found, session_of_test, waiting_for}
 use Rattle.dt_site.specs.SessionsStandIn.{SessionsStandIn, no_sessions, place_in, places_of, seat_in}
 use Rattle.dt_site.specs.StandsIn.{IsReached}
 use Rattle.dt_site.proofs.SitesInWorlds.{inv, order}
@@ -176,11 +176,11 @@ attempt_found : (w : World) (id : TxnId) (x : Submission) → submission_of w id
 attempt_found w id x e = ap (λ o. unwrap_or (option_map (λ s. s.attempt) o) 0) e
 
 -- where the attempts that sessions wait for stay, a session of a region is kept as it was
-pub seat_alike : {cluster : Cluster} {workload : Workload} {w v : World} {order : List TxnId} → Inv cluster workload w order → {region : ℕ} → region < cluster.regions
+pub seat_alike : {cluster : Cluster} {workload : Workload} {w : World} {order : List TxnId} → Inv cluster workload w order → (v : World) → {region : ℕ} → region < cluster.regions
     → ((id : TxnId) (x : Submission) → submission_of w id ≡ Some x → id.region ≡ region → attempt_of w id ≡ attempt_of v id)
     → (name : Bytes) (o : Option (Session × Place)) → session_at workload.sessions w.places region name ≡ o → option_map (seat_in w) o ≡ option_map (seat_in v) o
-seat_alike i lr attempts name None e = refl
-seat_alike {cluster} {workload} {w} {v} {order} i {region} lr attempts name (Some (session, place)) e = go place.waits refl
+seat_alike i v lr attempts name None e = refl
+seat_alike {cluster} {workload} {w} {order} i v {region} lr attempts name (Some (session, place)) e = go place.waits refl
   where
     r : Has workload.sessions session × (session.name ≡ name) × (session.region ≡ region) × IsPlaceOf cluster.tries w session place
     r = session_found (IsPlaceOf cluster.tries w) workload.sessions w.places region name session place i.sessions.places e
@@ -205,7 +205,7 @@ module _ {cluster : Cluster} {workload : Workload} {w : World} (k : IsReached cl
   -- a session that stands where it stood is kept as it was
   seat_stays : (region : ℕ) → region < cluster.regions → (name : Bytes) (o : Option (Session × Place)) → session_at workload.sessions w.places region name ≡ o
       → option_map (seat_in w) o ≡ option_map (seat_in later) o
-  seat_stays region lr name o e = seat_alike (inv k) lr (λ id x found own. sym (attempt_stays id x found)) name o e
+  seat_stays region lr name o e = seat_alike (inv k) later lr (λ id x found own. sym (attempt_stays id x found)) name o e
 
   -- where the sessions stand as before, those of each region stand in the next world
   pub sessions_stay : later.places ≡ w.places → {region : ℕ} → region < cluster.regions → {s : SessionsView} → SessionsStandIn cluster workload w region s
