@@ -80,8 +80,8 @@ module _ {cluster : Cluster} (ok : IsValidCluster cluster) {workload : Workload}
 
   knows : (region other : ℕ) → KnowsNoMore (opening_world cluster workload) (opened region) other
   knows region other = record {
-    took = let z : get_or (replicate cluster.regions 0) other 0 ≡ 0 = get_of_replicate cluster.regions other 0 in omega (arith, z);
-    received = let z : get_or (replicate cluster.regions 0) other 0 ≡ 0 = get_of_replicate cluster.regions other 0 in omega (arith, z);
+    took = let z = get_of_replicate {A = ℕ} cluster.regions other 0 in omega (arith, z);
+    received = let z = get_of_replicate {A = ℕ} cluster.regions other 0 in omega (arith, z);
   }
 
   opening_fits : (region : ℕ) → region < cluster.regions → NodeFits cluster workload [] (opened region)
