@@ -1,12 +1,12 @@
 //! Replays: what events come to, and the first fault in them.
-use super::{file_of, moves, replay, reported};
+use super::{ended, faults, file_of, moves, put_lines, told, turns};
+use dt_text::NoMemory;
 use std::alloc::Global;
 use std::sync::Wait;
 use std::test::Fail;
 use std::thread::Threads;
 
 /// A replay, and how it ends; a line each.
-#[derive(Clone, Copy)]
 pub(super) struct Case {
     /// What the case shows.
     pub shows: &'static str,
@@ -477,178 +477,94 @@ const CASES: &[Case] = &[
     },
 ];
 
-/// The events of a case.
-fn events_of(alloc: Global, case: &Case) -> Result<Vec<u8>, Fail> {
-    let mut events = file_of(alloc, case.events)?;
-    events.extend_from_slice(file_of(alloc, case.then)?.as_slice())?;
-    Ok(events)
-}
+/// A verb, and how many words a call of it has.
+type Verb = (&'static str, usize);
 
-/// How a case is to end.
-fn wanted(alloc: Global, case: &Case) -> Result<Vec<u8>, Fail> {
-    if case.exit == 0 {
-        return reported(alloc, case.told, events_of(alloc, case)?.as_slice());
+const REPLAY: Verb = ("replay", 4);
+
+const RUN: Verb = ("run", 3);
+
+/// The word of the built-in cluster that is the only line, or the name of a cluster's file.
+fn cluster_word(lines: &[&'static str]) -> &'static str {
+    match lines {
+        [word] if word.starts_with(':') => word,
+        _ => "c",
     }
-    let mut fault = format!(in alloc; "{} ", case.exit)?
-        .as_bytes()
-        .to_vec(alloc)?;
-    fault.extend_from_slice(file_of(alloc, case.told)?.as_slice())?;
-    fault.push(b'|')?;
-    Ok(fault)
 }
 
 /// How a case ends.
-fn told<R: Threads + Wait + Sync>(rt: &R, alloc: Global, case: &Case) -> Result<Vec<u8>, Fail> {
-    let cluster = file_of(alloc, case.cluster)?;
-    let workload = file_of(alloc, case.workload)?;
-    let events = events_of(alloc, case)?;
-    replay(
+fn told_by<R: Threads + Wait + Sync>(
+    rt: &R,
+    alloc: Global,
+    verb: Verb,
+    case: &Case,
+) -> Result<Vec<u8>, NoMemory> {
+    let words = [verb.0, cluster_word(case.cluster), "w", "e"];
+    let words = words.get(..verb.1).unwrap_or_default();
+    let mut events = file_of(alloc, case.events)?;
+    put_lines(&mut events, case.then)?;
+    told(
         rt,
         alloc,
-        cluster.as_slice(),
-        workload.as_slice(),
+        words,
+        case.cluster,
+        case.workload,
         events.as_slice(),
     )
 }
 
-#[test]
-fn replays_end_with_a_report_or_with_the_first_fault(rt: HostRuntime) -> Result<(), Fail> {
-    for cases in [CASES, moves::CASES] {
-        for case in cases {
-            assert_eq!(rt;
-                told(&rt, rt.alloc(), case)?,
-                wanted(rt.alloc(), case)?,
-                "{}",
-                case.shows
-            );
+/// How a case is to end.
+fn wanted(alloc: Global, case: &Case) -> Result<Vec<u8>, NoMemory> {
+    let mut text = file_of(alloc, case.told)?;
+    if case.exit != 0 {
+        return ended(alloc, case.exit, text.as_slice(), b"");
+    }
+    put_lines(&mut text, &["events"])?;
+    put_lines(&mut text, case.events)?;
+    put_lines(&mut text, case.then)?;
+    ended(alloc, 0, b"", text.as_slice())
+}
+
+/// Fails at the first case that ends in another way.
+fn check<R: Threads + Wait + Sync>(
+    rt: &R,
+    alloc: Global,
+    verb: Verb,
+    cases: &[Case],
+) -> Result<(), Fail> {
+    for case in cases {
+        if told_by(rt, alloc, verb, case)? != wanted(alloc, case)? {
+            return Err(Fail::new(case.shows));
         }
     }
     Ok(())
 }
 
-/// The lines of a cluster and of a workload with one session `a` at region 0, how many calls it makes, and the report of them.
-const IN_TURN: [(&[&str], &[&str], u32, &[&str]); 3] = [
-    (
-        &[
-            "regions = 1",
-            "[rows]",
-            "b = 9223372036854775807",
-            "t = \"x\"",
-        ],
-        &[
-            "session a at 0",
-            "call add \"b\" 1",
-            "",
-            "  # the others",
-            "call  div \"b\" 0",
-            "call add \"t\" 1",
-            "call xfer \"b\" \"c\" 1",
-        ],
-        4,
-        &[
-            "replies",
-            "reply a 1 abort overflow",
-            "reply a 2 abort zero",
-            "reply a 3 abort kind",
-            "reply a 4 abort kind",
-            "order",
-            "1.0 a 1 1 abort overflow",
-            "2.0 a 2 1 abort zero",
-            "3.0 a 3 1 abort kind",
-            "4.0 a 4 1 abort kind",
-            "table 0",
-            "b = 9223372036854775807 home 0 moves 0",
-            "t = \"x\" home 0 moves 0",
-        ],
-    ),
-    (
-        &["regions = 1", "[rows]", "b = 5"],
-        &[
-            "session a at 0",
-            "call xfer \"b\" \"b\" 3",
-            "call xfer \"b\" \"b\" 6",
-        ],
-        2,
-        &[
-            "replies",
-            "reply a 1 done 5 5",
-            "reply a 2 abort \"funds\"",
-            "order",
-            "1.0 a 1 1 done 5 5",
-            "2.0 a 2 1 abort \"funds\"",
-            "table 0",
-            "b = 5 home 0 moves 0",
-        ],
-    ),
-    (
-        &[":1"],
-        &[
-            "session a at 0",
-            "call put \"b\" 5",
-            "call xfer \"b\" \"b\" 3",
-            "call xfer \"b\" \"b\" 6",
-            "call put \"b\" 9223372036854775807",
-            "call add \"b\" 1",
-            "call div \"b\" 0",
-            "call note \"t\" \"x\"",
-            "call add \"t\" 1",
-        ],
-        8,
-        &[
-            "replies",
-            "reply a 1 done",
-            "reply a 2 done 5 5",
-            "reply a 3 abort \"funds\"",
-            "reply a 4 done",
-            "reply a 5 abort overflow",
-            "reply a 6 abort zero",
-            "reply a 7 done",
-            "reply a 8 abort kind",
-            "order",
-            "1.0 a 1 1 done",
-            "2.0 a 2 1 done 5 5",
-            "3.0 a 3 1 abort \"funds\"",
-            "4.0 a 4 1 done",
-            "5.0 a 5 1 abort overflow",
-            "6.0 a 6 1 abort zero",
-            "7.0 a 7 1 done",
-            "8.0 a 8 1 abort kind",
-            "table 0",
-            "b = 9223372036854775807 home 0 moves 0",
-            "t = \"x\" home 0 moves 0",
-        ],
-    ),
-];
+#[test]
+fn the_first_fault_of_the_first_file_is_told_by_a_replay(rt: HostRuntime) -> Result<(), Fail> {
+    check(&rt, rt.alloc(), REPLAY, faults::CASES)
+}
 
-/// The events by which the only session, `a` at region 0, makes n calls of one home, one after another.
-fn in_turn(alloc: Global, calls: u32) -> Result<Vec<u8>, Fail> {
-    let mut events = Vec::new(alloc);
-    for call in 0..calls {
-        let id = call + 1;
-        let one = format!(in alloc;
-            "submit 0 a\nappend 0 0 {call}\ninsert 0 0\nexecute 0 {id}.0\nanswer 0 a\n"
-        )?;
-        events.extend_from_slice(one.as_bytes())?;
-    }
-    Ok(events)
+#[test]
+fn the_first_fault_of_the_first_file_is_told_by_a_run(rt: HostRuntime) -> Result<(), Fail> {
+    check(&rt, rt.alloc(), RUN, faults::CASES)
+}
+
+#[test]
+fn replays_end_with_a_report_or_with_the_first_fault(rt: HostRuntime) -> Result<(), Fail> {
+    check(&rt, rt.alloc(), REPLAY, CASES)
+}
+
+#[test]
+fn replays_with_moves_end_with_a_report_or_with_the_first_fault(
+    rt: HostRuntime,
+) -> Result<(), Fail> {
+    check(&rt, rt.alloc(), REPLAY, moves::CASES)
 }
 
 #[test]
 fn a_session_makes_one_call_after_another_and_each_is_answered(
     rt: HostRuntime,
 ) -> Result<(), Fail> {
-    for (cluster, workload, calls, report) in IN_TURN {
-        let cluster = file_of(rt.alloc(), cluster)?;
-        let workload = file_of(rt.alloc(), workload)?;
-        let events = in_turn(rt.alloc(), calls)?;
-        let told = replay(
-            &rt,
-            rt.alloc(),
-            cluster.as_slice(),
-            workload.as_slice(),
-            events.as_slice(),
-        )?;
-        assert_eq!(rt; told, reported(rt.alloc(), report, events.as_slice())?);
-    }
-    Ok(())
+    check(&rt, rt.alloc(), REPLAY, turns::CASES)
 }

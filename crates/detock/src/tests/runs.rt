@@ -1,13 +1,13 @@
 //! Runs: all regions at once, which make the events themselves.
-use super::{AMPLE, SHOP, SHOP_CALLS, call, file_of, folder_of, words_of};
+use super::{AMPLE, called, file_of, told, words_of, wrong};
 use crate::words::threaded_words;
+use dt_text::NoMemory;
 use std::alloc::Global;
 use std::sync::Wait;
 use std::test::Fail;
 use std::thread::Threads;
 
 /// A run, and what it reports; a line each.
-#[derive(Clone, Copy)]
 struct Case {
     /// What the case shows.
     shows: &'static str,
@@ -22,7 +22,38 @@ struct Case {
     events: &'static [&'static str],
 }
 
-const CASES: [Case; 4] = [
+/// The cluster and the calls of a shop: the second call has not enough credit.
+const SHOP: &[&str] = &[
+    "regions = 2",
+    "procs = \'\'\'",
+    "proc buy(c: text, s: text, n: int)",
+    "  write who = \"cust/\" ++ c;",
+    "  write item = \"stock/\" ++ s;",
+    "{",
+    "  let price = 20 * n;",
+    "  if int(item) < n { abort \"sold out\"; }",
+    "  if int(who) < price { abort \"credit\"; }",
+    "  set item = int(item) - n;",
+    "  set who = int(who) - price;",
+    "  give int(item), int(who);",
+    "}",
+    "\'\'\'",
+    "[homes]",
+    "\"stock/7\" = 0",
+    "\"cust/ann\" = 1",
+    "[rows]",
+    "\"stock/7\" = 3",
+    "\"cust/ann\" = 50",
+];
+
+/// The workload of the shop: one session, which buys twice.
+const SHOP_CALLS: &[&str] = &[
+    "session w at 0",
+    "call buy \"ann\" \"7\" 2",
+    "call buy \"ann\" \"7\" 1",
+];
+
+const CASES: &[Case] = &[
     Case {
         shows: "a run of nothing reports nothing",
         cluster: &["regions = 1"],
@@ -108,12 +139,16 @@ const CASES: [Case; 4] = [
 
 /// The first place of a piece in a text.
 fn place_of(text: &[u8], piece: &[u8]) -> Option<usize> {
-    text.windows(piece.len().max(1))
-        .position(|window| window == piece)
+    for at in 0..text.len() {
+        if text.get(at..)?.starts_with(piece) {
+            return Some(at);
+        }
+    }
+    None
 }
 
 /// Whether each of these lines stands in a text.
-fn each_stands_in(alloc: Global, text: &[u8], lines: &[&str]) -> Result<bool, Fail> {
+fn each_stands_in(alloc: Global, text: &[u8], lines: &[&str]) -> Result<bool, NoMemory> {
     for line in lines {
         let line = file_of(alloc, &[*line])?;
         if place_of(text, line.as_slice()).is_none() {
@@ -123,29 +158,14 @@ fn each_stands_in(alloc: Global, text: &[u8], lines: &[&str]) -> Result<bool, Fa
     Ok(true)
 }
 
-/// How a call ends over a folder of a cluster, a workload and events.
-fn told<R: Threads + Wait + Sync>(
-    rt: &R,
-    alloc: Global,
-    words: &[&str],
-    cluster: &[u8],
-    workload: &[u8],
-    events: &[u8],
-) -> Result<Vec<u8>, Fail> {
-    let texts = [("c", cluster), ("w", workload), ("e", events)];
-    let files = folder_of(alloc, &texts, &[])?;
-    call(rt, alloc, words, files, (AMPLE, AMPLE))
-}
-
 /// The events behind these lines of a report, if they are its lines from the order up to the events, behind these replies.
 fn events_behind<'a>(
     alloc: Global,
     report: &'a [u8],
     replies: &[&str],
-    lines: &[&str],
-) -> Result<Option<&'a [u8]>, Fail> {
-    let lines = file_of(alloc, lines)?;
-    let Some(at) = place_of(report, lines.as_slice()) else {
+    lines: &[u8],
+) -> Result<Option<&'a [u8]>, NoMemory> {
+    let Some(at) = place_of(report, lines) else {
         return Ok(None);
     };
     let Some((front, rest)) = report.split_at_checked(at) else {
@@ -155,44 +175,58 @@ fn events_behind<'a>(
     if front.len() != length || !each_stands_in(alloc, front, replies)? {
         return Ok(None);
     }
-    Ok(rest.strip_prefix(lines.as_slice()))
+    Ok(rest.strip_prefix(lines))
 }
 
-/// Whether the case is as it says: the report has its replies, in some order, what follows them, and these events; and a
-/// replay of the events that are printed reports the same bytes.
-fn is_so<R: Threads + Wait + Sync>(rt: &R, alloc: Global, case: &Case) -> Result<bool, Fail> {
-    let cluster = file_of(alloc, case.cluster)?;
-    let workload = file_of(alloc, case.workload)?;
-    let (cluster, workload) = (cluster.as_slice(), workload.as_slice());
-    let ran = told(rt, alloc, &["run", "c", "w"], cluster, workload, b"")?;
-    let Some(events) = events_behind(alloc, ran.as_slice(), case.replies, case.told)? else {
+/// Whether what a run printed is as the case says: the report has its replies, in some order, what follows them, and these events; and
+/// a replay of the events that are printed reports the same bytes.
+fn is_printed<R: Threads + Wait + Sync>(
+    rt: &R,
+    alloc: Global,
+    case: &Case,
+    ran: &[u8],
+) -> Result<bool, NoMemory> {
+    let lines = file_of(alloc, case.told)?;
+    let Some(events) = events_behind(alloc, ran, case.replies, lines.as_slice())? else {
         return Ok(false);
     };
     let words = ["replay", "c", "w", "e"];
-    let again = told(rt, alloc, &words, cluster, workload, events)?;
-    Ok(again.as_slice() == ran.as_slice() && each_stands_in(alloc, events, case.events)?)
+    let again = told(rt, alloc, &words, case.cluster, case.workload, events)?;
+    Ok(again.as_slice() == ran && each_stands_in(alloc, events, case.events)?)
 }
 
-#[test]
-fn what_a_run_prints_is_replayed_to_the_same_bytes(rt: HostRuntime) -> Result<(), Fail> {
+/// Fails at the first case whose run prints something else.
+fn check<R: Threads + Wait + Sync>(rt: &R, alloc: Global) -> Result<(), Fail> {
     for case in CASES {
-        let is_so = is_so(&rt, rt.alloc(), &case)?;
-        assert!(rt; is_so, "{}", case.shows);
+        let ran = told(
+            rt,
+            alloc,
+            &["run", "c", "w"],
+            case.cluster,
+            case.workload,
+            b"",
+        )?;
+        if !is_printed(rt, alloc, case, ran.as_slice())? {
+            return Err(Fail::new(case.shows));
+        }
     }
     Ok(())
 }
 
 #[test]
+fn what_a_run_prints_is_replayed_to_the_same_bytes(rt: HostRuntime) -> Result<(), Fail> {
+    check(&rt, rt.alloc())
+}
+
+#[test]
 fn a_big_run_tells_its_calls_its_answers_and_its_sum(rt: HostRuntime) -> Result<(), Fail> {
-    let files = folder_of(rt.alloc(), &[], &[])?;
-    let told = call(&rt, rt.alloc(), &["big", "1"], files, (AMPLE, AMPLE))?;
-    let want = b"0 |calls 1\nanswers 1\nsum 100000\n".as_slice();
-    assert_eq!(rt; told.as_slice(), want);
+    let told = called(&rt, rt.alloc(), &["big", "1"], &[], &[], (AMPLE, AMPLE))?;
+    assert!(rt; told.as_slice() == b"0 |calls 1\nanswers 1\nsum 100000\n".as_slice());
     Ok(())
 }
 
 /// Words that ask for what threads do.
-const THREADED: [&[&str]; 5] = [
+const THREADED: &[&[&str]] = &[
     &["run", ":1", "w"],
     &["run", ":8", ":w"],
     &["run", "c", "w"],
@@ -200,12 +234,18 @@ const THREADED: [&[&str]; 5] = [
     &["big", "20000"],
 ];
 
-#[test]
-fn runs_and_big_runs_are_asked_of_threads(rt: HostRuntime) -> Result<(), Fail> {
-    for words in THREADED {
-        let words = words_of(rt.alloc(), words)?;
-        let threaded = threaded_words(words.as_slice()).is_some();
-        assert!(rt; threaded);
+/// Fails at the first words that are not asked of threads.
+fn check_threaded(alloc: Global) -> Result<(), Fail> {
+    for (row, words) in THREADED.iter().enumerate() {
+        let words = words_of(alloc, words)?;
+        if threaded_words(words.as_slice()).is_none() {
+            return Err(wrong(row));
+        }
     }
     Ok(())
+}
+
+#[test]
+fn runs_and_big_runs_are_asked_of_threads(rt: HostRuntime) -> Result<(), Fail> {
+    check_threaded(rt.alloc())
 }
