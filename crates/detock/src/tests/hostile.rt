@@ -21,8 +21,7 @@ fn one_put<R: Threads + Wait + Sync>(
     called(rt, alloc, &["replay", ":1", "w", "e"], &files, &[], room)
 }
 
-/// Fails at the first number of bytes, fewer than the report has, of which a sink with room for so many does not hold as much of it as
-/// fits.
+/// Fails at the first room, smaller than the report, in which a sink holds anything but as much of the report as fits.
 fn check_rooms<R: Threads + Wait + Sync>(rt: &R, alloc: Global) -> Result<(), Fail> {
     for room in 0..ONE_PUT_REPORT.len() {
         let fits = ONE_PUT_REPORT.get(..room).unwrap_or_default();

@@ -480,8 +480,10 @@ const CASES: &[Case] = &[
 /// A verb, and how many words a call of it has.
 type Verb = (&'static str, usize);
 
+/// `replay CLUSTER WORKLOAD EVENTS`.
 const REPLAY: Verb = ("replay", 4);
 
+/// `run CLUSTER WORKLOAD`.
 const RUN: Verb = ("run", 3);
 
 /// The word of the built-in cluster that is the only line, or the name of a cluster's file.

@@ -15,7 +15,7 @@ const TWO_CALLS: &[&str] = &[
     "answer 0 a",
 ];
 
-/// Those of the two calls behind these.
+/// The events of its third and fourth call.
 const NEXT_TWO_CALLS: &[&str] = &[
     "submit 0 a",
     "append 0 0 2",
@@ -53,7 +53,7 @@ const FOUR_CALLS: &[&str] = &[
     "answer 0 a",
 ];
 
-/// Those of the four calls behind these.
+/// The events of its last four calls.
 const NEXT_FOUR_CALLS: &[&str] = &[
     "submit 0 a",
     "append 0 0 4",
