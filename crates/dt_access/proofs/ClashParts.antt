@@ -8,7 +8,7 @@ use Rattle.dt_lists.proofs.Callers.{any_get, any_put, any_of_test, test_of_any, 
 use Rattle.dt_access.specs.declared.access.Mode.{Mode}
 use Rattle.dt_access.specs.Granules.{granule_of}
 use Rattle.dt_access.specs.Clash.{Bytes, same_key, is_whole, rows_clash, uses_clash, clash}
-use Rattle.dt_access.specs.Meeting.{meet_on_row, has_granule, takes_from}
+use Rattle.dt_access.specs.ClashSearchInner.{meet_on_row, has_granule, takes_from}
 use Rattle.dt_access.proofs.Units.{clash_cases, uses_of_granule}
 use Rattle.dt_access.proofs.ClashLaws.{uses_of_clash, clash_of_uses, clash_symmetric}
 use Rattle.dt_access.proofs.Search.{same_tests}

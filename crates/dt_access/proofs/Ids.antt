@@ -1,5 +1,5 @@
 -- Ids: their order is a strict total order and decided, and the tests on them say what they test.
-use Rattle.std.proofs.Common.{◌≡◌, ◌≢◌, ◌⊎◌, true, false, List, eqb-true, eq-eqb, sym, subst, ap, arith, ◌<◌, refl, ℕ, inl, inr}
+use Rattle.std.proofs.Common.{◌≡◌, ◌≢◌, ◌⊎◌, ◌↔◌, true, false, List, ◌∷◌, eqb-true, eq-eqb, sym, subst, ap, arith, ◌<◌, refl, ℕ, inl, inr}
 use Rattle.std.proofs.lemmas.Bool.{and_parts, and_from, false_from_ne_true}
 use Rattle.std.proofs.lemmas.Bool.Decides.{nat_tests}
 use Rattle.std.specs.declared.cmp.Ordering.{Ordering}
@@ -7,8 +7,8 @@ use Rattle.std.specs.declared.cmp.Ordering.TheVariants.{Less, Equal}
 use Rattle.std.specs.Ordering.{nat_cmp, ordering_then, is_lt}
 use Rattle.std.specs.Cmp.{nat_cmp_is}
 use Rattle.dt_lists.specs.Lists.{Has, Either}
-use Rattle.dt_lists.proofs.Callers.{any_map, any_of_test, test_of_any, either_nat, either_and, either_same}
-use Rattle.dt_access.specs.Ids.{Before, same_id, is_among}
+use Rattle.dt_lists.proofs.Callers.{all_map, any_map, any_of_test, test_of_any, either_nat, either_and, either_same}
+use Rattle.dt_access.specs.Ids.{AreAscending, Before, same_id, is_among}
 use Rattle.dt_access.specs.declared.id.TxnId.{TxnId}
 
 pub same_by_parts : (a b : TxnId) → a.seq ≡ b.seq → a.region ≡ b.region → a ≡ b
@@ -65,12 +65,20 @@ not_among ids id n = false_from_ne_true _ (λ e. n (has_of_among ids id e))
 abbrev pub by_parts : TxnId → TxnId → Ordering
 by_parts a b = ordering_then (nat_cmp a.seq b.seq) (nat_cmp a.region b.region)
 
-compare_less : (m n : ℕ) → m < n → nat_cmp m n ≡ Less
+pub compare_less : (m n : ℕ) → m < n → nat_cmp m n ≡ Less
 compare_less m n h = sym (nat_cmp_is m n Less h)
 
-compare_same : (n : ℕ) → nat_cmp n n ≡ Equal
+pub compare_same : (n : ℕ) → nat_cmp n n ≡ Equal
 compare_same n = sym (nat_cmp_is n n Equal refl)
 
 pub before_less : (a b : TxnId) → Before a b → is_lt (by_parts a b) ≡ true
 before_less a b (inl h) = rw (compare_less a.seq b.seq h) refl
 before_less a b (inr h) = rw (h.0, compare_same b.seq, compare_less a.region b.region h.1) refl
+
+-- of two different ids the one is before the other, or a sort puts it behind
+pub before_or_above : (a b : TxnId) → ¬ (a ≡ b) → Before a b ⊎ (is_lt (by_parts b a) ≡ true)
+before_or_above a b ne = elim (before_total a b ne) [ inl h ↦ inl h | inr h ↦ inr (before_less b a h) ]
+
+-- whether ids ascend is seen from each one and its next
+pub ascent_on : (a b : TxnId) (ids : List TxnId) → Before a b → AreAscending (a ∷ b ∷ ids) ↔ AreAscending (b ∷ ids)
+ascent_on a b ids before = (λ h. h.1, λ h. ((before, all_map (Before b) (Before a) ids (λ x k. before_transitive a b x before k) h.0), h))

@@ -7,7 +7,7 @@ use Rattle.std.specs.List.{list_any}
 use Rattle.dt_lists.specs.Lists.{AllIn}
 use Rattle.dt_access.specs.declared.access.Mode.{Mode}
 use Rattle.dt_access.specs.Clash.{Bytes, same_key, may_change, rows_clash}
-use Rattle.dt_access.specs.Meeting.{meet_on_row}
+use Rattle.dt_access.specs.ClashSearchInner.{meet_on_row}
 use Rattle.dt_access.specs.Orders.{KeyBefore, HasAscendingKeys}
 use Rattle.dt_access.proofs.KeyOrder.{same_key_before, same_key_after, same_key_equal, key_before_flip}
 

@@ -16,7 +16,7 @@ use Rattle.dt_lists.proofs.Callers.{all_get, any_get, any_append_right, any_of_t
 use Rattle.dt_access.specs.declared.access.Mode.{Mode}
 use Rattle.dt_access.specs.Granules.{Bytes, granule_of}
 use Rattle.dt_access.specs.Clash.{same_key}
-use Rattle.dt_access.specs.Meeting.{EndsAt, has_granule, begins_with, is_below}
+use Rattle.dt_access.specs.ClashSearchInner.{EndsAt, has_granule, begins_with, is_below}
 use Rattle.dt_access.specs.Orders.{KeyBefore, HasAscendingKeys}
 use Rattle.dt_access.proofs.GranuleLaws.{key_of_granule, granule_of_row}
 

@@ -2,4 +2,4 @@ pub mod Ids
 pub mod Granules
 pub mod Clash
 pub mod Orders
-pub mod Meeting
+pub mod ClashSearchInner

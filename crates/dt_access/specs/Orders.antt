@@ -1,6 +1,6 @@
 -- The orders that the lists of keys, homes and writes keep. Keys stand in ascending order, so that two lists are compared
 -- in one walk along both, and equal sets of keys are equal lists. Each order is in the type (`Keys`, `Homes`, `Writes`),
--- so no contract above asks for it again. Read next: Meeting.antt, which uses the order to find a clash.
+-- so no contract above asks for it again. Read next: ClashSearchInner.antt, which uses the order to find a clash.
 use Rattle.std.specs.Prelude.{◌≡◌, ℕ, ◌<◌, List, map}
 use Rattle.std.specs.Ordering.{nat_cmp}
 use Rattle.std.specs.Cmp.Lexicographic.{slice_cmp}

@@ -1,6 +1,6 @@
 ghost use Rattle.std.specs.Prelude.{◌≡◌, ◌≤◌, [], ◌∷◌, ◌++◌, length};
 ghost use Rattle.dt_access.specs.Clash.{clash};
-ghost use Rattle.dt_access.specs.Meeting.{EndsAt, begins_with, has_granule, is_below, meet_on_row, takes_from};
+ghost use Rattle.dt_access.specs.ClashSearchInner.{EndsAt, begins_with, has_granule, is_below, meet_on_row, takes_from};
 ghost use Rattle.dt_access.specs.Orders.{HasAscendingKeys};
 
 use crate::access::Mode;

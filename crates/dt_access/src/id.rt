@@ -1,5 +1,5 @@
 ghost use Rattle.std.specs.Prelude.{◌≡◌, ◌↔◌, ◌<◌, ◌^◌, ◌∷◌, ◌++◌, IsTrue, MatchOption, OnOk, OnErr, length, Contains};
-ghost use Rattle.dt_access.specs.Ids.{Before, ReadsId, id_text};
+ghost use Rattle.dt_access.specs.Ids.{AreAscending, Before, ReadsId, id_text};
 
 use crate::copies::TryCopy;
 use dt_text::{NoMemory, read_u32};
@@ -29,6 +29,23 @@ impl TryCopy for TxnId {
     fn copy(&self, _alloc: Global) -> Result<Self, NoMemory> {
         Ok(*self)
     }
+}
+
+/// Whether the ids stand in ascending order, none of them twice.
+pub fn are_ascending(ids: &[TxnId]) -> bool
+    ensures { IsTrue result ↔ AreAscending ids.now }
+{
+    let Some((mut last, mut rest)) = ids.split_first() else {
+        return true;
+    };
+    while let Some((next, later)) = rest.split_first() {
+        if !last.before(next) {
+            return false;
+        }
+        last = next;
+        rest = later;
+    }
+    true
 }
 
 /// Reads an id in its printed form `SEQ.REGION`, SEQ from 1 to 4294967295 and REGION at most 255,

@@ -24,7 +24,7 @@ pub use clashes::clash;
 pub use copies::TryCopy;
 pub use granules::{granule, is_granule, is_unit, unit_bytes};
 pub use homes::Homes;
-pub use id::{TxnId, put_id, read_id};
+pub use id::{TxnId, are_ascending, put_id, read_id};
 pub use keys::Keys;
 pub use lists::Ids;
 pub use part::Part;

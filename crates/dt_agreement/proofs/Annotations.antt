@@ -22,6 +22,7 @@ use Rattle.dt_txn.specs.Serial.{after, table_after}
 use Rattle.dt_serial.specs.Evidence.{MadeMove}
 use Rattle.dt_table.proofs.Callers.{homes-apply, moves_of-opening, regions-apply, version-apply, home_after-below}
 use Rattle.dt_serial.proofs.Callers.{move_made}
+use Rattle.dt_txn.proofs.Callers.{annotated_uses}
 use Rattle.dt_cluster.specs.declared.Cluster.{Cluster}
 use Rattle.dt_cluster.specs.Valid.{IsValidCluster}
 use Rattle.dt_workload.specs.declared.Wanted.{Wanted}
@@ -132,10 +133,6 @@ home_below cluster valid txns a key =
     t = table_after cluster.procs txns (opening_table cluster)
 
 -- annotated transactions
-
-pub annotated_uses : (t : Table) (us : List (Bytes × Mode)) → map (λ a. (a.key, a.mode)) (map (annotated t) us) ≡ us
-annotated_uses t [] = refl
-annotated_uses t (u ∷ us) = ap (λ l. u ∷ l) (annotated_uses t us)
 
 pub body_fits : (cluster : Cluster) (call : Wanted) → WantedFits cluster call → BodyFits cluster.procs cluster.version cluster.regions (body_of call)
 body_fits cluster (wanted.Call proc args) f = f

@@ -5,7 +5,7 @@ pub use Rattle.dt_serial.proofs.Callers.{test_of_key}
 pub use Rattle.dt_agreement.proofs.Submissions.{WasSubmitted, find_has, from_region, numbered, home_region, submission_is_found, txn_there, txn_id}
 pub use Rattle.dt_agreement.proofs.Views.{fronts_longer, log_is, logs_length, received_log, received_own}
 pub use Rattle.dt_agreement.proofs.Logs.{part_homed}
-pub use Rattle.dt_agreement.proofs.Sessions.{found_is_named, key_of_test, session_of_test, session_found}
+pub use Rattle.dt_agreement.proofs.Sessions.{answered_changed, answered_in, each_found, found_is_named, key_of_test, session_of_test, session_found}
 pub use Rattle.dt_agreement.proofs.Runs.{world_from_append, world_after_more, legal_append, legal_more, append_legal, more_legal, with_executed, ordered, order_of_more}
 pub use Rattle.dt_agreement.proofs.Annotations.{unmoved_at_first, body_fits, version_stays}
 pub use Rattle.dt_agreement.proofs.AllAgree.{lookup_has, answered_done}

@@ -3,11 +3,11 @@ use Rattle.std.proofs.Common.{◌≡◌, ◌<◌, ◌≤◌, ℕ, zero, suc, Lis
 use Rattle.std.specs.Prelude.{slice_index, flat_map}
 use Rattle.std.proofs.lemmas.List.{length-replicate, get_or-replicate, get_or_past}
 use Rattle.dt_lists.specs.Lists.{AllIn, Has, Pairwise, Either}
-use Rattle.dt_lists.proofs.Callers.{either_le, either_nat}
+use Rattle.dt_lists.proofs.Callers.{either_le, either_nat, get_of_replicate}
 use Rattle.dt_access.specs.declared.TxnId.{TxnId}
 use Rattle.dt_sched.specs.Views.{ids_of}
 use Rattle.dt_sched.specs.Decide.{IsSound}
-use Rattle.dt_sched.proofs.Callers.{well_formed_front}
+use Rattle.dt_sched.proofs.Callers.{sound_with_none, well_formed_front}
 use Rattle.dt_txn.specs.Replica.{done_ids}
 use Rattle.dt_cluster.specs.declared.Cluster.{Cluster}
 use Rattle.dt_workload.specs.declared.Session.{Session}
@@ -64,11 +64,6 @@ module _ (cluster : Cluster) (workload : Workload) where
   no_log : (q : ℕ) → log_of w q ≡ []
   no_log q = of_any (λ n. n.log) [] refl refl q
 
-  of_zeros : (n q : ℕ) → slice_index (replicate n 0) q ≡ 0
-  of_zeros zero q = refl
-  of_zeros (suc n) zero = refl
-  of_zeros (suc n) (suc q) = of_zeros n q
-
   of_empties : (n q : ℕ) → ◌≡◌ {A = List TxnId} (get_or (replicate n []) q []) []
   of_empties zero q = refl
   of_empties (suc n) zero = refl
@@ -86,17 +81,17 @@ module _ (cluster : Cluster) (workload : Workload) where
   none_asked q home = of_any (λ n. get_or n.here.asked home []) [] (of_empties cluster.regions home) (of_empties 0 home) q
 
   none_taken : (home q : ℕ) → taken_of w home q ≡ 0
-  none_taken home q = of_any (λ n. slice_index n.here.taken q) 0 (of_zeros cluster.regions q) (of_zeros 0 q) home
+  none_taken home q = of_any (λ n. slice_index n.here.taken q) 0 (get_of_replicate cluster.regions q 0) (get_of_replicate 0 q 0) home
 
   none_inserted : (q home : ℕ) → slice_index (node_at w q).here.inserted home ≡ 0
-  none_inserted q home = of_any (λ n. slice_index n.here.inserted home) 0 (of_zeros cluster.regions home) (of_zeros 0 home) q
+  none_inserted q home = of_any (λ n. slice_index n.here.inserted home) 0 (get_of_replicate cluster.regions home 0) (get_of_replicate 0 home 0) q
 
   none_received : (q home : ℕ) → q < cluster.regions → received_of w q home ≡ 0
   none_received q home lt = by (either_nat home q)
     where
       by : Either (home ≡ q) → received_of w q home ≡ 0
       by (inl e) = subst (λ h. received_of w q h ≡ 0) (sym e) (received_own w q (subst (λ m. q < m) (sym (sized q lt).received) lt) ∙ ap length (no_log q))
-      by (inr n) = received_other w q home n ∙ of_any (λ x. slice_index x.received home) 0 (of_zeros cluster.regions home) (of_zeros 0 home) q
+      by (inr n) = received_other w q home n ∙ of_any (λ x. slice_index x.received home) 0 (get_of_replicate cluster.regions home 0) (get_of_replicate 0 home 0) q
 
   asked : (q home : ℕ) → q < cluster.regions → home < cluster.regions → asked_of w q home ≡ requests home (node_at w q).submitted
   asked q home lq lh = none_asked q home ∙ sym (ap (requests home) (none_submitted q))
@@ -115,18 +110,8 @@ module _ (cluster : Cluster) (workload : Workload) where
   sound q lq =
       subst (IsSound (view_at w q) (node_at w q).here.resolved) (sym (none_done q))
       (subst (λ l. IsSound (view_at w q) l []) (sym (of_any (λ n. n.here.resolved) [] refl refl q))
-      (record {
-        well_formed = well_formed_front (view_at w q) (received_logs w q) (fronts_longer (node_at w q).here.inserted (received_logs w q))
-            (well_formed_front (received_logs w q) (logs_of w) (fronts_longer (received_lengths w q) (logs_of w)) (logs_well_formed cluster.regions w nodes numbered asked logs));
-        done_once = tt;
-        done_closed = tt;
-        done_downward = λ u t h p. absurd h;
-        done_in_order = tt;
-        resolved_once = tt;
-        resolved_several = tt;
-        resolved_closed = tt;
-        resolved_classes = tt;
-      }))
+      (sound_with_none (view_at w q) (well_formed_front (view_at w q) (received_logs w q) (fronts_longer (node_at w q).here.inserted (received_logs w q))
+      (well_formed_front (received_logs w q) (logs_of w) (fronts_longer (received_lengths w q) (logs_of w)) (logs_well_formed cluster.regions w nodes numbered asked logs)))))
 
   tables : (q : ℕ) → q < cluster.regions → IsRunOf cluster (opening_table cluster) (txns_of w (done_ids (node_at w q).here)) (node_at w q).here
   tables q lq = subst (λ n. IsRunOf cluster (opening_table cluster) (txns_of w (done_ids n.here)) n.here) (sym (node q lq)) (record { outcomes = refl; table = refl })

@@ -31,7 +31,7 @@ use Rattle.dt_cluster.specs.Valid.{IsValidCluster}
 use Rattle.dt_workload.specs.declared.Workload.{Workload}
 use Rattle.dt_workload.specs.declared.Session.{Session}
 use Rattle.dt_workload.specs.Valid.{IsValidWorkload}
-use Rattle.dt_session.specs.World.{World, Place, Submission, no_node, node_at, with_node, opening_table, asked_of, logs_of, received_of, received_logs, submissions, txn_of, session_at}
+use Rattle.dt_session.specs.World.{World, Node, Place, Submission, no_node, node_at, with_node, opening_table, asked_of, logs_of, received_of, received_logs, submissions, txn_of, session_at}
 use Rattle.dt_session.specs.Step.{IsLegal, MaySubmit, upcoming_id, submitted, placed, received, moved_on, answered, next, body_of}
 use Rattle.dt_session.specs.Run.{world_after, order_of, txns_of}
 use Rattle.dt_agreement.specs.LegalRun.{IsLegalRun}
@@ -217,10 +217,11 @@ module _ {cluster : Cluster} {workload : Workload} (ok : IsValidCluster cluster)
       → Inv cluster workload w order → Rooted cluster w order → Rooted cluster (moved_on cluster w region (Execute region id)) (cond (is_among order id) order (order ++ id ∷ []))
   execute_roots w order region id lr may i r =
       let k : WasSubmitted w id = executable_known i region id lr may in
+      let now : Node = record (node_at w region) { here = stepped cluster.procs (txn_of w) (node_at w region).here (Execute region id) } in
       rooted_kept cluster w (moved_on cluster w region (Execute region id)) (cond (is_among order id) order (order ++ id ∷ []))
-      (map_of_set (λ n. n.log) w.nodes region (record (node_at w region) { here = stepped cluster.procs (txn_of w) (node_at w region).here (Execute region id) }) no_node refl)
-      (flat_map_of_set (λ n. n.submitted) w.nodes region (record (node_at w region) { here = stepped cluster.procs (txn_of w) (node_at w region).here (Execute region id) }) no_node refl)
-      (field_of_set (λ n. n.submitted) w.nodes region (record (node_at w region) { here = stepped cluster.procs (txn_of w) (node_at w region).here (Execute region id) }) no_node refl)
+      (map_of_set (λ n. n.log) w.nodes region now no_node refl)
+      (flat_map_of_set (λ n. n.submitted) w.nodes region now no_node refl)
+      (field_of_set (λ n. n.submitted) w.nodes region now no_node refl)
       (go (is_among order id) k)
     where
       go : (b : Bool) → WasSubmitted w id → Rooted cluster w (cond b order (order ++ id ∷ []))

@@ -67,6 +67,10 @@ module _ {cluster : Cluster} {workload : Workload} {w : World} {order : List Txn
   unfolding n'
   done_now = ap (λ n. done_ids n.here) left.node ∙ map_push (λ d. d.0) (node_at w region).here.done (txn.id, (one cluster.procs txn (node_at w region).here.table).0) ∙ ap (λ x. done_ids (node_at w region).here ++ x ∷ []) same_id
 
+  -- and the transactions of these
+  txns_now : txns_of v (done_ids (node_at v region).here) ≡ txns_of w (done_ids (node_at w region).here) ++ txn ∷ []
+  txns_now = left.txns (done_ids (node_at v region).here) ∙ ap (txns_of w) done_now ∙ txns_more w (done_ids (node_at w region).here) id txn found
+
   sound : Sound cluster.regions v
   unfolding n'
   sound q lq = subst (λ x. IsSound x (node_at v q).here.resolved (done_ids (node_at v q).here)) (sym (view_same q)) (by (either_nat q region))
@@ -87,7 +91,7 @@ module _ {cluster : Cluster} {workload : Workload} {w : World} {order : List Txn
           (subst (λ l. IsRunOf cluster (opening_table cluster) l (node_at w q).here) (sym (left.txns (done_ids (node_at w q).here))) (i.tables q lq))
       by (inl e) = subst (λ y. IsRunOf cluster (opening_table cluster) (txns_of v (done_ids (node_at v y).here)) (node_at v y).here) (sym e)
           (subst (λ l. IsRunOf cluster (opening_table cluster) l (node_at v region).here)
-          (sym (left.txns (done_ids (node_at v region).here) ∙ ap (txns_of w) done_now ∙ txns_more w (done_ids (node_at w region).here) id txn found))
+          (sym txns_now)
           (subst (λ x. IsRunOf cluster (opening_table cluster) (txns_of w (done_ids (node_at w region).here) ++ txn ∷ []) x.here) (sym left.node)
           (run_more cluster (opening_table cluster) (txns_of w (done_ids (node_at w region).here)) txn (node_at w region).here (i.tables region lr))))
 
@@ -152,8 +156,7 @@ module _ {cluster : Cluster} {workload : Workload} {w : World} {order : List Txn
 
   -- the region ran one transaction more
   pub executed_txns : txns_of (moved_on cluster w region (Execute region id)) (done_ids (node_at (moved_on cluster w region (Execute region id)) region).here) ≡ txns_of w (done_ids (node_at w region).here) ++ txn ∷ []
-  executed_txns = subst (λ x. txns_of x (done_ids (node_at x region).here) ≡ txns_of w (done_ids (node_at w region).here) ++ txn ∷ []) world_is
-      (left.txns (done_ids (node_at v region).here) ∙ ap (txns_of w) done_now ∙ txns_more w (done_ids (node_at w region).here) id txn found)
+  executed_txns = subst (λ x. txns_of x (done_ids (node_at x region).here) ≡ txns_of w (done_ids (node_at w region).here) ++ txn ∷ []) world_is txns_now
 
   -- and what each region has executed goes on where it ended
   pub executed_more : (q : ℕ) → IsFront (done_ids (node_at w q).here) (done_ids (node_at (moved_on cluster w region (Execute region id)) q).here)

@@ -2,8 +2,8 @@
 use Rattle.std.proofs.Common.{◌≡◌, ℕ, ◌<◌, ◌↔◌, Bool, true, false, List, [], ◌∷◌, get_or, map, Some, None, subst, inl, inr}
 use Rattle.std.specs.Prelude.{filter}
 use Rattle.dt_lists.specs.Lists.{Has}
-use Rattle.dt_lists.specs.Chain.{Chain, here, onward}
-use Rattle.dt_lists.proofs.Callers.{all_any, any_map, any_image, any_of_image, all_put, chain_map, chain_before, chain_takes_back, filter_all, filter_each, has_filter, has_of_filtered}
+use Rattle.dt_lists.specs.Chain.{Chain}
+use Rattle.dt_lists.proofs.Callers.{all_any, any_map, any_image, any_of_image, all_put, chain_map, chain_takes_back, chain_turned, filter_all, filter_each, has_filter, has_of_filtered}
 use Rattle.dt_class.specs.Graphs.{AdjView, IsEdge, Leads, IsInClass, AreVertices, IsSource, AreAllBlocked}
 use Rattle.dt_class.specs.LinksInner.{edge_of, near_end, far_end, IsStep, LeadsBy, AreBelow}
 use Rattle.dt_class.specs.FindsInner.{FoundView, IsMarked, IsReach, IsReachOf, IsLastStart, AreMarked}
@@ -11,11 +11,6 @@ use Rattle.dt_class.specs.declared.link.Link.{Link}
 use Rattle.dt_class.specs.declared.link.Way.{Way}
 use Rattle.dt_class.specs.declared.link.Way.TheVariants.{Forth, Back}
 use Rattle.dt_class.proofs.Marks.{marked_within}
-
--- a chain of steps that are turned round leads back
-chain_turned : {A : Type 0} {Step Other : A → A → Type 0} {x y : A} → ((a b : A) → Step a b → Other b a) → Chain Step x y → Chain Other y x
-chain_turned f here = here
-chain_turned f (onward {y = y} {z = z} c e) = chain_before (f y z e) (chain_turned f c)
 
 -- the graph that links stand for
 abbrev graph_of : ℕ → List Link → AdjView

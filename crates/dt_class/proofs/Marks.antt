@@ -3,8 +3,8 @@
 use Rattle.std.proofs.Common.{◌≡◌, ℕ, zero, suc, ◌+◌, ◌<◌, ◌≤◌, ◌↔◌, ◌∙◌, Bool, true, false, List, [], ◌∷◌}
 use Rattle.std.proofs.Common.{◌++◌, length, get_or, set, refl, sym, ap, subst, inl, inr, arith, length-set, true≢false}
 use Rattle.std.proofs.lemmas.List.{get_or-set_same, get_or-set_other}
-use Rattle.dt_lists.specs.Lists.{AllIn, EachThen, Either, Has}
-use Rattle.dt_lists.proofs.Callers.{all_put, distinct_push, distinct_within, each_append, either_nat, has_more, has_last, has_longer, front_append}
+use Rattle.dt_lists.specs.Lists.{EachThen, Either, Has}
+use Rattle.dt_lists.proofs.Callers.{all_put, distinct_push, each_append, either_nat, few_below, has_more, has_last, has_longer, front_append}
 use Rattle.dt_class.specs.FindsInner.{FoundView, IsMarked, IsFoundOf, AddsVertex}
 
 -- past the last mark nothing is marked
@@ -43,25 +43,9 @@ adds_one found v =
           );
     }
 
--- the numbers below n
-abbrev numbers : ℕ → List ℕ
-numbers zero = []
-numbers (suc n) = n ∷ numbers n
-
-has_number : (n v : ℕ) → v < n → Has (numbers n) v
-has_number zero v lt = absurd (omega arith)
-has_number (suc n) v lt = elim (either_nat n v) [ inl e ↦ inl e | inr ne ↦ inr (has_number n v (omega (arith, ne))) ]
-
-length_numbers : (n : ℕ) → length (numbers n) ≡ n
-length_numbers zero = refl
-length_numbers (suc n) = ap suc (length_numbers n)
-
 -- no more vertices are found than there are
 pub found_bounded : (marks : List Bool) (order : List ℕ) → IsFoundOf marks order → length order ≤ length marks
-found_bounded marks order found =
-    let within : AllIn (Has (numbers (length marks))) order =
-    all_put _ order (λ v h. has_number (length marks) v (marked_within marks v ((found.members v).1 h))) in
-    omega (arith, distinct_within order (numbers (length marks)) found.distinct within, length_numbers (length marks))
+found_bounded marks order found = few_below (length marks) order found.distinct (all_put _ order (λ v h. marked_within marks v ((found.members v).1 h)))
 
 -- the list has the marked ones among the first n vertices, in ascending order
 pub record AreMarkedBelow (marks : List Bool) (n : ℕ) (list : List ℕ) : Type 0 where

@@ -8,6 +8,7 @@ use Rattle.std.specs.Cmp.Lexicographic.{slice_cmp}
 use Rattle.std.specs.List.{AllByRecursion}
 use Rattle.std.specs.List.Sorted.{IsStrictlySortedBy}
 use Rattle.dt_lists.specs.Lists.{AllIn, Distinct, Pairwise}
+use Rattle.dt_lists.proofs.Callers.{some_same}
 use Rattle.dt_access.specs.Granules.{unit_of}
 use Rattle.dt_text.specs.Texts.{IsKey}
 use Rattle.dt_text.specs.declared.value.Value.{Value}
@@ -41,37 +42,22 @@ regions_within : (d : Option Data) (n : ℕ) → GivesNumber regions_entry d n �
 regions_within d n h = given_allowed regions_entry (λ n. (1 ≤ n) × (n ≤ 8)) (λ n e. absurd cc) (is_within 1 8) d n h
 
 version_within : (d : Option Data) (n : ℕ) → GivesNumber version_entry d n → (1 ≤ n) × (n ≤ 2)
-version_within d n h = given_allowed version_entry (λ n. (1 ≤ n) × (n ≤ 2)) (λ n e. rw (← same_some 1 n e) (omega arith, omega arith)) (is_within 1 2) d n h
-  where
-    same_some : (a b : ℕ) → Some a ≡ Some b → a ≡ b
-    same_some a b e = cc
+version_within d n h = given_allowed version_entry (λ n. (1 ≤ n) × (n ≤ 2)) (λ n e. rw (← some_same {x = 1} {y = n} e) (omega arith, omega arith)) (is_within 1 2) d n h
 
 workers_within : (d : Option Data) (n : ℕ) → GivesNumber workers_entry d n → (1 ≤ n) × (n ≤ 16)
-workers_within d n h = given_allowed workers_entry (λ n. (1 ≤ n) × (n ≤ 16)) (λ n e. rw (← same_some 4 n e) (omega arith, omega arith)) (is_within 1 16) d n h
-  where
-    same_some : (a b : ℕ) → Some a ≡ Some b → a ≡ b
-    same_some a b e = cc
+workers_within d n h = given_allowed workers_entry (λ n. (1 ≤ n) × (n ≤ 16)) (λ n e. rw (← some_same {x = 4} {y = n} e) (omega arith, omega arith)) (is_within 1 16) d n h
 
 tries_within : (d : Option Data) (n : ℕ) → GivesNumber tries_entry d n → (1 ≤ n) × (n ≤ 8)
-tries_within d n h = given_allowed tries_entry (λ n. (1 ≤ n) × (n ≤ 8)) (λ n e. rw (← same_some 3 n e) (omega arith, omega arith)) (is_within 1 8) d n h
-  where
-    same_some : (a b : ℕ) → Some a ≡ Some b → a ≡ b
-    same_some a b e = cc
+tries_within d n h = given_allowed tries_entry (λ n. (1 ≤ n) × (n ≤ 8)) (λ n e. rw (← some_same {x = 3} {y = n} e) (omega arith, omega arith)) (is_within 1 8) d n h
 
 drop_allowed : (n : ℕ) → (n == 0 || within 2 1000 n) ≡ true → IsDrop n
 drop_allowed n h = grind (arith, nat_tests)
 
 drop_within : (d : Option Data) (n : ℕ) → GivesNumber drop_entry d n → IsDrop n
-drop_within d n h = given_allowed drop_entry IsDrop (λ n e. inl (sym (same_some 0 n e))) drop_allowed d n h
-  where
-    same_some : (a b : ℕ) → Some a ≡ Some b → a ≡ b
-    same_some a b e = cc
+drop_within d n h = given_allowed drop_entry IsDrop (λ n e. inl (sym (some_same {x = 0} {y = n} e))) drop_allowed d n h
 
 repeat_within : (d : Option Data) (n : ℕ) → GivesNumber repeat_entry d n → n ≤ 1000
-repeat_within d n h = given_allowed repeat_entry (λ n. n ≤ 1000) (λ n e. rw (← same_some 0 n e) (omega arith)) (λ n e. (is_within 0 1000 n e).1) d n h
-  where
-    same_some : (a b : ℕ) → Some a ≡ Some b → a ≡ b
-    same_some a b e = cc
+repeat_within d n h = given_allowed repeat_entry (λ n. n ≤ 1000) (λ n e. rw (← some_same {x = 0} {y = n} e) (omega arith)) (λ n e. (is_within 0 1000 n e).1) d n h
 
 other_than : (name : Bytes) (names : List Bytes) → AllByRecursion (λ y. slice_cmp nat_cmp name y ≡ Less) names → AllIn (λ y. ¬ (name ≡ y)) names
 other_than name [] h = tt

@@ -31,7 +31,7 @@ use Rattle.dt_eval.specs.Cases.{right_aborts, of_both}
 use Rattle.dt_eval.specs.Cases.{GivesNow, Hands, nothing, a_row, an_item, no_item, Does, lets, no_let, sets, no_set, clears, first_block, second_block}
 use Rattle.dt_eval.specs.Cases.{no_choice, aborts, gives, Runs, at_end, goes_on, stops, Means}
 use Rattle.dt_eval.specs.FrameInner.{GivesSort}
-use Rattle.dt_eval.proofs.FrameLaws.{LeadsTo, follow}
+use Rattle.dt_eval.proofs.FrameLaws.{LeadsTo, after_choice, follow}
 use Rattle.dt_eval.proofs.OperandLaws.{ranged, operate_is, is_operate, decides_is, is_decides}
 use Rattle.dt_eval.proofs.RunStart.{opening_sorts}
 use Rattle.dt_eval.proofs.SortLaws.{sort_kept}
@@ -52,6 +52,10 @@ not_decided : (o : Op) (a : Datum) (b : Bool) → decides o a ≡ b → ¬ (case
 not_decided o a true e n x y = absurd (n (is_decides o a e))
 not_decided o a false e n x y = ap (λ b. cond b x y) e
 
+-- what a binary expression gives, by what its right side gives and what its left side gave
+abbrev after_left : Op → Result Datum Cause → Result Datum Cause → Result Datum Cause
+after_left o right left = unless_aborted left (λ a. cond (decides o a) (Ok a) (unless_aborted right (operate o a)))
+
 pub value_is : (variables : List Datum) (rows : ℕ → Option Value) (f : ExprTree) (r : Result Datum Cause) → GivesDatum variables rows f r → evaluated variables rows f ≡ r
 value_is variables rows _ _ (a_number z) = refl
 value_is variables rows _ _ (a_text t) = refl
@@ -71,15 +75,15 @@ value_is variables rows _ _ (a_negative f z r g h) = ap (λ r. unless_aborted r 
 value_is variables rows _ _ (no_negative f c g) = ap (λ r. unless_aborted r negated) (value_is variables rows f _ g)
 value_is variables rows _ _ (an_opposite f b g) = ap (λ r. unless_aborted r other_truth) (value_is variables rows f _ g)
 value_is variables rows _ _ (no_opposite f c g) = ap (λ r. unless_aborted r other_truth) (value_is variables rows f _ g)
-value_is variables rows _ _ (left_aborts o f g c h) = ap (λ r. unless_aborted r (λ a. cond (decides o a) (Ok a) (unless_aborted (evaluated variables rows g) (operate o a)))) (value_is variables rows f _ h)
+value_is variables rows _ _ (left_aborts o f g c h) = ap (after_left o (evaluated variables rows g)) (value_is variables rows f _ h)
 value_is variables rows _ _ (left_decides o f g a h d) =
-    ap (λ r. unless_aborted r (λ a. cond (decides o a) (Ok a) (unless_aborted (evaluated variables rows g) (operate o a)))) (value_is variables rows f _ h)
+    ap (after_left o (evaluated variables rows g)) (value_is variables rows f _ h)
     ∙ ap (λ b. cond b (Ok a) (unless_aborted (evaluated variables rows g) (operate o a))) (decides_is o a d)
 value_is variables rows _ _ (right_aborts o f g a c h n k) =
-    ap (λ r. unless_aborted r (λ a. cond (decides o a) (Ok a) (unless_aborted (evaluated variables rows g) (operate o a)))) (value_is variables rows f _ h)
+    ap (after_left o (evaluated variables rows g)) (value_is variables rows f _ h)
     ∙ not_decided o a (decides o a) refl n (Ok a) (unless_aborted (evaluated variables rows g) (operate o a)) ∙ ap (λ r. unless_aborted r (operate o a)) (value_is variables rows g _ k)
 value_is variables rows _ _ (of_both o f g a b r h n k m) =
-    ap (λ r. unless_aborted r (λ a. cond (decides o a) (Ok a) (unless_aborted (evaluated variables rows g) (operate o a)))) (value_is variables rows f _ h)
+    ap (after_left o (evaluated variables rows g)) (value_is variables rows f _ h)
     ∙ not_decided o a (decides o a) refl n (Ok a) (unless_aborted (evaluated variables rows g) (operate o a)) ∙ ap (λ r. unless_aborted r (operate o a)) (value_is variables rows g _ k) ∙ operate_is o a b r m
 
 -- from the function to the cases
@@ -163,13 +167,17 @@ module _ (names : List Bytes) where
   now_is : (s : RunState) (f : ExprTree) (r : Result Datum Cause) → GivesNow names s f r → value_now names s f ≡ r
   now_is s f r g = value_is s.variables (row_at names s) f r g
 
+  -- the state behind an item of a value, by what its expression gave
+  abbrev after_item : List GiveTree → RunState → Result Datum Cause → Result RunState Cause
+  after_item gs s given = unless_aborted (unless_aborted (unless_aborted given (λ d. Ok (stored d))) (λ v. Ok (with_given v s))) (after_gifts names gs)
+
   gifts_is : (s : RunState) (gs : List GiveTree) (r : Result RunState Cause) → Hands names s gs r → after_gifts names gs s ≡ r
   gifts_is _ _ _ (nothing s) = refl
   gifts_is _ _ _ (a_row s k gs r h) = gifts_is _ gs r h
   gifts_is _ _ _ (an_item s f v gs r g h) =
-      ap (λ x. unless_aborted (unless_aborted (unless_aborted x (λ d. Ok (stored d))) (λ v. Ok (with_given v s))) (after_gifts names gs)) (now_is s f (Ok (datum_of v)) g)
+      ap (after_item gs s) (now_is s f (Ok (datum_of v)) g)
       ∙ ap (λ x. after_gifts names gs (with_given x s)) (stored_is v) ∙ gifts_is _ gs r h
-  gifts_is _ _ _ (no_item s f c gs g) = ap (λ x. unless_aborted (unless_aborted (unless_aborted x (λ d. Ok (stored d))) (λ v. Ok (with_given v s))) (after_gifts names gs)) (now_is s f (Err c) g)
+  gifts_is _ _ _ (no_item s f c gs g) = ap (after_item gs s) (now_is s f (Err c) g)
 
   mutual
     step_is : (s : RunState) (st : StmtTree) (r : Result RunState Cause) → Does names s st r → after_step names st s ≡ r
@@ -179,10 +187,10 @@ module _ (names : List Bytes) where
     step_is _ _ _ (no_set s k f c g) = ap (λ x. unless_aborted x (λ d. Ok (with_row_value names k (stored d) s))) (now_is s f (Err c) g)
     step_is _ _ _ (clears s k) = refl
     step_is _ _ _ (first_block s f a b r g h) =
-        ap (λ x. unless_aborted x (λ d. leaving s.variables (chosen d (after_block names a s) (after_block names b s)))) (now_is s f (Ok (Truth true)) g) ∙ ap (leaving s.variables) (block_is s a r h)
+        ap (after_choice names a b s) (now_is s f (Ok (Truth true)) g) ∙ ap (leaving s.variables) (block_is s a r h)
     step_is _ _ _ (second_block s f a b r g h) =
-        ap (λ x. unless_aborted x (λ d. leaving s.variables (chosen d (after_block names a s) (after_block names b s)))) (now_is s f (Ok (Truth false)) g) ∙ ap (leaving s.variables) (block_is s b r h)
-    step_is _ _ _ (no_choice s f a b c g) = ap (λ x. unless_aborted x (λ d. leaving s.variables (chosen d (after_block names a s) (after_block names b s)))) (now_is s f (Err c) g)
+        ap (after_choice names a b s) (now_is s f (Ok (Truth false)) g) ∙ ap (leaving s.variables) (block_is s b r h)
+    step_is _ _ _ (no_choice s f a b c g) = ap (after_choice names a b s) (now_is s f (Err c) g)
     step_is _ _ _ (aborts s t) = refl
     step_is _ _ _ (gives s gs r h) = gifts_is s gs r h
 

@@ -117,10 +117,14 @@ pub drop_step : (xs : List Stmt) (i : ℕ) (x : Stmt) → i < length xs → x �
 drop_step xs i x below is =
     ap block_tree (drop-cons xs i x below) ∙ ap (λ y. then (stmt_tree y) (block_tree (drop (suc i) xs))) (sym is) ∙ ap (λ j. then (stmt_tree x) (block_tree (drop j xs))) (sym (add-one i))
 
+-- the state behind a choice, by what its condition gave
+abbrev pub after_choice : List Bytes → BlockTree → BlockTree → RunState → Result Datum Cause → Result RunState Cause
+after_choice names a b s given = unless_aborted given (λ d. leaving s.variables (chosen d (after_block names a s) (after_block names b s)))
+
 -- a choice by a truth
 pub choose_by : (names : List Bytes) (e : ExprTree) (a b : BlockTree) (s t : RunState) (truth : Bool) (d : Datum) (vs : List Datum) → value_now names s e ≡ Ok d → d ≡ Truth truth → after_block names (cond truth a b) s ≡ Ok t →
     vs ≡ take (length s.variables) t.variables → after_step names (choose e a b) s ≡ Ok (record { variables = vs; rows = t.rows; given = t.given })
 choose_by names e a b s t true d vs v w x y =
-    ap (λ r. unless_aborted r (λ d. leaving s.variables (chosen d (after_block names a s) (after_block names b s)))) (v ∙ ap Ok w) ∙ block_left names a s t vs x y
+    ap (after_choice names a b s) (v ∙ ap Ok w) ∙ block_left names a s t vs x y
 choose_by names e a b s t false d vs v w x y =
-    ap (λ r. unless_aborted r (λ d. leaving s.variables (chosen d (after_block names a s) (after_block names b s)))) (v ∙ ap Ok w) ∙ block_left names b s t vs x y
+    ap (after_choice names a b s) (v ∙ ap Ok w) ∙ block_left names b s t vs x y

@@ -12,7 +12,7 @@ use Rattle.dt_text.proofs.Callers.{bare_begins, exact, no_more, no_word, text_be
 use Rattle.dt_text.specs.declared.word.Word.{Word}
 use Rattle.dt_text.specs.declared.word.Word.TheVariants.{Bare, Text}
 use Rattle.dt_events.specs.Events.{bare_bytes, AreBareWords}
-use Rattle.dt_events.specs.Reading.{spelled, AreShort}
+use Rattle.dt_events.specs.ReadingInner.{spelled, AreShort}
 
 -- one more word before others, if it is bare
 abbrev pub onto : Option (List ℕ) → Option (List (List ℕ)) → Option (List (List ℕ))

@@ -15,7 +15,7 @@ use Rattle.dt_access.specs.declared.TxnId.{TxnId}
 use Rattle.dt_access.specs.Ids.{IsCounted, id_text}
 use Rattle.dt_events.specs.declared.event.Event.{Event}
 use Rattle.dt_events.specs.Events.{event_words, bare_bytes, AreBareWords, IsEventLine, IsNumberedEvent}
-use Rattle.dt_events.specs.Reading.{Keeps, spelled, AreShort, AreIds, ReadsEvent}
+use Rattle.dt_events.specs.ReadingInner.{Keeps, spelled, AreShort, AreIds, ReadsEvent}
 
 -- ---- words that are read where they stand
 

@@ -18,7 +18,7 @@ use Rattle.dt_events.specs.declared.event.Event.TheVariants.{Submit, Append, Del
 use Rattle.dt_events.specs.Events.{event_words, IsWritten, IsRegion, IsCount, bare_bytes, AreBareWords, HasEventForm, IsNumberedEvent, FirstWithoutForm}
 use Rattle.dt_events.specs.Laws.{EventFilesAreOneList, EventsHaveNoFault, EventFilesHaveOneFault, EventFilesHaveAnOutcome}
 use Rattle.dt_events.proofs.EventWords.{not_made_of_words, no_bare_words, are_bare_words, one_line, no_event_of_line}
-use Rattle.dt_events.proofs.ReadBack.{one_event}
+use Rattle.dt_events.proofs.PrintedEvents.{one_event}
 
 -- ---- words that spell a value
 

@@ -1,6 +1,6 @@
 pub mod BareWords
 pub mod EventWords
 pub mod EveryFile
-pub mod ReadBack
+pub mod PrintedEvents
 pub mod Stamps
 pub mod Callers

@@ -1,4 +1,4 @@
 pub mod Events
-pub mod Reading
+pub mod ReadingInner
 pub mod Laws
 pub mod Stamps

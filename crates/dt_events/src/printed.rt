@@ -3,7 +3,7 @@ ghost use Rattle.std.specs.Fmt.{decimal};
 ghost use Rattle.std.specs.List.{join_with_byte};
 ghost use Rattle.dt_access.specs.Ids.{id_text};
 ghost use Rattle.dt_events.specs.Events.{event_line, event_text};
-ghost use Rattle.dt_events.specs.Reading.{Keeps};
+ghost use Rattle.dt_events.specs.ReadingInner.{Keeps};
 
 use crate::event::Event;
 use dt_access::{TxnId, put_id};

@@ -5,7 +5,7 @@ ghost use Rattle.dt_text.specs.Numbers.{ReadsNumber};
 ghost use Rattle.dt_text.specs.Texts.{IsName};
 ghost use Rattle.dt_access.specs.Ids.{id_text};
 ghost use Rattle.dt_events.specs.Events.{AreEvents, FirstWithoutForm, IsEventLine};
-ghost use Rattle.dt_events.specs.Reading.{AreIds, AreShort, Reads, ReadsEvent, spelled};
+ghost use Rattle.dt_events.specs.ReadingInner.{AreIds, AreShort, Reads, ReadsEvent, spelled};
 
 use crate::event::Event;
 use crate::words::bare_words;

@@ -1,6 +1,6 @@
 ghost use Rattle.std.specs.Prelude.{◌<◌, ◌^◌, ℕ, List, length, IfOk, MatchBool};
 ghost use Rattle.dt_events.specs.Events.{AreBareWords};
-ghost use Rattle.dt_events.specs.Reading.{AreShort, spelled};
+ghost use Rattle.dt_events.specs.ReadingInner.{AreShort, spelled};
 
 use dt_text::{NoMemory, bare_end, gap_end, is_visible};
 

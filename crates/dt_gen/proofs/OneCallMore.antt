@@ -47,6 +47,10 @@ pub sessions_length : (n : ℕ) → length (map (load_session n) session_numbers
 unfolding session_numbers
 sessions_length n = length-map-range_with_len (load_session n) 0 64
 
+-- all sessions, with one call more for the one whose turn it is
+abbrev one_given : ℕ → List Session
+one_given n = set (map (load_session n) session_numbers) (n % 64) (with_call (load_session n (n % 64)) (load_call n))
+
 -- all sessions after one call more
 pub dealt : (n : ℕ) → set (map (load_session n) session_numbers) (n % 64) (with_call (load_session n (n % 64)) (load_call n)) ≡ map (load_session (n + 1)) session_numbers
 dealt n =
@@ -57,16 +61,16 @@ dealt n =
     ext_get_or d (set before (n % 64) given) (map (load_session (n + 1)) session_numbers) (long ∙ sym (sessions_length (n + 1))) (λ j h. at j (omega (arith, h, long)))
   where
     at : (j : ℕ) → j < 64
-        → get_or (set (map (load_session n) session_numbers) (n % 64) (with_call (load_session n (n % 64)) (load_call n))) j (load_session n 0)
+        → get_or (one_given n) j (load_session n 0)
         ≡ get_or (map (load_session (n + 1)) session_numbers) j (load_session n 0)
     at j h = by (n % 64 == j) refl ∙ sym (session_there (n + 1) j (load_session n 0) h)
       where
         by : (b : Bool) → (n % 64 == j) ≡ b
-            → get_or (set (map (load_session n) session_numbers) (n % 64) (with_call (load_session n (n % 64)) (load_call n))) j (load_session n 0) ≡ load_session (n + 1) j
+            → get_or (one_given n) j (load_session n 0) ≡ load_session (n + 1) j
         by true e =
             let turn : n % 64 ≡ j = grind (arith, nat_tests) in
             let within : n % 64 < length (map (load_session n) session_numbers) = omega (arith, sessions_length n) in
-            ap (λ k. get_or (set (map (load_session n) session_numbers) (n % 64) (with_call (load_session n (n % 64)) (load_call n))) k (load_session n 0)) (sym turn)
+            ap (λ k. get_or (one_given n) k (load_session n 0)) (sym turn)
             ∙ get_or-set_same (map (load_session n) session_numbers) (n % 64) (with_call (load_session n (n % 64)) (load_call n)) (load_session n 0) within
             ∙ ap (λ k. with_call (load_session n k) (load_call n)) turn
             ∙ sym (session_given n j e)

@@ -4,7 +4,7 @@ use Rattle.std.proofs.Common.{◌==◌, eqb-true, eq-eqb}
 use Rattle.std.proofs.lemmas.List.{length-map}
 use Rattle.std.proofs.lemmas.Option.{get_or_from_slice_get, slice_get-get_or}
 use Rattle.dt_lists.specs.Lists.{AnyIn, AllIn, Has, Distinct, EachThen}
-use Rattle.dt_lists.proofs.Callers.{all_get, all_image, all_map, all_put, any_get, any_of_image, any_put, at_place, distinct_within, each_map, each_of_image, has_map, has_place, place_of, place_within}
+use Rattle.dt_lists.proofs.Callers.{all_get, all_image, all_map, all_put, any_get, any_of_image, any_put, at_place, distinct_within, each_map, each_of_image, few_below, has_map, has_place, place_of, place_within}
 use Rattle.dt_access.specs.Ids.{AreAscending}
 use Rattle.dt_access.specs.declared.TxnId.{TxnId}
 use Rattle.dt_access.proofs.Callers.{before_differs}
@@ -12,7 +12,7 @@ use Rattle.dt_sched.specs.Views.{View}
 use Rattle.dt_sched.specs.Decide.{IsResolvable}
 use Rattle.dt_class.specs.Graphs.{AdjView, AreAllBlocked, AreVertices, IsInClass, IsSource, Leads}
 use Rattle.dt_queue.specs.Queues.{Waiting}
-use Rattle.dt_waits.specs.Left.{IsOrderly}
+use Rattle.dt_waits.specs.LeftInGraph.{IsOrderly}
 use Rattle.dt_waits.specs.Waits.{id_at}
 use Rattle.dt_waits.specs.Graph.{AllAreStuck, AreVerticesOf, GraphView, IsSomeGraph, IsStuck, KeepsGraph}
 use Rattle.dt_waits.specs.Among.{IsAmong, WaitsOutside}
@@ -20,7 +20,6 @@ use Rattle.dt_graph.specs.SmallStepsInner.{AreIdsAt}
 use Rattle.dt_waits.specs.Steps.{HaveSlots}
 use Rattle.dt_waits.proofs.Callers.{each_leads, member_stuck, none_blocked, not_all_blocked, one_place, place_has, place_leads, same_place, source_resolvable}
 use Rattle.dt_graph.proofs.AscendingNumbers.{full_has, full_length}
-use Rattle.dt_graph.proofs.Subsets.{few_below}
 
 -- stuck vertices have the slots of their entries
 pub stuck_slots : (g : GraphView) → IsSomeGraph g → (list : List ℕ) → AllIn (Has g.stuck) list → HaveSlots g.waiting g.vertices list

@@ -3,19 +3,18 @@ use Rattle.std.proofs.Common.{◌≡◌, ◌+◌, ◌<◌, ◌≤◌, ◌⊎◌,
 use Rattle.std.proofs.lemmas.List.{length-map}
 use Rattle.std.proofs.lemmas.Option.{get_or_from_slice_get}
 use Rattle.dt_lists.specs.Lists.{Has}
-use Rattle.dt_lists.proofs.Callers.{all_get, has_place, place_within}
+use Rattle.dt_lists.proofs.Callers.{all_get, few_below, has_place, place_within}
 use Rattle.dt_access.specs.declared.TxnId.{TxnId}
 use Rattle.dt_sched.specs.Views.{View, IsClass}
 use Rattle.dt_sched.specs.Decide.{IsExecutable}
 use Rattle.dt_waits.specs.declared.open.Open.{Open}
-use Rattle.dt_waits.specs.Left.{IsLeft, IsOrderly}
+use Rattle.dt_waits.specs.LeftInGraph.{IsLeft, IsOrderly}
 use Rattle.dt_waits.specs.Waits.{id_at}
 use Rattle.dt_waits.specs.Graph.{GraphView, KeepsGraph, IsOpened, IsPlaceOfClass, vertex_at}
 use Rattle.dt_graph.specs.NamesInner.{IsNumberOf}
 use Rattle.dt_waits.specs.Steps.{FinishesId, IsReadyWithout, Leaves, MayLeave, before, last, one_done}
 use Rattle.dt_graph.specs.SmallStepsInner.{FinishesIn, MayFinishIn, all, one}
 use Rattle.dt_waits.proofs.Callers.{at_named, class_of_resolved, distinct_members, executable_left, left_after, may_leave, member_of, next_is, pairwise_get}
-use Rattle.dt_graph.proofs.Subsets.{few_below}
 
 -- the graph of an executable id
 abbrev pub MayFinish : GraphView → TxnId → Type 0

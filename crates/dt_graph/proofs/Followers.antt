@@ -6,7 +6,7 @@ use Rattle.std.proofs.lemmas.Bool.{cases_Bool, false_from_ne_true}
 use Rattle.std.proofs.lemmas.List.{append_assoc}
 use Rattle.std.proofs.lemmas.List.Elements.{filter-append}
 use Rattle.dt_lists.specs.Lists.{AnyIn, AllIn, Has}
-use Rattle.dt_lists.proofs.Callers.{all_get, all_put, any_get, any_append_left, any_of_test, any_put, each_across, filter_all, filter_none, has_middle, same_head, same_tail, Spot, spot}
+use Rattle.dt_lists.proofs.Callers.{all_get, all_put, any_get, any_append_left, any_of_test, any_put, each_across, filter_all, filter_none, has_middle, same_head, same_tail, some_same, Spot, spot}
 use Rattle.dt_queue.specs.declared.Follower.{Follower}
 use Rattle.dt_queue.specs.Queues.{HasDistinctSlots, IsQueued, Waiting, pushed_after, follower_of, followers, followers_after, is_at, is_neighbour, neighbours}
 use Rattle.dt_waits.specs.Waits.{is_of}
@@ -90,9 +90,6 @@ module _ (waiting : List Waiting) (distinct : HasDistinctSlots waiting) where
 pub first_told : (ws : List Waiting) (f : Follower) → slice_get (map follower_of ws) 0 ≡ Some f → (w : Waiting) × (more : List Waiting) × (ws ≡ w ∷ more) × (w.slot ≡ f.slot) × (w.vertex ≡ f.vertex)
 first_told [] f e = cc
 first_told (w ∷ ws) f e = let s : follower_of w ≡ f = some_same e in (w, ws, refl, ap (λ x. x.slot) s, ap (λ x. x.vertex) s)
-  where
-    some_same : {x y : Follower} → Some x ≡ Some y → x ≡ y
-    some_same e = cc
 
 pub none_told : (ws : List Waiting) → slice_get (map follower_of ws) 0 ≡ None → ws ≡ []
 none_told [] e = refl

@@ -6,7 +6,7 @@ use Rattle.dt_sched.specs.Views.{View}
 use Rattle.dt_sched.specs.Sched.{CanInsert, parts_in}
 use Rattle.dt_waits.specs.declared.open.Open.{Open}
 use Rattle.dt_graph.specs.declared.waits.Waits.{Waits}
-use Rattle.dt_waits.specs.Left.{IsOrderly}
+use Rattle.dt_waits.specs.LeftInGraph.{IsOrderly}
 use Rattle.dt_waits.specs.Graph.{GraphView, KeepsGraph}
 use Rattle.dt_graph.specs.HeldInner.{kept_of}
 use Rattle.dt_graph.proofs.Bounds.{few_ids}

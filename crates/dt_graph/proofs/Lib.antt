@@ -10,10 +10,10 @@ pub mod Followers
 pub mod Degrees
 pub mod WaitEdges
 pub mod WaitGraph
-pub mod Questions
+pub mod QuestionAnswers
 pub mod ClassAnswers
 pub mod Removals
-pub mod Wakes
+pub mod ReadyVertices
 pub mod ReadyFollowers
 pub mod WalkByPlaces
 pub mod ClassMembers

@@ -18,7 +18,7 @@ use Rattle.dt_graph.specs.SubsetInner.{SubsetView}
 use Rattle.dt_graph.specs.SmallStepsInner.{AreLowered, IsFollowedAt, Wakes, falls}
 use Rattle.dt_graph.proofs.Followers.{first_told, followers_onward}
 use Rattle.dt_graph.proofs.Degrees.{IsLowering, lowering_onward}
-use Rattle.dt_graph.proofs.Wakes.{IsOfSome, IsWaking, of_some_decided, wakes_same}
+use Rattle.dt_graph.proofs.ReadyVertices.{IsOfSome, IsWaking, of_some_decided, wakes_same}
 
 -- degrees that were lowered are no greater
 lowered_less : (count : ℕ → ℕ) (old now : List ℕ) → AreLowered count old now → (v : ℕ) → get_or now v 0 ≤ get_or old v 0

@@ -8,7 +8,7 @@ use Rattle.dt_access.proofs.Callers.{before_differs}
 use Rattle.dt_sched.specs.Views.{View, IsClass}
 use Rattle.dt_sched.specs.Decide.{IsResolvable}
 use Rattle.dt_sched.proofs.Callers.{class_of_member, class_unique, complete_of_closed, present_of_complete}
-use Rattle.dt_waits.specs.Left.{IsOrderly}
+use Rattle.dt_waits.specs.LeftInGraph.{IsOrderly}
 use Rattle.dt_waits.specs.Graph.{GraphView, KeepsGraph}
 use Rattle.dt_waits.proofs.Callers.{last_place}
 

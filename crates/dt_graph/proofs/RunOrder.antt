@@ -1,26 +1,23 @@
 -- The vertices of a class in the order in which they run: they are gathered with their ranks and ids, and sorted by these.
-use Rattle.std.proofs.Common.{◌≡◌, ◌+◌, ◌<◌, ◌≤◌, ◌⊎◌, ◌↔◌, ◌∙◌, ℕ, zero, suc, Bool, true, ◌&&◌, ◌==◌, List, [], ◌∷◌, ◌++◌, length, map, get_or, slice_get, take, Option}
+use Rattle.std.proofs.Common.{◌≡◌, ◌+◌, ◌<◌, ◌≤◌, ◌⊎◌, ◌↔◌, ◌∙◌, ℕ, Bool, true, ◌&&◌, ◌==◌, List, [], ◌∷◌, ◌++◌, length, map, get_or, slice_get, take, Option}
 use Rattle.std.proofs.Common.{None, Some, IsPermutation, IsSorted, refl, sym, ap, ap₂, subst, inl, inr, eqb-true, eq-eqb, arith}
 use Rattle.std.proofs.lemmas.Bool.{and_from, and_parts}
 use Rattle.std.proofs.lemmas.Bool.Decides.{nat_tests}
 use Rattle.std.proofs.lemmas.List.{append-nil, map-append, take_more}
 use Rattle.std.proofs.lemmas.List.Sorted.{IsPermutation-map}
-use Rattle.std.specs.Cmp.{nat_cmp_is}
 use Rattle.std.specs.Ordering.{nat_cmp, ordering_then, is_lt}
 use Rattle.std.specs.declared.cmp.Ordering.{Ordering}
-use Rattle.std.specs.declared.cmp.Ordering.TheVariants.{Less, Equal}
 use Rattle.dt_lists.specs.Lists.{AllIn, Has, Distinct, EachThen}
-use Rattle.dt_lists.proofs.Callers.{all_append, all_get, all_put, each_map, each_of_image, place_within}
+use Rattle.dt_lists.proofs.Callers.{all_append, all_get, all_put, each_map, each_of_image, each_of_sorted, has_at, permuted_distinct, permuted_has, place_within}
 use Rattle.dt_access.specs.Ids.{Before, same_id}
 use Rattle.dt_access.specs.declared.TxnId.{TxnId}
-use Rattle.dt_access.proofs.Callers.{by_parts, id_of_test, same_by_parts, same_id_turned, test_of_id}
+use Rattle.dt_access.proofs.Callers.{by_parts, compare_less, compare_same, id_of_test, same_by_parts, same_id_turned, test_of_id}
 use Rattle.dt_graph.specs.declared.graph.Member.{Member}
 use Rattle.dt_waits.specs.Graph.{GraphView, vertex_at}
 use Rattle.dt_graph.specs.NamesInner.{IsNumberOf}
 use Rattle.dt_waits.specs.Steps.{RunInOrder, RunsBefore}
 use Rattle.dt_waits.specs.Waits.{id_at}
 use Rattle.dt_waits.proofs.Callers.{at_named, take_all}
-use Rattle.dt_graph.proofs.SortResults.{each_of_sorted, permuted_distinct, permuted_has}
 
 -- the member is a vertex of the graph, with its id and its rank
 abbrev pub IsMemberOf : GraphView → Member → Type 0
@@ -40,13 +37,8 @@ members_more g ids i d members rank vertex lt a at is = record {
   are = all_append (IsMemberOf g) members (record { rank = rank; id = get_or ids i d; vertex = vertex } ∷ []) a.are ((at, is), tt);
 }
 
-get_has : (xs : List TxnId) (i : ℕ) (d : TxnId) → i < length xs → Has xs (get_or xs i d)
-get_has [] i d lt = absurd (omega (arith, lt))
-get_has (x ∷ xs) zero d lt = inl refl
-get_has (x ∷ xs) (suc i) d lt = inr (get_has xs i d (omega (arith, lt)))
-
 pub all_numbered : (g : GraphView) (ids : List TxnId) (i : ℕ) (d : TxnId) (n : Option ℕ) → AllIn (Has g.ids) ids → i < length ids → n ≡ None → IsNumberOf g.ids (get_or ids i d) n → ⊥
-all_numbered g ids i d n there lt none is = subst (IsNumberOf g.ids (get_or ids i d)) none is (all_get (Has g.ids) ids there (get_or ids i d) (get_has ids i d lt))
+all_numbered g ids i d n there lt none is = subst (IsNumberOf g.ids (get_or ids i d)) none is (all_get (Has g.ids) ids there (get_or ids i d) (has_at ids i d lt))
 
 -- what is gathered of all ids
 pub gathered : (g : GraphView) (ids : List TxnId) (i : ℕ) (members : List Member) → length ids ≤ i → AreMembers g (take i ids) members → AreMembers g ids members
@@ -65,23 +57,17 @@ by_run a b = ordering_then (nat_cmp a.rank b.rank) (ordering_then (by_parts a.id
 IsEarlier : Member → Member → Type 0
 IsEarlier a b = (a.rank < b.rank) ⊎ (a.rank ≡ b.rank) × ((a.id.seq < b.id.seq) ⊎ (a.id.seq ≡ b.id.seq) × ((a.id.region < b.id.region) ⊎ (a.id.region ≡ b.id.region) × (a.vertex < b.vertex)))
 
-less : (m n : ℕ) → m < n → nat_cmp m n ≡ Less
-less m n h = sym (nat_cmp_is m n Less h)
-
-same_number : (n : ℕ) → nat_cmp n n ≡ Equal
-same_number n = sym (nat_cmp_is n n Equal refl)
-
 earlier_less : (a b : Member) → IsEarlier a b → is_lt (by_run a b) ≡ true
 unfolding IsEarlier
-earlier_less a b (inl h) = rw (less a.rank b.rank h) refl
+earlier_less a b (inl h) = rw (compare_less a.rank b.rank h) refl
 earlier_less a b (inr r) = by_id r.1
   where
     by_vertex : a.id.seq ≡ b.id.seq → (a.id.region < b.id.region) ⊎ (a.id.region ≡ b.id.region) × (a.vertex < b.vertex) → is_lt (by_run a b) ≡ true
-    by_vertex e (inl h) = rw (r.0, same_number b.rank, e, same_number b.id.seq, less a.id.region b.id.region h) refl
-    by_vertex e (inr h) = rw (r.0, same_number b.rank, e, same_number b.id.seq, h.0, same_number b.id.region, less a.vertex b.vertex h.1) refl
+    by_vertex e (inl h) = rw (r.0, compare_same b.rank, e, compare_same b.id.seq, compare_less a.id.region b.id.region h) refl
+    by_vertex e (inr h) = rw (r.0, compare_same b.rank, e, compare_same b.id.seq, h.0, compare_same b.id.region, compare_less a.vertex b.vertex h.1) refl
 
     by_id : (a.id.seq < b.id.seq) ⊎ (a.id.seq ≡ b.id.seq) × ((a.id.region < b.id.region) ⊎ (a.id.region ≡ b.id.region) × (a.vertex < b.vertex)) → is_lt (by_run a b) ≡ true
-    by_id (inl h) = rw (r.0, same_number b.rank, less a.id.seq b.id.seq h) refl
+    by_id (inl h) = rw (r.0, compare_same b.rank, compare_less a.id.seq b.id.seq h) refl
     by_id (inr s) = by_vertex s.0 s.1
 
 member_by_parts : (a b : Member) → a.rank ≡ b.rank → a.id ≡ b.id → a.vertex ≡ b.vertex → a ≡ b

@@ -5,32 +5,12 @@ use Rattle.std.proofs.Common.{None, Some, refl, sym, ap, subst, inl, inr, Bool, 
 use Rattle.std.proofs.lemmas.List.{get_or-set_same, get_or-set_other, length-append, length-set}
 use Rattle.std.proofs.Math.ListN.{get_or-append}
 use Rattle.dt_lists.specs.Lists.{AllIn, Has, Distinct}
-use Rattle.dt_lists.proofs.Callers.{all_append, all_append_left, all_get, all_map, all_put, distinct_push, distinct_within, each_append_left, each_across, either_nat, has_last, has_longer, has_more}
-use Rattle.dt_lists.proofs.Callers.{all_set, has_place, last_place, place_in_longer, place_in_more, place_of, place_within, some_same}
+use Rattle.dt_lists.proofs.Callers.{all_append, all_append_left, all_get, all_map, all_put, distinct_push, each_append_left, each_across, either_nat, has_last, has_longer, has_more}
+use Rattle.dt_lists.proofs.Callers.{all_set, few_below, has_place, last_place, place_in_longer, place_in_more, place_of, place_within, set_beside, set_here, some_same}
 use Rattle.dt_waits.proofs.Callers.{one_place}
 use Rattle.dt_graph.specs.SubsetInner.{PutsIn, StandsAtPlace, IsSubset, Removes}
 
--- the numbers below a bound
-abbrev below : ℕ → List ℕ
-below zero = []
-below (suc n) = n ∷ below n
-
-below_has : (n v : ℕ) → v < n → Has (below n) v
-below_has zero v lt = absurd (omega (arith, lt))
-below_has (suc n) v lt = elim (either_nat n v) [ inl e ↦ inl e | inr ne ↦ inr (below_has n v (less n v lt ne)) ]
-  where
-    less : (n v : ℕ) → v < suc n → n ≢ v → v < n
-    less n v lt ne = grind (arith, lt, ne)
-
-below_length : (n : ℕ) → length (below n) ≡ n
-below_length zero = refl
-below_length (suc n) = ap suc (below_length n)
-
--- distinct numbers below a bound are at most that many
-pub few_below : (n : ℕ) (xs : List ℕ) → Distinct xs → AllIn (λ v. v < n) xs → length xs ≤ n
-few_below n xs d within = subst (λ m. length xs ≤ m) (below_length n) (distinct_within xs (below n) d (all_map _ _ xs (λ v lt. below_has n v lt) within))
-
--- and less where one is missing
+-- distinct numbers below a bound are fewer than that where one is missing
 pub fewer_below : (n : ℕ) (xs : List ℕ) (v : ℕ) → Distinct xs → AllIn (λ u. u < n) xs → v < n → ¬ (Has xs v) → length xs < n
 fewer_below n xs v d within lt absent = more (length xs) (few_below n (v ∷ xs) (all_put _ xs (λ u h e. absent (subst (Has xs) (sym e) h)), d) (lt, within))
   where
@@ -60,18 +40,6 @@ set_has (x ∷ xs) (suc i) y z (inr h) = elim (set_has xs i y z h) [ inl e ↦ i
   where
     same : (j : ℕ) → suc j ≡ suc i → j ≡ i
     same j e = omega (arith, e)
-
-set_here : {A : Type 0} (xs : List A) (i : ℕ) (x y : A) → slice_get xs i ≡ Some x → slice_get (set xs i y) i ≡ Some y
-set_here [] i x y e = cc
-set_here (z ∷ xs) zero x y e = refl
-set_here (z ∷ xs) (suc i) x y e = set_here xs i x y e
-
-set_beside : {A : Type 0} (xs : List A) (i j : ℕ) (y : A) → j ≢ i → slice_get (set xs i y) j ≡ slice_get xs j
-set_beside [] i j y ne = refl
-set_beside (z ∷ xs) zero zero y ne = absurd (ne refl)
-set_beside (z ∷ xs) zero (suc j) y ne = refl
-set_beside (z ∷ xs) (suc i) zero y ne = refl
-set_beside (z ∷ xs) (suc i) (suc j) y ne = set_beside xs i j y (λ e. ne (ap suc e))
 
 -- a test of a place
 pub none_of_test : {A : Type 0} (place : Option A) (b : Bool) → is_some place ≡ not b → b ≡ true → place ≡ None
@@ -278,7 +246,7 @@ module _ (items : List ℕ) (places : List (Option ℕ)) (room : ℕ) (s : IsSub
             (subst (StandsAtPlace (set front place last) number) (sym (get_or-set_same (set places last (Some place)) number None None (subst (λ m. number < m) (sym (length-set places last (Some place))) lt))) number_gone)
         at n ln (inr ne) (inl l) = subst (StandsAtPlace (set front place last) n) (sym (get_or-set_other (set places last (Some place)) number n None None ne))
             (subst (λ n. StandsAtPlace (set front place last) n (get_or (set places last (Some place)) n None)) (sym l)
-            (subst (StandsAtPlace (set front place last) last) (sym (get_or-set_same places last (Some place) None last_within)) (set_here front place number last at_front)))
+            (subst (StandsAtPlace (set front place last) last) (sym (get_or-set_same places last (Some place) None last_within)) (set_here front place last (place_within front place number at_front))))
         at n ln (inr ne) (inr nl) = subst (StandsAtPlace (set front place last) n) (sym (get_or-set_other (set places last (Some place)) number n None None ne ∙ get_or-set_other places last n (Some place) None nl))
             (beside n ne nl (get_or places n None) (subst (λ l. StandsAtPlace l n (get_or places n None)) is (s.placed n ln)))
 
@@ -297,7 +265,7 @@ module _ (items : List ℕ) (places : List (Option ℕ)) (room : ℕ) (s : IsSub
           | inl h ↦
               let p : (i : ℕ) × (slice_get front i ≡ Some n) = place_of front n h in
               has_place (set front place last) p.0 n (set_beside front place p.0 last (λ e. o.1 (some_same (sym p.1 ∙ ap (slice_get front) e ∙ at_front))) ∙ p.1)
-          | inr e ↦ subst (Has (set front place last)) e (has_place (set front place last) place last (set_here front place number last at_front))
+          | inr e ↦ subst (Has (set front place last)) e (has_place (set front place last) place last (set_here front place last (place_within front place number at_front)))
         ],
       );
     }

@@ -3,7 +3,7 @@ use Rattle.std.proofs.Common.{◌≡◌, ◌+◌, ◌<◌, ◌≤◌, ◌⊎◌,
 use Rattle.std.proofs.Common.{inr, true≢false, arith}
 use Rattle.std.proofs.lemmas.Option.{slice_get-get_or}
 use Rattle.dt_lists.specs.Lists.{Has}
-use Rattle.dt_lists.proofs.Callers.{all_get, either_nat, has_last, has_longer, has_more, has_place, place_within}
+use Rattle.dt_lists.proofs.Callers.{all_get, either_nat, has_last, has_longer, has_more, has_place, place_within, some_same}
 use Rattle.dt_class.specs.Graphs.{AdjView, IsEdge}
 use Rattle.dt_queue.specs.Queues.{Waiting}
 use Rattle.dt_waits.specs.Waits.{slots_of}
@@ -56,9 +56,6 @@ gathered waiting list place graph blocked past g = record {
 -- one place more
 module _ (waiting : List Waiting) (list : List ℕ) (place v : ℕ) (graph new : AdjView) (blocked : List ℕ) (b : Bool) (at : slice_get list place ≡ Some v)
     (l : HasLinked (IsSourceAt waiting (slots_of waiting v)) list place graph new b) (g : IsGathering waiting list place graph blocked) where
-  some_same : {x y : ℕ} → Some x ≡ Some y → x ≡ y
-  some_same s = cc
-
   below_next : (q : ℕ) → q < place + 1 → (q < place) ⊎ (q ≡ place)
   below_next q lt = elim (either_nat q place) [ inl e ↦ inr e | inr ne ↦ inl (omega (arith, lt, ne)) ]
 

@@ -1,5 +1,5 @@
 -- A walk along a list by its places: the item at a place stands between those before it and those after it.
-use Rattle.std.proofs.Common.{◌≡◌, ◌<◌, ◌⊎◌, ◌↔◌, ◌+◌, ◌∙◌, ℕ, zero, suc, List, [], ◌∷◌, ◌++◌, length, get_or, take, drop, refl, sym, ap, subst, inl, inr, arith}
+use Rattle.std.proofs.Common.{◌≡◌, ◌<◌, ◌⊎◌, ◌↔◌, ◌+◌, ◌∙◌, ℕ, suc, List, [], ◌∷◌, ◌++◌, length, get_or, take, drop, refl, sym, ap, subst, inl, inr, arith}
 use Rattle.std.proofs.Math.Seq.{drop-cons}
 use Rattle.std.proofs.lemmas.Grind.{take_at_read}
 use Rattle.dt_lists.specs.Lists.{Has}
@@ -15,18 +15,6 @@ left_at items place lt = drop-cons items place 0 lt ∙ ap (λ n. get_or items p
 -- and the item there is one of what is left
 pub next_in : (items : List ℕ) (place : ℕ) → place < length items → Has (drop place items) (get_or items place 0)
 next_in items place lt = subst (λ l. Has l (get_or items place 0)) (sym (left_at items place lt)) (inl refl)
-
--- the item at a place is one of the list
-pub item_in : (items : List ℕ) (place : ℕ) → place < length items → Has items (get_or items place 0)
-item_in [] place lt = absurd (none place lt)
-  where
-    none : (n : ℕ) → n < 0 → ⊥
-    none n lt = omega (arith, lt)
-item_in (x ∷ xs) zero lt = inl refl
-item_in (x ∷ xs) (suc n) lt = inr (item_in xs n (less n (length xs) lt))
-  where
-    less : (n m : ℕ) → suc n < suc m → n < m
-    less n m lt = omega (arith, lt)
 
 -- an item is in what is passed after a place where it is in what was passed before, or is the item there
 pub passed_at : (items : List ℕ) (place : ℕ) → place < length items → (v : ℕ) → Has (take (place + 1) items) v ↔ Has (take place items) v ⊎ (get_or items place 0 ≡ v)

@@ -7,7 +7,7 @@ ghost use Rattle.dt_sched.specs.Decide.{IsExecutable, IsResolvable};
 ghost use Rattle.dt_sched.specs.Sched.{CanInsert};
 ghost use Rattle.dt_sched.specs.Views.{View};
 ghost use Rattle.dt_waits.specs.Graph.{AllAreStuck, AreVerticesOf, KeepsGraph, IsSomeGraph, nothing_kept};
-ghost use Rattle.dt_waits.specs.Left.{IsOrderly};
+ghost use Rattle.dt_waits.specs.LeftInGraph.{IsOrderly};
 ghost use Rattle.dt_graph.specs.SmallStepsInner.{AreIdsAt, FinishesIn, MayFinishIn};
 ghost use Rattle.dt_waits.specs.Steps.{RunInOrder, FinishesId, InsertsPart, ResolvesClass};
 ghost use Rattle.dt_waits.specs.Waits.{id_at};

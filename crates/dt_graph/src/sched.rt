@@ -29,7 +29,7 @@ impl Scheduler for QueueSched {
     ghost seen = { λ s. s };
 
     /// It never needs memory to finish an id.
-    ghost spare = { λ _. 4294967295 };
+    ghost spare = { λ _. 18446744073709551615 };
 
     fn empty(alloc: Global, regions: u8) -> Result<Self, NoMemory> {
         Ok(QueueSched {
@@ -66,7 +66,7 @@ impl Scheduler for QueueSched {
         Ok(())
     }
 
-    fn reserve(&mut self, _alloc: Global, _places: u32) -> Result<(), NoMemory> {
+    fn reserve(&mut self, _alloc: Global, _places: usize) -> Result<(), NoMemory> {
         Ok(())
     }
 

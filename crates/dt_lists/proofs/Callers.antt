@@ -1,10 +1,10 @@
--- What a caller's proof needs of lists: some items, each item, fronts, places, filters, what is decided, and chains.
+-- What a caller's proof needs of lists: some items, each item, fronts, places, filters, what is decided, chains, and sorts.
 -- All other lemmas of this crate are its own.
 pub use Rattle.dt_lists.proofs.Words.{all_any, all_append, all_append_left, all_append_right, all_at, all_get, all_image, all_map, all_of_image}
 pub use Rattle.dt_lists.proofs.Words.{all_put, any_append, any_append_left, any_append_right, any_at, any_from_at, any_get, any_image, any_map}
 pub use Rattle.dt_lists.proofs.Words.{any_of_image, any_put, each_across, each_append, each_append_left, each_append_right, each_image, each_map}
 pub use Rattle.dt_lists.proofs.Words.{each_of_image, has_map, some_across, some_append_left, some_get, some_map, some_of_two, within_get, within_refl}
-pub use Rattle.dt_lists.proofs.Distinct.{distinct_push, distinct_within, two_of_different}
+pub use Rattle.dt_lists.proofs.Distinct.{distinct_push, distinct_within, few_below, two_of_different}
 pub use Rattle.dt_lists.proofs.Keys.{HasKeyBefore, key_before_irreflexive, key_before_transitive, key_first, key_second, some_in_front}
 pub use Rattle.dt_lists.proofs.Fronts.{all_front, any_front, each_front, front_append, front_empty, front_map, front_refl, front_take, front_takes}
 pub use Rattle.dt_lists.proofs.Fronts.{front_length, front_trans, pairwise_any, pairwise_at, pairwise_length, pairwise_more, pairwise_refl, some_back, some_front}
@@ -17,8 +17,9 @@ pub use Rattle.dt_lists.proofs.Before.{PassesAtFront, Spot, all_of_gets, before_
 pub use Rattle.dt_lists.proofs.Before.{get_filtered, get_front, get_seam, has_before, has_middle, if_passes, same_by_key, some_each, spot, spot_has}
 pub use Rattle.dt_lists.proofs.Filters.{filter_all, filter_before, filter_each, filter_whole, has_filter, of_filter}
 pub use Rattle.dt_lists.proofs.Places.{all_more, any_in_joined, any_of_joined, at_place, distinct_by_key, each_of_set, field_of_set, flat_map_of_set}
-pub use Rattle.dt_lists.proofs.Places.{from_right, get_of_map, has_last, has_longer, has_more, has_of_filtered, has_place, map_of_set}
+pub use Rattle.dt_lists.proofs.Places.{from_right, get_of_map, get_of_replicate, has_at, has_last, has_longer, has_more, has_of_filtered, has_place, map_of_set}
 pub use Rattle.dt_lists.proofs.Places.{all_index, all_set, has_dropped, last_place, none_in_empty, one_place, place_in_longer, place_in_more, place_of, place_within}
-pub use Rattle.dt_lists.proofs.Chains.{chain_before, chain_decided, chain_join, chain_keeps, chain_map, chain_step, chain_takes_back}
-pub use Rattle.dt_lists.proofs.Changes.{same_head, same_rest, same_tail, set_apart, set_set, some_same}
+pub use Rattle.dt_lists.proofs.Chains.{chain_before, chain_decided, chain_join, chain_keeps, chain_map, chain_step, chain_takes_back, chain_turned}
+pub use Rattle.dt_lists.proofs.Changes.{same_head, same_rest, same_tail, set_apart, set_beside, set_here, set_set, some_same}
 pub use Rattle.dt_lists.proofs.Sums.{sum_mapped}
+pub use Rattle.dt_lists.proofs.Sorted.{each_of_sorted, has_listed, listed_has, permuted_apart, permuted_distinct, permuted_has}

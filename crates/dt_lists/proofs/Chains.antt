@@ -19,6 +19,11 @@ pub chain_map : {A : Type 0} {Step Other : A → A → Type 0} {x y : A} → ((a
 chain_map f here = here
 chain_map f (onward {y = y} {z = z} c e) = onward (chain_map f c) (f y z e)
 
+-- a chain of steps that are turned round leads back
+pub chain_turned : {A : Type 0} {Step Other : A → A → Type 0} {x y : A} → ((a b : A) → Step a b → Other b a) → Chain Step x y → Chain Other y x
+chain_turned f here = here
+chain_turned f (onward {y = y} {z = z} c e) = chain_before (f y z e) (chain_turned f c)
+
 -- what a step keeps, a chain keeps
 pub chain_keeps : {A : Type 0} {Step : A → A → Type 0} {x y : A} (P : A → Type 0) → ((a b : A) → Step a b → P a → P b) → Chain Step x y → P x → P y
 chain_keeps P f here p = p

@@ -1,5 +1,19 @@
 -- Lists of which an item was replaced, and what equal lists and equal options have in common.
-use Rattle.std.proofs.Common.{◌≡◌, ◌≢◌, ℕ, zero, suc, List, [], ◌∷◌, ◌++◌, set, Some, refl, ap}
+use Rattle.std.proofs.Common.{◌≡◌, ◌≢◌, ◌<◌, ℕ, zero, suc, List, [], ◌∷◌, ◌++◌, length, set, slice_get, Some, refl, ap, arith}
+
+-- an item was put at a place: it stands there, and what stands at each other place is as before
+
+pub set_here : {A : Type 0} (xs : List A) (i : ℕ) (y : A) → i < length xs → slice_get (set xs i y) i ≡ Some y
+set_here [] i y lt = absurd (omega (arith, lt))
+set_here (z ∷ xs) zero y lt = refl
+set_here (z ∷ xs) (suc i) y lt = set_here xs i y (omega (arith, lt))
+
+pub set_beside : {A : Type 0} (xs : List A) (i j : ℕ) (y : A) → j ≢ i → slice_get (set xs i y) j ≡ slice_get xs j
+set_beside [] i j y ne = refl
+set_beside (z ∷ xs) zero zero y ne = absurd (ne refl)
+set_beside (z ∷ xs) zero (suc j) y ne = refl
+set_beside (z ∷ xs) (suc i) zero y ne = refl
+set_beside (z ∷ xs) (suc i) (suc j) y ne = set_beside xs i j y (λ e. ne (ap suc e))
 
 -- of two items put at one place the later one stays
 pub set_set : {A : Type 0} (xs : List A) (i : ℕ) (x y : A) → set (set xs i x) i y ≡ set xs i y

@@ -12,4 +12,5 @@ pub mod Places
 pub mod Chains
 pub mod Changes
 pub mod Sums
+pub mod Sorted
 pub mod Callers

@@ -1,5 +1,5 @@
 -- Lists by place: an item is put in or added at the end; and what is said of a list by its last item.
-use Rattle.std.proofs.Common.{◌≡◌, ◌<◌, ◌⊎◌, ℕ, zero, suc, Bool, true, false, List, [], ◌∷◌, ◌++◌, length, get_or, drop, set, slice_index_or, map}
+use Rattle.std.proofs.Common.{◌≡◌, ◌<◌, ◌⊎◌, ℕ, zero, suc, Bool, true, false, List, [], ◌∷◌, ◌++◌, length, get_or, drop, set, replicate, slice_index_or, map}
 use Rattle.std.proofs.Common.{flat_map, slice_get, Some, refl, sym, ap, subst, inl, inr, append_assoc, append-nil, arith}
 use Rattle.std.specs.Prelude.{filter}
 use Rattle.std.proofs.lemmas.Bool.{cases_Bool}
@@ -39,6 +39,12 @@ get_of_map f [] i d = refl
 get_of_map f (y ∷ ys) zero d = refl
 get_of_map f (y ∷ ys) (suc i) d = get_of_map f ys i d
 
+-- where one item stands at every place, it is what is read at each, past the end too
+pub get_of_replicate : {A : Type 0} (n i : ℕ) (d : A) → get_or (replicate n d) i d ≡ d
+get_of_replicate zero i d = refl
+get_of_replicate (suc n) zero d = refl
+get_of_replicate (suc n) (suc i) d = get_of_replicate n i d
+
 -- what holds of the item that is put in and of each item, holds of each item then
 pub all_set : {A : Type 0} (P : A → Type 0) (xs : List A) (i : ℕ) (x : A) → AllIn P xs → P x → AllIn P (set xs i x)
 all_set P [] i x a p = tt
@@ -63,6 +69,11 @@ pub has_place : {A : Type 0} (xs : List A) (i : ℕ) (x : A) → slice_get xs i 
 has_place [] i x e = cc
 has_place (y ∷ ys) zero x e = inl (cc)
 has_place (y ∷ ys) (suc i) x e = inr (has_place ys i x e)
+
+pub has_at : {A : Type 0} (xs : List A) (i : ℕ) (d : A) → i < length xs → Has xs (get_or xs i d)
+has_at [] i d lt = absurd (omega arith)
+has_at (y ∷ ys) zero d lt = inl refl
+has_at (y ∷ ys) (suc i) d lt = inr (has_at ys i d (omega arith))
 
 pub place_within : {A : Type 0} (xs : List A) (i : ℕ) (x : A) → slice_get xs i ≡ Some x → i < length xs
 place_within [] i x e = cc

@@ -3,6 +3,6 @@ pub mod HeldSteps
 pub mod NextFree
 pub mod FewClaims
 pub mod EmptyRegion
-pub mod Captures
+pub mod SyncCaptures
 pub mod LongProcedures
 pub mod Callers

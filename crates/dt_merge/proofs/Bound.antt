@@ -6,15 +6,15 @@ use Rattle.std.proofs.lemmas.Bool.{cases_Bool}
 use Rattle.std.proofs.lemmas.List.{length-append, length-map, length-set}
 use Rattle.std.proofs.lemmas.List.Sums.{sum_by-cons}
 use Rattle.std.proofs.lemmas.Nat.{mul-le}
-use Rattle.dt_lists.specs.Lists.{AnyIn, AllIn, Distinct, EachThen, Has, IsFront, Pairwise}
+use Rattle.dt_lists.specs.Lists.{AnyIn, AllIn, Distinct, Has, IsFront, Pairwise}
 use Rattle.dt_lists.proofs.Callers.{any_at, any_front, any_image, front_take, front_trans, pairwise_length}
-use Rattle.dt_lists.proofs.Callers.{all_get, all_map, all_put, any_get, any_map, any_of_image, any_put, distinct_within, each_image, has_filter, has_map, has_of_filtered}
+use Rattle.dt_lists.proofs.Callers.{all_get, all_map, all_put, any_get, any_map, any_of_image, any_put, distinct_within, has_filter, has_map, has_of_filtered}
 use Rattle.dt_access.specs.Clash.{Bytes, same_key}
 use Rattle.dt_access.specs.declared.TxnId.{TxnId}
 use Rattle.dt_access.specs.declared.Part.{Part}
-use Rattle.dt_sched.specs.Views.{View, HasPart, IsClass, IsClosed, IsLonger, ids_of, log_at}
+use Rattle.dt_sched.specs.Views.{View, HasPart, IsClosed, IsLonger, ids_of, log_at}
 use Rattle.dt_sched.specs.Decide.{IsSound}
-use Rattle.dt_sched.proofs.Callers.{class_unique, complete_of_closed, present_of_complete}
+use Rattle.dt_sched.proofs.Callers.{complete_of_closed, few_groups, present_of_complete}
 use Rattle.dt_txn.specs.Replica.{done_ids}
 use Rattle.dt_cluster.specs.Valid.{IsValidCluster}
 use Rattle.dt_cluster.specs.declared.Cluster.{Cluster}
@@ -29,7 +29,7 @@ use Rattle.dt_session.specs.World.{World, Place, Submission, no_node, node_at, l
 use Rattle.dt_agreement.specs.Invariant.{IsPartAt, IsPlaceOf, IsPlaced, IsSubmissionOf, attempts_by}
 use Rattle.dt_agreement.proofs.Callers.{WasSubmitted, done_known, fronts_longer, log_distinct, logs_length, next_keeps, ordered, received_log, received_within, test_of_key, txn_there}
 use Rattle.dt_txn.proofs.Callers.{fronts_at}
-use Rattle.dt_merge.specs.Own.{own, places_at}
+use Rattle.dt_merge.specs.OwnPart.{own, places_at}
 use Rattle.dt_merge.specs.Weight.{most_events, sum_below, weight, world_weight}
 use Rattle.dt_merge.specs.WorldRegions.{HasInvariant}
 use Rattle.dt_merge.proofs.SumsBelow.{sum_below_added, sum_below_const, sum_below_first, sum_below_le}
@@ -205,31 +205,6 @@ attempts_within tries w session place p = go place.waits p.placed
         let grow : suc place.answered * tries ≤ length session.calls * tries = mul-le (suc place.answered) tries (length session.calls) tries (omega arith) (omega arith) in
         omega arith
 
--- the first of a list of ids
-abbrev first_id : TxnId → List TxnId → TxnId
-first_id d [] = d
-first_id d (id ∷ ids) = id
-
-abbrev no_id : TxnId
-no_id = record { seq = 0; region = 0 }
-
-first_has : (ids : List TxnId) → 2 ≤ length ids → Has ids (first_id no_id ids)
-first_has [] le = absurd (omega arith)
-first_has (id ∷ ids) le = inl refl
-
--- groups that are classes of their members, and differ, differ in their first members
-firsts_apart : (view : View) (groups : List (List TxnId)) → AllIn (λ ids. 2 ≤ length ids) groups → AllIn (λ ids. AllIn (λ t. IsClass view t ids) ids) groups → Distinct groups
-    → EachThen (λ a b. ¬ (first_id no_id a ≡ first_id no_id b)) groups
-firsts_apart view [] several classes once = tt
-firsts_apart view (ids ∷ groups) several classes once = (
-  all_put (λ b. ¬ (first_id no_id ids ≡ first_id no_id b)) groups (λ b h same.
-      all_get (λ c. ¬ (ids ≡ c)) groups once.0 b h
-      (class_unique view (first_id no_id ids) ids b (all_get (λ t. IsClass view t ids) ids classes.0 (first_id no_id ids) (first_has ids several.0))
-      (subst (λ t. IsClass view t b) (sym same)
-      (all_get (λ t. IsClass view t b) b (all_get (λ c. AllIn (λ t. IsClass view t c) c) groups classes.1 b h) (first_id no_id b) (first_has b (all_get (λ c. 2 ≤ length c) groups several.1 b h)))))),
-  firsts_apart view groups several.1 classes.1 once.1,
-)
-
 chain : {x y s t u v p q z k o : ℕ} → x ≤ y → y ≡ s + t → s ≡ u + v → t ≡ p → u ≤ q → v ≤ z → p ≤ k → z ≤ q → q + q + k ≤ o → x ≤ o
 chain a b c d e f h i j = omega arith
 
@@ -296,19 +271,11 @@ module _ {cluster : Cluster} {workload : Workload} (ok : IsValidCluster cluster)
             in_log r.0 lh id (any_image (λ y. y ≡ id) (λ p. p.id) (log_of w r.0) part)
 
     few_resolved : length (node_at w q).here.resolved ≤ there
-    few_resolved = subst (λ n. n ≤ there) (length-map (node_at w q).here.resolved (first_id no_id))
-        (few_ids (map (first_id no_id) (node_at w q).here.resolved)
-        (each_image (λ a b. ¬ (a ≡ b)) (first_id no_id) (node_at w q).here.resolved (firsts_apart (view_at w q) (node_at w q).here.resolved sound.resolved_several sound.resolved_classes sound.resolved_once))
-        (all_put (WasSubmitted w) (map (first_id no_id) (node_at w q).here.resolved) first_known))
-      where
-        first_known : (id : TxnId) → Has (map (first_id no_id) (node_at w q).here.resolved) id → WasSubmitted w id
-        first_known id h =
-            let r : (ids : List TxnId) × Has (node_at w q).here.resolved ids × (first_id no_id ids ≡ id) =
-            any_get (λ ids. first_id no_id ids ≡ id) (node_at w q).here.resolved (any_of_image (λ y. y ≡ id) (first_id no_id) (node_at w q).here.resolved h) in
-            let closed : AllIn (IsClosed (view_at w q)) r.0 = all_get (AllIn (IsClosed (view_at w q))) (node_at w q).here.resolved sound.resolved_closed r.0 r.1 in
-            let several : 2 ≤ length r.0 = all_get (λ ids. 2 ≤ length ids) (node_at w q).here.resolved sound.resolved_several r.0 r.1 in
-            subst (WasSubmitted w) r.2
-            (closed_known (first_id no_id r.0) (all_get (IsClosed (view_at w q)) r.0 closed (first_id no_id r.0) (first_has r.0 several)))
+    unfolding known there
+    few_resolved = subst (λ n. length (node_at w q).here.resolved ≤ n) (length-map (submissions w) (λ s. s.txn.id))
+        (few_groups (view_at w q) (node_at w q).here.resolved sound.resolved_several sound.resolved_classes sound.resolved_once (map (λ s. s.txn.id) (submissions w))
+        (all_map (AllIn (IsClosed (view_at w q))) (AllIn (Has (map (λ s. s.txn.id) (submissions w)))) (node_at w q).here.resolved
+        (λ ids. all_map (IsClosed (view_at w q)) (Has (map (λ s. s.txn.id) (submissions w))) ids (λ id c. in_known id (closed_known id c))) sound.resolved_closed))
 
     few_received : sum (received_lengths w q) ≤ cluster.regions * there
     few_received =
@@ -402,19 +369,23 @@ module _ {cluster : Cluster} {workload : Workload} (ok : IsValidCluster cluster)
       let a : calls_in workload.sessions * 1 ≤ calls_in workload.sessions * cluster.tries = mul-le (calls_in workload.sessions) 1 (calls_in workload.sessions) cluster.tries (omega arith) ok.tries in
       omega arith
 
+  -- how many attempts a region's sessions made, and how many calls are answered
+  abbrev tried_and_answered : ℕ → ℕ
+  tried_and_answered q = length (node_at w q).submitted + sum_by (λ p. p.answered) (places_at q workload.sessions w.places)
+
+  -- what bounds the weight of a region
+  abbrev weight_limit : ℕ → ℕ
+  weight_limit q = tried_and_answered q + (2 * cluster.regions + 2) * length (submissions w)
+
   -- what has happened is bounded
   pub weight_bounded : world_weight cluster.regions workload w ≤ most_events cluster workload
   unfolding there
   weight_bounded =
-      let a : world_weight cluster.regions workload w
-      ≤ sum_below (λ q. length (node_at w q).submitted + sum_by (λ p. p.answered) (places_at q workload.sessions w.places) + (2 * cluster.regions + 2) * length (submissions w)) cluster.regions =
-      sum_below_le (λ q. weight q (own workload w q))
-      (λ q. length (node_at w q).submitted + sum_by (λ p. p.answered) (places_at q workload.sessions w.places) + (2 * cluster.regions + 2) * length (submissions w)) cluster.regions few_weight in
-      let b : sum_below (λ q. length (node_at w q).submitted + sum_by (λ p. p.answered) (places_at q workload.sessions w.places) + (2 * cluster.regions + 2) * length (submissions w)) cluster.regions
-      ≡ sum_below (λ q. length (node_at w q).submitted + sum_by (λ p. p.answered) (places_at q workload.sessions w.places)) cluster.regions
-      + sum_below (λ q. (2 * cluster.regions + 2) * length (submissions w)) cluster.regions =
-      sum_below_added (λ q. length (node_at w q).submitted + sum_by (λ p. p.answered) (places_at q workload.sessions w.places)) (λ q. (2 * cluster.regions + 2) * length (submissions w)) cluster.regions in
-      let c : sum_below (λ q. length (node_at w q).submitted + sum_by (λ p. p.answered) (places_at q workload.sessions w.places)) cluster.regions
+      let a : world_weight cluster.regions workload w ≤ sum_below weight_limit cluster.regions =
+      sum_below_le (λ q. weight q (own workload w q)) weight_limit cluster.regions few_weight in
+      let b : sum_below weight_limit cluster.regions ≡ sum_below tried_and_answered cluster.regions + sum_below (λ q. (2 * cluster.regions + 2) * length (submissions w)) cluster.regions =
+      sum_below_added tried_and_answered (λ q. (2 * cluster.regions + 2) * length (submissions w)) cluster.regions in
+      let c : sum_below tried_and_answered cluster.regions
       ≡ sum_below (λ q. length (node_at w q).submitted) cluster.regions + sum_below (λ q. sum_by (λ p. p.answered) (places_at q workload.sessions w.places)) cluster.regions =
       sum_below_added (λ q. length (node_at w q).submitted) (λ q. sum_by (λ p. p.answered) (places_at q workload.sessions w.places)) cluster.regions in
       let d : sum_below (λ q. (2 * cluster.regions + 2) * length (submissions w)) cluster.regions ≡ cluster.regions * ((2 * cluster.regions + 2) * length (submissions w)) =

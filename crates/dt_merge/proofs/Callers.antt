@@ -10,11 +10,11 @@ pub use Rattle.dt_merge.proofs.GoodWorlds.{node_there, opening_good}
 pub use Rattle.dt_merge.proofs.SubmissionsStay.{grown_refl, grown_trans}
 pub use Rattle.dt_merge.proofs.Worlds.{legal_grows}
 pub use Rattle.dt_merge.proofs.LocalEvents.{asked_front, received_up, supply_lasts}
-pub use Rattle.dt_merge.proofs.Cuts.{two_fronts}
+pub use Rattle.dt_merge.proofs.FilterCuts.{two_fronts}
 pub use Rattle.dt_merge.proofs.MergeLists.{merge_of_none, merge_begins, merge_keeps, region_of_kept}
 pub use Rattle.dt_merge.proofs.MergesExist.{merge_exists}
 pub use Rattle.dt_merge.proofs.MergeSums.{merge_sums}
 pub use Rattle.dt_merge.proofs.Chronicles.{are_kept, merge_legal, merge_changes, merge_world}
 pub use Rattle.dt_merge.proofs.Bound.{events_few}
-pub use Rattle.dt_merge.proofs.Few.{most_few}
+pub use Rattle.dt_merge.proofs.EventLimit.{most_few}
 pub use Rattle.dt_merge.proofs.SumsBelow.{sum_below_added, sum_below_first, sum_below_le, sum_below_same}

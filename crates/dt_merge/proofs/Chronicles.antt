@@ -11,7 +11,7 @@ use Rattle.dt_session.specs.World.{World, opening_world}
 use Rattle.dt_session.specs.Step.{IsLegal, next}
 use Rattle.dt_session.specs.Run.{world_from, world_after, AreLegalFrom, AreLegal}
 use Rattle.dt_session.specs.Eager.{AllChange}
-use Rattle.dt_merge.specs.Own.{Own, own, HasGrown, IsSupplied, source_of}
+use Rattle.dt_merge.specs.OwnPart.{Own, own, HasGrown, IsSupplied, source_of}
 use Rattle.dt_merge.specs.WorldRegions.{HasInvariant, world_regions}
 use Rattle.dt_merge.specs.Regional.{Regions, after_all, AreLegalIn, AllChangeIn, AreLocal, IsRescheduling, Rescheduled}
 use Rattle.dt_events.specs.declared.Stamped.{Stamped}

@@ -6,7 +6,7 @@ use Rattle.std.proofs.lemmas.List.Elements.{filter-append}
 use Rattle.dt_lists.specs.Lists.{IsFront, Either}
 use Rattle.dt_lists.proofs.Callers.{either_nat, from_right, front_trans}
 use Rattle.dt_merge.specs.Regional.{Regions, after_all, AreLegalIn, AllChangeIn, those_of, Below, AreLocal, IsRescheduling, Rescheduled}
-use Rattle.dt_merge.proofs.Cuts.{Cut, Part, cut_at, part_of_front, two_fronts, same_kept, filter_yes, filter_no}
+use Rattle.dt_merge.proofs.FilterCuts.{Cut, Part, cut_at, part_of_front, two_fronts, same_kept, filter_yes, filter_no}
 
 -- lists of events
 

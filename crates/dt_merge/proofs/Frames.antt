@@ -14,7 +14,7 @@ use Rattle.dt_workload.specs.declared.Session.{Session}
 use Rattle.dt_workload.specs.declared.Workload.{Workload}
 use Rattle.dt_session.specs.World.{World, Node, Place, no_node, node_at, with_node, asked_of, taken_of, log_of, received_of, txn_of, session_at}
 use Rattle.dt_session.specs.Step.{attempt_for, node_submitted, world_submitted, called, submitted, placed, received, moved_on, answered, next}
-use Rattle.dt_merge.specs.Own.{own, places_at}
+use Rattle.dt_merge.specs.OwnPart.{own, places_at}
 use Rattle.dt_merge.proofs.OwnParts.{changed_elsewhere}
 
 own_is : (workload : Workload) (v w : World) (q : ℕ) → node_at v q ≡ node_at w q → places_at q workload.sessions v.places ≡ places_at q workload.sessions w.places → own workload v q ≡ own workload w q

@@ -1,4 +1,4 @@
-pub mod Cuts
+pub mod FilterCuts
 pub mod EventOrders
 pub mod SideBySide
 pub mod GoodWorlds
@@ -13,7 +13,7 @@ pub mod Chronicles
 pub mod SumsBelow
 pub mod WeightRises
 pub mod Bound
-pub mod Few
+pub mod EventLimit
 pub mod MergesExist
 pub mod MergeSums
 pub mod Callers

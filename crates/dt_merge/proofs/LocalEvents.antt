@@ -28,7 +28,7 @@ use Rattle.dt_session.specs.Tries.{Awaited, MayEnd, MayTry, attempt_after}
 use Rattle.dt_session.specs.Step.{IsLegal, MaySubmit, MayAnswer, awaited_at, next_attempt, called, submitted, answered, next}
 use Rattle.dt_agreement.specs.Invariant.{IsPlaceOf, has_home, requests}
 use Rattle.dt_agreement.proofs.Callers.{WasSubmitted, IsRequest, WaitsAt, executable_known, log_is, logs_length, received_within, request_is, session_found, waiting_for}
-use Rattle.dt_merge.specs.Own.{own, HasGrown, HaveGrown, source_of, IsSupplied}
+use Rattle.dt_merge.specs.OwnPart.{own, HasGrown, HaveGrown, source_of, IsSupplied}
 use Rattle.dt_merge.specs.WorldRegions.{HasInvariant}
 use Rattle.dt_merge.proofs.GoodWorlds.{node_there}
 use Rattle.dt_merge.proofs.OwnParts.{local, found_own, found_on, fronts_stay, logs_longer}

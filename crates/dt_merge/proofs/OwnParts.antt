@@ -14,7 +14,7 @@ use Rattle.dt_sched.specs.Views.{View, log_at, IsLonger}
 use Rattle.dt_txn.specs.Replica.{fronts}
 use Rattle.dt_workload.specs.declared.Session.{Session}
 use Rattle.dt_session.specs.World.{Node, Place, Submission, no_node, is_session, session_at, with_place, find_submission}
-use Rattle.dt_merge.specs.Own.{places_at, HasGrown}
+use Rattle.dt_merge.specs.OwnPart.{places_at, HasGrown}
 
 -- lists that are equal at each place
 pub same_lists : {A : Type 0} (d : A) (xs ys : List A) → length xs ≡ length ys → ((i : ℕ) → get_or xs i d ≡ get_or ys i d) → xs ≡ ys
@@ -101,10 +101,12 @@ changed_own (s ∷ sessions) (x ∷ places) region name p = go (cases_Bool (eqb 
     rest : List Place
     rest = with_place sessions places region name p
 
-    mine : places_at region (s ∷ sessions) (x ∷ places) ≡ x ∷ places_at region sessions places → local region (s ∷ sessions) ≡ s ∷ local region sessions
+    mine : eqb s.region region ≡ true → (b : Bool) → is_session region name s ≡ b
         → with_place (local region (s ∷ sessions)) (places_at region (s ∷ sessions) (x ∷ places)) region name p
-        ≡ cond (is_session region name s) (p ∷ places_at region sessions places) (x ∷ with_place (local region sessions) (places_at region sessions places) region name p)
-    mine e f = ap₂ (λ l m. with_place l m region name p) f e
+        ≡ cond b (p ∷ places_at region sessions places) (x ∷ with_place (local region sessions) (places_at region sessions places) region name p)
+    mine t b e =
+        ap₂ (λ l m. with_place l m region name p) (local_yes region s sessions t) (places_yes region s sessions t x places)
+        ∙ ap (λ c. cond c (p ∷ places_at region sessions places) (x ∷ with_place (local region sessions) (places_at region sessions places) region name p)) e
 
     pick : {B : Type 0} (f : List Place → B) (b : Bool) → is_session region name s ≡ b → f (with_place (s ∷ sessions) (x ∷ places) region name p) ≡ f (cond b (p ∷ places) (x ∷ with_place sessions places region name p))
     pick f b e = ap (λ c. f (cond c (p ∷ places) (x ∷ with_place sessions places region name p))) e
@@ -115,12 +117,10 @@ changed_own (s ∷ sessions) (x ∷ places) region name p = go (cases_Bool (eqb 
         ≡ with_place (local region (s ∷ sessions)) (places_at region (s ∷ sessions) (x ∷ places)) region name p
     go (inl t) (inl y) later =
         pick (places_at region (s ∷ sessions)) true y ∙ places_yes region s sessions t p places
-        ∙ sym (mine (places_yes region s sessions t x places) (local_yes region s sessions t)
-        ∙ ap (λ b. cond b (p ∷ places_at region sessions places) (x ∷ with_place (local region sessions) (places_at region sessions places) region name p)) y)
+        ∙ sym (mine t true y)
     go (inl t) (inr n) later =
         pick (places_at region (s ∷ sessions)) false n ∙ places_yes region s sessions t x (with_place sessions places region name p) ∙ ap (λ l. x ∷ l) later
-        ∙ sym (mine (places_yes region s sessions t x places) (local_yes region s sessions t)
-        ∙ ap (λ b. cond b (p ∷ places_at region sessions places) (x ∷ with_place (local region sessions) (places_at region sessions places) region name p)) n)
+        ∙ sym (mine t false n)
     go (inr f) y later =
         pick (places_at region (s ∷ sessions)) false (session_no region s sessions f name) ∙ places_no region s sessions f x (with_place sessions places region name p) ∙ later
         ∙ sym (ap₂ (λ l m. with_place l m region name p) (local_no region s sessions f) (places_no region s sessions f x places))

@@ -11,7 +11,7 @@ use Rattle.dt_workload.specs.declared.Session.{Session}
 use Rattle.dt_workload.specs.declared.Workload.{Workload}
 use Rattle.dt_session.specs.World.{World, Node, Place, Submission, no_node, node_at, with_node, with_place, log_of}
 use Rattle.dt_session.specs.Step.{body_of, next_attempt, attempt_for, node_submitted, world_submitted, placed, received, answered}
-use Rattle.dt_merge.specs.Own.{Own, own, places_at}
+use Rattle.dt_merge.specs.OwnPart.{Own, own, places_at}
 use Rattle.dt_merge.proofs.OwnParts.{local, changed_own}
 
 -- the attempt that a session makes by what is its region's own

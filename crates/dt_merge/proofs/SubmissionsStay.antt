@@ -15,7 +15,7 @@ use Rattle.dt_workload.specs.declared.Session.{Session}
 use Rattle.dt_workload.specs.declared.Workload.{Workload}
 use Rattle.dt_session.specs.World.{World, Node, Place, node_at, asked_of, taken_of, received_of, txn_of, session_at}
 use Rattle.dt_session.specs.Step.{next_attempt, called, submitted, placed, received, moved_on, answered, next}
-use Rattle.dt_merge.specs.Own.{Own, own, HasGrown}
+use Rattle.dt_merge.specs.OwnPart.{Own, own, HasGrown}
 use Rattle.dt_merge.proofs.Frames.{frame}
 use Rattle.dt_merge.proofs.OwnSteps.{attempt_of_own, append_own, deliver_own, move_own, submit_own, own_submitted, own_appended, own_delivered, own_moved}
 

@@ -2,10 +2,9 @@
 use Rattle.std.proofs.Common.{◌≡◌, ◌≢◌, ◌<◌, ◌≤◌, ◌+◌, ◌⊎◌, ℕ, zero, suc, Bool, true, false, cond, ltb, leb, ◌&&◌, List, [], ◌∷◌, ◌++◌, length, get_or, set}
 use Rattle.std.proofs.Common.{Some, None, refl, sym, ap, subst, ◌∙◌, inl, inr, arith, ltb-true}
 use Rattle.std.specs.Prelude.{Option, sum, sum_by, slice_index}
-use Rattle.std.proofs.lemmas.Bool.{and_parts, cases_Bool}
-use Rattle.std.proofs.lemmas.Option.{some_pair_parts}
+use Rattle.std.proofs.lemmas.Bool.{and_parts}
 use Rattle.std.proofs.lemmas.List.{length_push, length-set}
-use Rattle.std.proofs.lemmas.List.Sums.{sum_by-cons, sum_by-set}
+use Rattle.std.proofs.lemmas.List.Sums.{sum_by-set}
 use Rattle.dt_lists.specs.Lists.{Either, Has}
 use Rattle.dt_lists.proofs.Callers.{either_nat, set_apart}
 use Rattle.dt_access.specs.Clash.{Bytes}
@@ -22,13 +21,13 @@ use Rattle.dt_cluster.specs.declared.Cluster.{Cluster}
 use Rattle.dt_workload.specs.Valid.{IsValidWorkload}
 use Rattle.dt_workload.specs.declared.Session.{Session}
 use Rattle.dt_workload.specs.declared.Workload.{Workload}
-use Rattle.dt_session.specs.World.{World, Place, is_session, node_at, log_of, received_of, received_logs, txn_of, session_at, with_place}
+use Rattle.dt_session.specs.World.{World, Place, Submission, node_at, log_of, received_of, received_logs, txn_of, session_at, with_place}
 use Rattle.dt_session.specs.Step.{IsLegal, MayAnswer, MaySubmit, answered, next, next_attempt, placed, received, submitted}
 use Rattle.dt_session.specs.Run.{world_from, AreLegalFrom}
 use Rattle.dt_session.specs.Eager.{AllChange}
 use Rattle.dt_agreement.specs.Invariant.{IsPlaceOf}
-use Rattle.dt_agreement.proofs.Callers.{WasSubmitted, Submits, append_cases, executable_known, next_keeps, ordered, received_own, session_found, submits}
-use Rattle.dt_merge.specs.Own.{own}
+use Rattle.dt_agreement.proofs.Callers.{WasSubmitted, Submits, answered_changed, append_cases, executable_known, next_keeps, ordered, received_own, session_found, submits}
+use Rattle.dt_merge.specs.OwnPart.{own}
 use Rattle.dt_merge.specs.Weight.{sum_below, weight, world_weight}
 use Rattle.dt_merge.specs.WorldRegions.{HasInvariant}
 use Rattle.dt_merge.proofs.Frames.{frame}
@@ -84,37 +83,6 @@ by_resolved a b c d e e' f p = omega arith
 by_done : (a b c d e f f' : ℕ) → f' ≡ f + 1 → a + b + c + d + e + f < a + b + c + d + e + f'
 by_done a b c d e f f' p = omega arith
 
--- a place that is changed changes the answered calls by as much
-answered_with : (sessions : List Session) (places : List Place) (region : ℕ) (name : Bytes) (s : Session) (p now : Place) → session_at sessions places region name ≡ Some (s, p)
-    → sum_by (λ x. x.answered) (with_place sessions places region name now) + p.answered ≡ sum_by (λ x. x.answered) places + now.answered
-answered_with [] places region name s p now e = cc
-answered_with (t ∷ sessions) [] region name s p now e = cc
-answered_with (t ∷ sessions) (x ∷ places) region name s p now e = go (cases_Bool (is_session region name t)) (λ h. answered_with sessions places region name s p now h)
-  where
-    here : (l : List Place) (y : Place) → sum_by (λ z. z.answered) (y ∷ l) ≡ y.answered + sum_by (λ z. z.answered) l
-    here l y = sum_by-cons (λ z. z.answered) y l
-
-    after : (b : Bool) → is_session region name t ≡ b
-        → sum_by (λ z. z.answered) (with_place (t ∷ sessions) (x ∷ places) region name now)
-        ≡ sum_by (λ z. z.answered) (cond b (now ∷ places) (x ∷ with_place sessions places region name now))
-    after b is = ap (λ c. sum_by (λ z. z.answered) (cond c (now ∷ places) (x ∷ with_place sessions places region name now))) is
-
-    go : (is_session region name t ≡ true) ⊎ (is_session region name t ≡ false)
-        → (session_at sessions places region name ≡ Some (s, p) → sum_by (λ z. z.answered) (with_place sessions places region name now) + p.answered ≡ sum_by (λ z. z.answered) places + now.answered)
-        → sum_by (λ z. z.answered) (with_place (t ∷ sessions) (x ∷ places) region name now) + p.answered ≡ sum_by (λ z. z.answered) (x ∷ places) + now.answered
-    go (inl y) later =
-        let is : ◌≡◌ {A = Option (Session × Place)} (Some (t, x)) (Some (s, p)) = rw y at e in
-        let same : x.answered ≡ p.answered = ap (λ z. z.answered) (some_pair_parts t s x p is).1 in
-        let a : sum_by (λ z. z.answered) (with_place (t ∷ sessions) (x ∷ places) region name now) ≡ now.answered + sum_by (λ z. z.answered) places = after true y ∙ here places now in
-        let b : sum_by (λ z. z.answered) (x ∷ places) ≡ x.answered + sum_by (λ z. z.answered) places = here places x in
-        omega arith
-    go (inr n) later =
-        let r : sum_by (λ z. z.answered) (with_place sessions places region name now) + p.answered ≡ sum_by (λ z. z.answered) places + now.answered = later (rw n at e) in
-        let a : sum_by (λ z. z.answered) (with_place (t ∷ sessions) (x ∷ places) region name now) ≡ x.answered + sum_by (λ z. z.answered) (with_place sessions places region name now) =
-        after false n ∙ here (with_place sessions places region name now) x in
-        let b : sum_by (λ z. z.answered) (x ∷ places) ≡ x.answered + sum_by (λ z. z.answered) places = here places x in
-        omega arith
-
 module _ (cluster : Cluster) (ok : IsValidCluster cluster) (workload : Workload) (w : World) (g : HasInvariant cluster workload w) (region : ℕ) (lr : region < cluster.regions) where
   room : region < length w.nodes
   room = node_there g region lr
@@ -132,18 +100,17 @@ module _ (cluster : Cluster) (ok : IsValidCluster cluster) (workload : Workload)
   unfolding Rises
   submit_rises name may =
       let s : Submits cluster workload w region name = submits cluster ok workload w g.order region name may g.inv in
-      let now : Place = record s.place { waits = Some (attempt_of_own cluster region s.session s.place s.call (own workload w region) (next_attempt w s.place.waits)).txn.id } in
-      let sum_now : sum_by (λ p. p.answered) (with_place (local region workload.sessions) (own workload w region).places region s.session.name now) + s.place.answered
-      ≡ sum_by (λ p. p.answered) (own workload w region).places + s.place.answered =
-      answered_with (local region workload.sessions) (own workload w region).places region s.session.name s.session s.place now (in_own name s.session s.place s.named s.found) in
+      let attempt : Submission = attempt_of_own cluster region s.session s.place s.call (own workload w region) (next_attempt w s.place.waits) in
+      let now : Place = record s.place { waits = Some attempt.txn.id } in
+      let places : List Place = with_place (local region workload.sessions) (own workload w region).places region s.session.name now in
+      let sum_now : sum_by (λ p. p.answered) places + s.place.answered ≡ sum_by (λ p. p.answered) (own workload w region).places + s.place.answered =
+      answered_changed (local region workload.sessions) (own workload w region).places region s.session.name s.session s.place now (in_own name s.session s.place s.named s.found) in
       subst (λ v. weight region (own workload w region) < weight region (own workload v region)) (sym s.next)
       (subst (λ x. weight region (own workload w region) < weight region x) (sym (own_submitted cluster workload w region room s.session s.place s.call))
-      (by_submitted (length (node_at w region).submitted)
-      (length ((node_at w region).submitted ++ attempt_of_own cluster region s.session s.place s.call (own workload w region) (next_attempt w s.place.waits) ∷ []))
-      (sum_by (λ p. p.answered) (own workload w region).places)
-      (sum_by (λ p. p.answered) (with_place (local region workload.sessions) (own workload w region).places region s.session.name now))
+      (by_submitted (length (node_at w region).submitted) (length ((node_at w region).submitted ++ attempt ∷ []))
+      (sum_by (λ p. p.answered) (own workload w region).places) (sum_by (λ p. p.answered) places)
       (sum (set (node_at w region).received region (length (node_at w region).log))) (sum (node_at w region).here.inserted) (length (node_at w region).here.resolved) (length (node_at w region).here.done)
-      (length_push (node_at w region).submitted (attempt_of_own cluster region s.session s.place s.call (own workload w region) (next_attempt w s.place.waits))) (omega arith)))
+      (length_push (node_at w region).submitted attempt) (omega arith)))
 
   answer_rises : (name : Bytes) → MayAnswer cluster w region (session_at workload.sessions w.places region name) → Rises (answered workload w region (session_at workload.sessions w.places region name))
   unfolding Rises
@@ -156,12 +123,11 @@ module _ (cluster : Cluster) (ok : IsValidCluster cluster) (workload : Workload)
           let f : Has workload.sessions session × (session.name ≡ name) × (session.region ≡ region) × IsPlaceOf cluster.tries w session place =
           session_found (IsPlaceOf cluster.tries w) workload.sessions w.places region name session place g.inv.sessions.places e in
           let now : Place = record { answered = place.answered + 1; waits = None } in
-          let sum_now : sum_by (λ p. p.answered) (with_place (local region workload.sessions) (own workload w region).places region session.name now) + place.answered
-          ≡ sum_by (λ p. p.answered) (own workload w region).places + (place.answered + 1) =
-          answered_with (local region workload.sessions) (own workload w region).places region session.name session place now (in_own name session place f.1 e) in
+          let places : List Place = with_place (local region workload.sessions) (own workload w region).places region session.name now in
+          let sum_now : sum_by (λ p. p.answered) places + place.answered ≡ sum_by (λ p. p.answered) (own workload w region).places + (place.answered + 1) =
+          answered_changed (local region workload.sessions) (own workload w region).places region session.name session place now (in_own name session place f.1 e) in
           subst (λ x. weight region (own workload w region) < weight region x) (sym (own_answered cluster workload w region session place))
-          (by_answered (length (node_at w region).submitted) (sum_by (λ p. p.answered) (own workload w region).places)
-          (sum_by (λ p. p.answered) (with_place (local region workload.sessions) (own workload w region).places region session.name now))
+          (by_answered (length (node_at w region).submitted) (sum_by (λ p. p.answered) (own workload w region).places) (sum_by (λ p. p.answered) places)
           (sum (set (node_at w region).received region (length (node_at w region).log))) (sum (node_at w region).here.inserted) (length (node_at w region).here.resolved)
           (length (node_at w region).here.done) (omega arith))
 

@@ -11,7 +11,7 @@ use Rattle.dt_session.specs.World.{World, no_node}
 use Rattle.dt_session.specs.Step.{IsLegal, RegionsExist, next}
 use Rattle.dt_session.specs.Run.{world_from, AreLegalFrom}
 use Rattle.dt_agreement.proofs.Callers.{next_keeps, ordered, places_parallel}
-use Rattle.dt_merge.specs.Own.{HaveGrown, own}
+use Rattle.dt_merge.specs.OwnPart.{HaveGrown, own}
 use Rattle.dt_merge.specs.WorldRegions.{HasInvariant, world_regions}
 use Rattle.dt_merge.specs.Regional.{after_all, AreLegalIn, AreLocal}
 use Rattle.dt_merge.proofs.GoodWorlds.{node_there}

@@ -1,5 +1,5 @@
 pub mod Regional
-pub mod Own
+pub mod OwnPart
 pub mod WorldRegions
 pub mod Merge
 pub mod Weight

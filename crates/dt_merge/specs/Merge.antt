@@ -13,7 +13,7 @@ use Rattle.dt_workload.specs.declared.Workload.{Workload}
 use Rattle.dt_session.specs.World.{opening_world}
 use Rattle.dt_session.specs.Run.{AreLegal, world_after}
 use Rattle.dt_session.specs.Eager.{AllChange}
-use Rattle.dt_merge.specs.Own.{source_of, IsSupplied}
+use Rattle.dt_merge.specs.OwnPart.{source_of, IsSupplied}
 
 -- the region of a stamped event
 abbrev pub region_at : Stamped → ℕ

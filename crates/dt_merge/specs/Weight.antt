@@ -6,7 +6,7 @@ use Rattle.dt_cluster.specs.declared.Cluster.{Cluster}
 use Rattle.dt_workload.specs.Valid.{calls_in}
 use Rattle.dt_workload.specs.declared.Workload.{Workload}
 use Rattle.dt_session.specs.World.{World}
-use Rattle.dt_merge.specs.Own.{Own, own}
+use Rattle.dt_merge.specs.OwnPart.{Own, own}
 
 -- the sum of f below n
 abbrev pub sum_below : (ℕ → ℕ) → ℕ → ℕ

@@ -9,7 +9,7 @@ use Rattle.dt_workload.specs.declared.Workload.{Workload}
 use Rattle.dt_session.specs.World.{World}
 use Rattle.dt_session.specs.Step.{IsLegal, next}
 use Rattle.dt_agreement.specs.Invariant.{Inv}
-use Rattle.dt_merge.specs.Own.{Own, own, HasGrown, source_of, IsSupplied}
+use Rattle.dt_merge.specs.OwnPart.{Own, own, HasGrown, source_of, IsSupplied}
 use Rattle.dt_merge.specs.Regional.{Regions}
 
 -- the world keeps the invariant, with some order of first executions

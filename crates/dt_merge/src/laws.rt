@@ -12,7 +12,7 @@ ghost use Rattle.dt_session.specs.World.{World, node_at, opening_world};
 ghost use Rattle.dt_session.specs.Step.{IsLegal, next};
 ghost use Rattle.dt_session.specs.Run.{AreLegal, AreLegalFrom, world_after, world_from};
 ghost use Rattle.dt_session.specs.Eager.{AllChange};
-ghost use Rattle.dt_merge.specs.Own.{HasGrown, HaveGrown, IsSupplied, own, source_of};
+ghost use Rattle.dt_merge.specs.OwnPart.{HasGrown, HaveGrown, IsSupplied, own, source_of};
 ghost use Rattle.dt_merge.specs.Weight.{most_events, weight, world_weight};
 ghost use Rattle.dt_merge.specs.WorldRegions.{HasInvariant, world_regions};
 ghost use Rattle.dt_merge.specs.Regional.{AreLegalIn, AreSideBySide, AreTurns, IsRescheduling, Rescheduled, after_all};

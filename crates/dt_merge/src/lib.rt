@@ -18,7 +18,7 @@
 //! Beside this stands a bound (`weights`): each event that changes something raises the weight of its region, and no weight goes
 //! past what the calls, the tries and the regions allow. So there is a bound on such events.
 //!
-//! Read next: `specs/Own`, `specs/Merge`, then `src/laws.rt`.
+//! Read next: `specs/OwnPart`, `specs/Merge`, then `src/laws.rt`.
 #![tactic(auto)]
 
 mod laws;

@@ -11,7 +11,7 @@ use Rattle.dt_txn.specs.declared.Outcome.{Outcome}
 use Rattle.dt_session.specs.declared.sessions.Seat.{Seat}
 use Rattle.dt_session.specs.declared.sessions.Waiting.{Waiting}
 use Rattle.dt_session.specs.Sessions.{MayBeAnswered, MayGo, MaySeatEnd, MaySeatTry, SessionsView, after_answer, after_wait, answered_seat, is_named, seat_of, waiting, with_changed}
-use Rattle.dt_node.specs.Measure.{left_for, left_of}
+use Rattle.dt_node.specs.MeasureInner.{left_for, left_of}
 
 -- less is left for all where less is left for one, and for no other more
 module _ (f : Bytes × Seat → ℕ) (test : Bytes → Bool) (seat now : Seat) (less : (name : Bytes) → f (name, now) < f (name, seat)) where

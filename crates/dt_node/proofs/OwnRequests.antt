@@ -27,7 +27,7 @@ use Rattle.dt_node.proofs.EventsGoOn.{reached}
 use Rattle.dt_node.proofs.CallsOfNode.{place_moves}
 use Rattle.dt_node.proofs.CallAfterCall.{made_nothing}
 use Rattle.dt_node.proofs.Rule2Append.{can_place, place_goes}
-use Rattle.dt_node.proofs.Ready.{one_more}
+use Rattle.dt_node.proofs.CallConditions.{one_more}
 
 -- no more of them are placed than there are
 pub own_within : {cluster : Cluster} {workload : Workload} {events : List Event} {a : NodeView} → NodeFits cluster workload events a

@@ -21,17 +21,17 @@ use Rattle.dt_packet.specs.declared.packet.Packet.{Packet}
 use Rattle.dt_session.specs.Sessions.{IsNext, MayBeAnswered, MayGo, SessionsView, after_answer, after_wait, waits_of, wanted_of}
 use Rattle.dt_site.specs.declared.Origin.{Origin}
 use Rattle.dt_site.specs.Site.{SiteView, MakesAttempt, in_region}
-use Rattle.dt_node.specs.Measure.{left_for}
+use Rattle.dt_node.specs.MeasureInner.{left_for}
 use Rattle.dt_node.specs.NodeView.{NodeView, heard_by, number_of}
 use Rattle.dt_node.specs.Turn.{HasPlacedOwn, HasTaken, MayAnswerAt, last_at}
 use Rattle.dt_node.specs.Steps.{HasTakenOne, IsNextAt}
 use Rattle.dt_node.specs.StepsInner.{HasPlaced, HasReceived, IsAnswering, IsPlacedTo}
 use Rattle.dt_node.specs.TurnInner.{CanTake, HasGoneOn, KnowsTheSame, MovesOn, asking_packet, logging_packet, noted}
-use Rattle.dt_node.specs.Beginning.{IsPlacingOwn}
+use Rattle.dt_node.specs.EagerStartInner.{IsPlacingOwn}
 use Rattle.dt_node.proofs.CallAfterCall.{made_nothing, new_are}
-use Rattle.dt_node.proofs.OwnHome.{placing_none, placing_one}
+use Rattle.dt_node.proofs.SubmissionEvents.{placing_none, placing_one}
 use Rattle.dt_node.proofs.OwnRequests.{may_place_own, own_ends, own_held, own_placed}
-use Rattle.dt_node.proofs.SessionsOn.{answered_moves, answered_on, answered_seats, may_still, may_wait, submitted_less, submitted_moves, submitted_seats}
+use Rattle.dt_node.proofs.SessionCalls.{answered_moves, answered_on, answered_seats, may_still, may_wait, submitted_less, submitted_moves, submitted_seats}
 use Rattle.dt_node.proofs.Rule1Submit.{call_is_there}
 use Rattle.dt_node.proofs.WholePacket.{all_moved, all_steps, all_taken, asked_so_far, logged_so_far, may_ask, may_log}
 

@@ -146,6 +146,10 @@ module _ {cluster : Cluster} {workload : Workload} {region : ℕ} (lr : region <
       abbrev then : Replica
       then = stepped cluster.procs (held p.region.state) here event
 
+      -- the region's own part in the world after the step
+      abbrev stepped_node : Node
+      stepped_node = record (node_at w region) { here = stepped cluster.procs (txn_of w) (node_at w region).here event }
+
       legal : IsLegal cluster workload w event
       legal = legal_of event of may
 
@@ -153,7 +157,7 @@ module _ {cluster : Cluster} {workload : Workload} {region : ℕ} (lr : region <
       unfolding v
       node_then =
           ap (λ u. node_at u region) (moves event of may)
-          ∙ get_or-set_same w.nodes region (record (node_at w region) { here = stepped cluster.procs (txn_of w) (node_at w region).here event }) no_node (subst (λ n. region < n) (sym (inv o.reached).nodes) lr)
+          ∙ get_or-set_same w.nodes region stepped_node no_node (subst (λ n. region < n) (sym (inv o.reached).nodes) lr)
           ∙ ap (λ (n : Node). record n { here = stepped cluster.procs (txn_of w) n.here event }) o.node
           ∙ ap (λ (h : Replica). record (node_of p) { here = h }) (sym (same_step event may))
 
@@ -163,12 +167,12 @@ module _ {cluster : Cluster} {workload : Workload} {region : ℕ} (lr : region <
       others : (other : ℕ) → other ≢ region → node_at v other ≡ node_at w other
       unfolding v
       others other n = ap (λ u. node_at u other) (moves event of may)
-          ∙ get_or-set_other w.nodes region other (record (node_at w region) { here = stepped cluster.procs (txn_of w) (node_at w region).here event }) no_node n
+          ∙ get_or-set_other w.nodes region other stepped_node no_node n
 
       logs_then : p.region.state.logs ≡ received_logs v region
       unfolding v
       logs_then = o.logs ∙ sym (ap (λ u. received_logs u region) (moves event of may)
-          ∙ received_stay w region (record (node_at w region) { here = stepped cluster.procs (txn_of w) (node_at w region).here event }) w.places refl refl region)
+          ∙ received_stay w region stepped_node w.places refl refl region)
 
       on_way : IsInRound cluster workload v region p then a
       unfolding v

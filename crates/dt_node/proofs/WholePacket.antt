@@ -13,7 +13,7 @@ use Rattle.dt_node.specs.Steps.{HasTakenOne, placings, receipt}
 use Rattle.dt_node.specs.StepsInner.{HasPlaced, HasReceived, IsPlacedTo}
 use Rattle.dt_node.specs.TurnInner.{CanTake, KnowsTheSame, MovesOn, asking_packet, logging_packet, noted}
 use Rattle.dt_node.proofs.CallAfterCall.{new_joined}
-use Rattle.dt_node.proofs.HeardStamps.{heard_moves, noted_heard, noted_moves}
+use Rattle.dt_node.proofs.HearCall.{heard_moves, noted_heard, noted_moves}
 use Rattle.dt_node.proofs.PacketParts.{can_ask, can_log, moves_by_asking, moves_by_logging, moves_same}
 use Rattle.dt_node.proofs.TruePackets.{can_again}
 

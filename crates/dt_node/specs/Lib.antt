@@ -3,11 +3,11 @@ pub mod Packets
 pub mod NodeInWorld
 pub mod Turn
 pub mod Steps
-pub mod Sending
-pub mod Measure
+pub mod TurnPackets
+pub mod MeasureInner
 pub mod StepsInner
 pub mod TurnInner
-pub mod Beginning
+pub mod EagerStartInner
 pub mod NodeCode
 pub use Rattle.dt_session.specs.World
 pub use Rattle.dt_session.specs.Step

@@ -4,7 +4,7 @@
 -- insertions, resolutions and executions until none is left to make. Where some session went on in a pass, another pass follows;
 -- the first pass in which none did is the last one. Then the packets are sent, which makes no event. One learns here how this is
 -- said of a node before and after a turn (`HasTurned`): between the two stand states of the node that only these words name, and
--- each step from one state to the next is known by its events. Read `Turn` before; read next: `Sending`, for what is sent.
+-- each step from one state to the next is known by its events. Read `Turn` before; read next: `TurnPackets`, for what is sent.
 use Rattle.std.specs.Prelude.{◌≡◌, ◌↔◌, ◌+◌, ◌-◌, ◌==◌, ℕ, zero, suc, nat_lt, List, [], ◌∷◌, ◌++◌, length, get_or, max, Bool, true, false, Some, option_map, if◌then◌else◌}
 use Rattle.std.specs.List.{list_any}
 use Rattle.dt_lists.specs.Lists.{EachThen, Has}

@@ -18,7 +18,7 @@ use Rattle.dt_cluster.specs.declared.Cluster.{Cluster}
 use Rattle.dt_workload.specs.declared.Workload.{Workload}
 use Rattle.dt_session.specs.Sessions.{StandsAt}
 use Rattle.dt_site.specs.declared.Origin.{Origin}
-use Rattle.dt_node.specs.Measure.{left_for}
+use Rattle.dt_node.specs.MeasureInner.{left_for}
 use Rattle.dt_node.specs.NodeView.{NodeView, new_items, number_of}
 use Rattle.dt_node.specs.NodeInWorld.{AreTold, NodeFits}
 use Rattle.dt_node.specs.Turn.{AreBrought, HasGone, HasPlacedOwn, HasTaken, MayAnswerAt, MaySubmitAt, StampsRise}

@@ -2,7 +2,7 @@ ghost use Rattle.std.specs.Prelude.{◌≡◌, ◌<◌, ◌≤◌, ◌+◌, ◌^
 ghost use Rattle.dt_lists.specs.Lists.{AllIn, Pairwise};
 ghost use Rattle.dt_region.specs.Region.{held};
 ghost use Rattle.dt_node.specs.NodeView.{most_items, other_at, packet_for, stretch_from};
-ghost use Rattle.dt_node.specs.Sending.{HasEntriesOf, HasSent, IsReady, entries_from, packets_for, put_at, put_one};
+ghost use Rattle.dt_node.specs.TurnPackets.{HasEntriesOf, HasSent, IsReady, entries_from, packets_for, put_at, put_one};
 
 use crate::node::Node;
 use dt_access::TryCopy;

@@ -20,7 +20,7 @@
 //! knows none of these worlds, and whoever holds all nodes knows one. After `NoMemory` too, what a node kept goes on from what
 //! there was.
 //!
-//! Read next: `specs/NodeView`, `specs/Packets`, `specs/NodeInWorld`, `specs/Turn`, `specs/Steps`, `specs/Sending`; then `node.rt`,
+//! Read next: `specs/NodeView`, `specs/Packets`, `specs/NodeInWorld`, `specs/Turn`, `specs/Steps`, `specs/TurnPackets`; then `node.rt`,
 //! the turn.
 #![tactic(auto)]
 

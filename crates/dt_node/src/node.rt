@@ -5,7 +5,7 @@ ghost use Rattle.dt_round.specs.Rounds.{Continues};
 ghost use Rattle.dt_cluster.specs.Valid.{IsValidCluster};
 ghost use Rattle.dt_workload.specs.Valid.{IsValidWorkload};
 ghost use Rattle.dt_node.specs.NodeView.{new_items, opening_node_of};
-ghost use Rattle.dt_node.specs.Sending.{HasSent, LeavesNothingOut};
+ghost use Rattle.dt_node.specs.TurnPackets.{HasSent, LeavesNothingOut};
 ghost use Rattle.dt_node.specs.NodeInWorld.{NodeStands};
 ghost use Rattle.dt_node.specs.Steps.{HasMadePasses, HasTurned, IsPass};
 ghost use Rattle.dt_node.specs.Turn.{AreBrought, BeginsEagerly, HasGone, HasTaken, IsSettled, StampsRise};

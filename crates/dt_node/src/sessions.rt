@@ -1,8 +1,8 @@
 ghost use Rattle.std.specs.Prelude.{◌≡◌, ◌<◌, ◌+◌, [], List, IfOk, OnOk, length};
 ghost use Rattle.dt_proc.specs.Tree.{ProcTree};
 ghost use Rattle.dt_session.specs.Sessions.{StandsAt};
-ghost use Rattle.dt_node.specs.Measure.{left_for};
-ghost use Rattle.dt_node.specs.Beginning.{IsPlacingOwn, MakesNext};
+ghost use Rattle.dt_node.specs.MeasureInner.{left_for};
+ghost use Rattle.dt_node.specs.EagerStartInner.{IsPlacingOwn, MakesNext};
 ghost use Rattle.dt_node.specs.Steps.{AllWhoMight, IsNextAt};
 ghost use Rattle.dt_node.specs.StepsInner.{IsAnswering, IsSubmission, StepsAt};
 ghost use Rattle.dt_node.specs.Turn.{BeginsEagerly, HasPlacedOwn, MayAnswerAt, MaySubmitAt};

@@ -11,8 +11,6 @@ mod memory_folder;
 mod memory_sink;
 mod sinks;
 mod std_sink;
-#[cfg(test)]
-mod tests;
 
 pub use disk_folder::{DiskFolder, read_within};
 pub use failures::{Failed, LoadError};

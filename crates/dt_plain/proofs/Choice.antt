@@ -7,7 +7,7 @@ use Rattle.dt_access.specs.declared.TxnId.{TxnId}
 use Rattle.dt_sched.specs.Views.{View, here, IsComplete, IsClass}
 use Rattle.dt_sched.specs.Decide.{IsExecutable, IsResolvable}
 use Rattle.dt_sched.proofs.Callers.{has_id_decided, class_unique, in_own_class, present_of_complete}
-use Rattle.dt_plain.proofs.Same.{no_id}
+use Rattle.dt_plain.proofs.IdEquality.{no_id}
 use Rattle.dt_plain.proofs.Scan.{refuted}
 use Rattle.dt_sched.specs.Surroundings.{ArePresent}
 

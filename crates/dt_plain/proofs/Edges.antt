@@ -3,11 +3,11 @@ use Rattle.std.specs.Prelude.{Result, Ok, Err, IfOk}
 use Rattle.dt_text.specs.declared.NoMemory.{NoMemory}
 use Rattle.std.proofs.Common.{◌≡◌, ◌⊎◌, List, [], ◌∷◌, ◌++◌, map, sym, inl, inr, ◌∙◌}
 use Rattle.dt_lists.specs.Lists.{AnyIn, SomeThen}
-use Rattle.dt_lists.proofs.Callers.{any_append, any_append_left, any_append_right, any_map, any_image, any_of_image, some_append_left, chain_before}
-use Rattle.dt_lists.proofs.Callers.{chain_map}
+use Rattle.dt_lists.proofs.Callers.{any_append, any_append_left, any_append_right, any_map, any_image, any_of_image, some_append_left}
+use Rattle.dt_lists.proofs.Callers.{chain_map, chain_turned}
 use Rattle.dt_access.specs.declared.TxnId.{TxnId}
 use Rattle.dt_access.specs.declared.Part.{Part}
-use Rattle.dt_sched.specs.Views.{View, Chain, here, onward, AreClashing, Edge}
+use Rattle.dt_sched.specs.Views.{View, AreClashing, Edge}
 use Rattle.dt_plain.specs.Links.{IsLinked, AreReached}
 use Rattle.dt_sched.specs.Surroundings.{MakesEdge, EdgeInto, EdgeWithin, AreBehind, AreAhead}
 use Rattle.dt_plain.specs.Graphs.{Gains, AreEdges, AreTurned, turned_link}
@@ -127,10 +127,6 @@ edges_turned view links a =
 
 -- reach
 
-chain_turned : {A : Type 0} (R S : A → A → Type 0) → ((x y : A) → R x y → S y x) → (s t : A) → Chain R s t → Chain S t s
-chain_turned R S f s t here = here
-chain_turned R S f s t (onward {y = y} c e) = chain_before (f y t e) (chain_turned R S f s y c)
-
 pub ahead_from : (view : View) (links : List Link) (t : TxnId) (ids : List TxnId) → AreEdges view links → AreReached links t ids → AreAhead view t ids
 ahead_from view links t ids a r =
     record {
@@ -148,8 +144,8 @@ behind_from view back t ids a r =
       distinct = r.distinct;
       members =
           λ u. (
-            λ h. chain_turned (IsLinked back) (Edge view) (λ x y. (a.members x y).0) t u ((r.members u).0 h),
-            λ c. (r.members u).1 (chain_turned (Edge view) (IsLinked back) (λ x y. (a.members y x).1) u t c),
+            λ h. chain_turned (λ x y. (a.members x y).0) ((r.members u).0 h),
+            λ c. (r.members u).1 (chain_turned (λ x y. (a.members y x).1) c),
           );
     }
 

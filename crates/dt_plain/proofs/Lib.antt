@@ -1,7 +1,7 @@
 pub mod Callers
 pub mod Scan
-pub mod Same
-pub mod Growth
+pub mod IdEquality
+pub mod GrowingIds
 pub mod Walk
 pub mod Edges
 pub mod Order
@@ -9,4 +9,4 @@ pub mod Intersections
 pub mod PresentIds
 pub mod TestsOfScheduler
 pub mod Choice
-pub mod Fits
+pub mod InsertConditions

@@ -1,15 +1,14 @@
 -- What the tests of the scheduler decide.
 use Rattle.std.proofs.Common.{◌≡◌, ◌≤◌, ◌↔◌, Bool, false, List, length, get_or, sym, subst, inl, inr, arith, IsTrue}
 use Rattle.dt_lists.specs.Lists.{AllIn, Has, Either}
-use Rattle.dt_lists.proofs.Callers.{all_get, all_put, chain_join}
+use Rattle.dt_lists.proofs.Callers.{all_get, all_put, chain_join, has_at}
 use Rattle.dt_access.specs.declared.TxnId.{TxnId}
 use Rattle.dt_sched.specs.Views.{View, IsSooner, Precedes, IsClass}
 use Rattle.dt_sched.specs.Decide.{IsExecutable, IsResolvable}
 use Rattle.dt_access.proofs.Callers.{either_id}
 use Rattle.dt_sched.proofs.Callers.{has_id_decided, class_unique, class_of_member, sooner_breaks_ties}
 use Rattle.dt_plain.proofs.Scan.{refuted}
-use Rattle.dt_plain.proofs.Same.{no_id}
-use Rattle.dt_plain.proofs.Walk.{has_at}
+use Rattle.dt_plain.proofs.IdEquality.{no_id}
 use Rattle.dt_sched.specs.Surroundings.{AreBehind, AreAhead, IsNoObstacle, IsClear, AreCandidates, IsUnhindered}
 use Rattle.dt_sched.specs.IdLists.{AreCommon}
 

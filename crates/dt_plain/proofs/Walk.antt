@@ -3,7 +3,7 @@ use Rattle.std.proofs.Common.{◌≡◌, ◌∙◌, ℕ, zero, suc, ◌+◌, ◌
 use Rattle.std.proofs.Math.ListN.{length-map}
 use Rattle.std.proofs.lemmas.List.{take_more, take_all, take-append-le}
 use Rattle.dt_lists.specs.Lists.{AllIn, Has, Distinct}
-use Rattle.dt_lists.proofs.Callers.{any_map, any_image, all_map, all_get, all_put, all_append, distinct_within}
+use Rattle.dt_lists.proofs.Callers.{any_map, any_image, all_map, all_get, all_put, all_append, distinct_within, has_at}
 use Rattle.dt_access.specs.declared.TxnId.{TxnId}
 use Rattle.dt_sched.specs.Views.{Chain, here, onward}
 use Rattle.dt_plain.specs.Links.{IsLinked, Follows, AreReached}
@@ -16,12 +16,6 @@ pub record IsWalked (links : List Link) (start : TxnId) (found : List TxnId) (at
   pub sound : (t : TxnId) → Has found t → Chain (IsLinked links) start t
   pub followed : AllIn (λ u. (t : TxnId) → IsLinked links u t → Has found t) (take at found)
   pub short : at ≤ length found
-
--- an item at a place is in the list
-pub has_at : {A : Type 0} (xs : List A) (i : ℕ) (d : A) → i < length xs → Has xs (get_or xs i d)
-has_at [] i d h = absurd (omega arith)
-has_at (x ∷ xs) zero d h = inl refl
-has_at (x ∷ xs) (suc i) d h = inr (has_at xs i d (omega arith))
 
 -- at first the start is found, and nothing was followed
 pub walk_begins : (links : List Link) (start : TxnId) → IsWalked links start (start ∷ []) 0

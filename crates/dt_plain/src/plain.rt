@@ -104,8 +104,8 @@ impl Scheduler for PlainSched {
         Ok(())
     }
 
-    fn reserve(&mut self, _alloc: Global, places: u32) -> Result<(), NoMemory> {
-        self.done.reserve(places as usize)?;
+    fn reserve(&mut self, _alloc: Global, places: usize) -> Result<(), NoMemory> {
+        self.done.reserve(places)?;
         Ok(())
     }
 

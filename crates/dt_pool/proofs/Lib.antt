@@ -1,5 +1,5 @@
-pub mod Last
-pub mod Lending
-pub mod Moved
-pub mod Sent
+pub mod LastItems
+pub mod HelperLoops
+pub mod SendCaptures
+pub mod SendItems
 pub mod Callers

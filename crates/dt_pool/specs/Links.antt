@@ -1,4 +1,7 @@
--- Which ring a proof speaks of, and what went through it last.
+-- Which ring a proof speaks of, and what went through it last. A helper is lent an item by one ring and gives it back by another.
+-- That what comes back is what was lent, worked, follows only where the ends at hand are the two ends of one ring: so each ring
+-- has a name in proofs (`LinkName`), which both of its ends tell. Read next: the contracts of `lend` and `take_back` in
+-- `src/helper.rt`.
 use Rattle.std.specs.Prelude.{List, [], ◌∷◌, Option, Some, None, option_map}
 use denote.RawPtr.{Ptr}
 use Rattle.std.specs.declared.alloc.Global.{Global}

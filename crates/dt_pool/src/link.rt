@@ -36,7 +36,7 @@ impl<X> Link<X> {
 }
 
 /// Remembers an item at both ends of a ring.
-#[tactic(auto, using(crate::proofs::Last::last_item_append))]
+#[tactic(auto, using(crate::proofs::LastItems::last_item_append))]
 pub(crate) fn remember<X, R: Wait>(
     rt: &R,
     asks: &mut Producer<Snapshot<X>>,

@@ -198,6 +198,10 @@ combined_fits scope p o a b h k =
     (a.1, f.0, h, subst (λ s. HasSort (sorts scope) (length (writes scope)) b.0 s) f.1 k, refl))
     (λ e c is. absurd cc)
 
+-- where the sort of an expression is this one, its tree has it
+of_sort : (scope : Scope) (a : Typed) (s : Sort) → HasItsSort scope a → a.1 ≡ s → HasSort (sorts scope) (length (writes scope)) a.0 s
+of_sort scope a s h is = subst (λ t. HasSort (sorts scope) (length (writes scope)) a.0 t) is h
+
 mutual
   pub check_fits : (scope : Scope) (x : Syntax) → AllSound (syntax_tokens x) → Holds (HasItsSort scope) (check scope x)
   check_fits scope (chain head links) h =
@@ -206,11 +210,11 @@ mutual
   check_fits scope (minus p x) h =
       holds_after (HasItsSort scope) (check scope x) (λ a. needs p sort.Int a (tree.negative a.0, sort.Int))
       (λ a e. needs_fits (HasItsSort scope) p sort.Int a (tree.negative a.0, sort.Int)
-      (λ s. (refl, subst (λ t. HasSort (sorts scope) (length (writes scope)) a.0 t) s (check_fits scope x h.1 a e))))
+      (λ s. (refl, of_sort scope a _ (check_fits scope x h.1 a e) s)))
   check_fits scope (denial p x) h =
       holds_after (HasItsSort scope) (check scope x) (λ a. needs p sort.Bool a (tree.opposite a.0, sort.Bool))
       (λ a e. needs_fits (HasItsSort scope) p sort.Bool a (tree.opposite a.0, sort.Bool)
-      (λ s. (refl, subst (λ t. HasSort (sorts scope) (length (writes scope)) a.0 t) s (check_fits scope x h.1 a e))))
+      (λ s. (refl, of_sort scope a _ (check_fits scope x h.1 a e) s)))
   check_fits scope (int p z) h = holds_ok (HasItsSort scope) (tree.number z, sort.Int) (refl, h.0)
   check_fits scope (text p t) h = holds_ok (HasItsSort scope) (tree.text t, sort.Text) (refl, h.0)
   check_fits scope (truth p b) h = holds_ok (HasItsSort scope) (tree.truth b, sort.Bool) refl

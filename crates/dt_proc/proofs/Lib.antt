@@ -1,6 +1,6 @@
 pub mod BlockJoin
 pub mod Callers
-pub mod Crossing
+pub mod SharedByThreads
 pub mod Entries
 pub mod EveryOutcome
 pub mod ExprSorts

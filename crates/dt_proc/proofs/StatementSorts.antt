@@ -117,9 +117,10 @@ mutual
       (λ c m. holds_after (FitsStep scope) (check_block scope rs) (λ d. Ok (scope, tree.choose f c d))
       (λ d l. holds_ok (FitsStep scope) (scope, tree.choose f c d)
       (λ t fits.
-      let rest = sound_right (syntax_tokens x) (at b tok.Begin ∷ (statements_tokens ss ++ at e tok.End ∷ at w tok.Else ∷ at o tok.Begin ∷ (statements_tokens rs ++ at z tok.End ∷ []))) h.1 in
+      let blocks = at b tok.Begin ∷ (statements_tokens ss ++ at e tok.End ∷ at w tok.Else ∷ at o tok.Begin ∷ (statements_tokens rs ++ at z tok.End ∷ [])) in
+      let rest = sound_right (syntax_tokens x) blocks h.1 in
       let last = sound_right (statements_tokens ss) (at e tok.End ∷ at w tok.Else ∷ at o tok.Begin ∷ (statements_tokens rs ++ at z tok.End ∷ [])) rest.1 in (
-        test_fits scope p a f (check_fits scope x (sound_left (syntax_tokens x) (at b tok.Begin ∷ (statements_tokens ss ++ at e tok.End ∷ at w tok.Else ∷ at o tok.Begin ∷ (statements_tokens rs ++ at z tok.End ∷ []))) h.1) a g) k,
+        test_fits scope p a f (check_fits scope x (sound_left (syntax_tokens x) blocks h.1) a g) k,
         block_fits scope ss (sound_left (statements_tokens ss) (at e tok.End ∷ at w tok.Else ∷ at o tok.Begin ∷ (statements_tokens rs ++ at z tok.End ∷ [])) rest.1) c m,
         block_fits scope rs (sound_left (statements_tokens rs) (at z tok.End ∷ []) last.1.1.1) d l,
         fits,

@@ -5,11 +5,11 @@ pub mod InOrder
 pub mod RowLists
 pub mod RowsUsed
 pub mod RowSets
-pub mod KeptLanes
+pub mod LanesOfCells
 pub mod CellUses
 pub mod NearCells
-pub mod ShownLists
+pub mod EntryLists
 pub mod NextCells
-pub mod ShownCells
+pub mod EntriesOfCells
 pub mod NewNumbers
 pub mod Callers

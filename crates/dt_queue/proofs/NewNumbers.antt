@@ -20,9 +20,9 @@ use Rattle.dt_queue.specs.NumbersInner.{AreGiven, IsBeside, IsFirstBelow, IsFirs
 use Rattle.dt_queue.specs.InUseInner.{rows_at}
 use Rattle.dt_queue.specs.RowsInner.{AreRowsLinked, KeepsRows}
 use Rattle.dt_queue.proofs.InOrder.{AreAlone, IsListed, Rise, listed, same_list}
-use Rattle.dt_queue.proofs.KeptLanes.{either_place, kept_same, rows_refl, same_lanes}
+use Rattle.dt_queue.proofs.LanesOfCells.{either_place, kept_same, rows_refl, same_lanes}
 use Rattle.dt_queue.proofs.RowsUsed.{rows_same, used_mapped}
-use Rattle.dt_queue.proofs.ShownCells.{shown_same}
+use Rattle.dt_queue.proofs.EntriesOfCells.{shown_same}
 
 -- ---- numbers
 

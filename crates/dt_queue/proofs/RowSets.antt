@@ -3,7 +3,8 @@ use Rattle.std.proofs.Common.{◌≡◌, ◌≢◌, ◌⊎◌, ◌↔◌, ℕ, z
 use Rattle.std.proofs.Common.{Option, None, Some, Bool, true, false, is_some, refl, ap, sym, subst, inl, inr, arith, ◌∙◌}
 use Rattle.std.proofs.lemmas.List.{get_or_read, get_or-set_other, get_or-set_same, length-map, map-set}
 use Rattle.dt_lists.specs.Lists.{Distinct, Has}
-use Rattle.dt_lists.proofs.Callers.{all_put, either_nat, get_of_map, has_last, has_longer, has_more, has_place, last_place, place_in_longer, place_in_more, place_of, place_within, some_same}
+use Rattle.dt_lists.proofs.Callers.{all_put, either_nat, get_of_map, has_last, has_longer, has_more, has_place, last_place, place_in_longer, place_in_more, place_of, place_within}
+use Rattle.dt_lists.proofs.Callers.{set_beside, set_here, some_same}
 use Rattle.dt_queue.specs.InUseInner.{AreAtSpots, InUseView, IsSpotOf, rows_at}
 use Rattle.dt_queue.specs.declared.spot.Spot.{Spot}
 
@@ -53,19 +54,6 @@ once_each (x ∷ xs) one = (
 
     less : (i j : ℕ) → suc i ≡ suc j → i ≡ j
     less i j e = omega (arith, e)
-
--- an item took the place of another
-set_here : {A : Type 0} (xs : List A) (i : ℕ) (y : A) → i < length xs → slice_get (set xs i y) i ≡ Some y
-set_here [] i y lt = absurd (omega (arith, lt))
-set_here (z ∷ xs) zero y lt = refl
-set_here (z ∷ xs) (suc i) y lt = set_here xs i y (omega (arith, lt))
-
-set_beside : {A : Type 0} (xs : List A) (i j : ℕ) (y : A) → j ≢ i → slice_get (set xs i y) j ≡ slice_get xs j
-set_beside [] i j y ne = refl
-set_beside (z ∷ xs) zero zero y ne = absurd (ne refl)
-set_beside (z ∷ xs) zero (suc j) y ne = refl
-set_beside (z ∷ xs) (suc i) zero y ne = refl
-set_beside (z ∷ xs) (suc i) (suc j) y ne = set_beside xs i j y (λ e. ne (ap suc e))
 
 -- what stands at a place does not stand past the end
 below_end : (xs : List ℕ) (i x : ℕ) → slice_get xs i ≡ Some x → i ≢ length xs

@@ -1,12 +1,11 @@
 -- What is nearest in several rows: the marks of all of them, put together and sorted by their numbers.
 use Rattle.std.proofs.Common.{◌≡◌, ◌⊎◌, ◌↔◌, ℕ, zero, suc, ◌<◌, ◌≤◌, Bool, true, false, cond, ◌==◌, nat_lt, List, []}
-use Rattle.std.proofs.Common.{◌∷◌, ◌++◌, length, get_or, take, Option, Some, None, ◌||◌, refl, sym, subst, inl, inr, arith, ◌∙◌}
-use Rattle.std.specs.List.{Contains, IsDistinct}
+use Rattle.std.proofs.Common.{◌∷◌, ◌++◌, length, get_or, take, Option, Some, None, ◌||◌, refl, sym, subst, inl, inr, eqb-true, eq-eqb, arith, ◌∙◌}
+use Rattle.std.specs.List.{Contains}
 use Rattle.std.specs.List.Sorted.{IsNonDecreasingBy, IsPermutation}
 use Rattle.std.proofs.lemmas.List.Sorted.{Contains-permutation, IsPermutation-sym}
-use Rattle.std.proofs.lemmas.Map.Keys.{IsDistinct-IsPermutation}
-use Rattle.dt_lists.specs.Lists.{AllIn, AnyIn, Distinct, EachThen, Has}
-use Rattle.dt_lists.proofs.Callers.{all_get, all_map, all_put, any_append, any_append_left, any_append_right, any_get, each_append, each_map}
+use Rattle.dt_lists.specs.Lists.{AnyIn, Distinct, EachThen, Has}
+use Rattle.dt_lists.proofs.Callers.{all_get, all_map, all_put, any_append, any_append_left, any_append_right, any_get, each_append, each_map, has_at, permuted_apart}
 use Rattle.dt_queue.specs.declared.mark.Mark.{Mark}
 use Rattle.dt_queue.specs.declared.next.Next.{Next}
 use Rattle.dt_queue.specs.LanesInner.{AddsMarks, AreApart, AreMarks, HasRisingNumbers, IsNearInRow, earlier}
@@ -17,12 +16,7 @@ use Rattle.dt_queue.proofs.Marks.{has_index}
 pub fresh_at : (xs : List ℕ) (i : ℕ) → Distinct xs → i < length xs → ¬ (Has (take i xs) (get_or xs i 0))
 fresh_at [] i d lt h = absurd (omega (arith, lt))
 fresh_at (x ∷ xs) zero d lt h = absurd h
-fresh_at (x ∷ xs) (suc i) d lt (inl e) = all_get (λ y. ¬ (x ≡ y)) xs d.0 (get_or xs i 0) (has_at xs i (omega arith)) e
-  where
-    has_at : (ys : List ℕ) (j : ℕ) → j < length ys → Has ys (get_or ys j 0)
-    has_at [] j l = absurd (omega (arith, l))
-    has_at (y ∷ ys) zero l = inl refl
-    has_at (y ∷ ys) (suc j) l = inr (has_at ys j (omega arith))
+fresh_at (x ∷ xs) (suc i) d lt (inl e) = all_get (λ y. ¬ (x ≡ y)) xs d.0 (get_or xs i 0) (has_at xs i 0 (omega arith)) e
 fresh_at (x ∷ xs) (suc i) d lt (inr h) = fresh_at xs i d.1 (omega arith) h
 
 -- the marks of some rows were put together: no number twice
@@ -77,30 +71,6 @@ turned m k = by (same_number m k) (same_number k m) refl refl
     by true false e f = absurd (grind (arith, e, f))
     by false true e f = absurd (grind (arith, e, f))
 
-std_distinct : (xs : List Mark) → EachThen (λ m k. ¬ (m.number ≡ k.number)) xs → IsDistinct same_number xs
-unfolding IsDistinct
-std_distinct [] d = tt
-std_distinct (x ∷ xs) d = (each_differs xs d.0, std_distinct xs d.1)
-  where
-    each_differs : (ys : List Mark) → AllIn (λ y. ¬ (x.number ≡ y.number)) ys → Rattle.std.specs.List.AllByRecursion (λ y. same_number x y ≡ false) ys
-    each_differs [] a = tt
-    each_differs (y ∷ ys) a = (differ y a.0, each_differs ys a.1)
-      where
-        differ : (y : Mark) → ¬ (x.number ≡ y.number) → (x.number == y.number) ≡ false
-        differ y ne = grind (arith, ne)
-
-own_distinct : (xs : List Mark) → IsDistinct same_number xs → EachThen (λ m k. ¬ (m.number ≡ k.number)) xs
-unfolding IsDistinct
-own_distinct [] d = tt
-own_distinct (x ∷ xs) d = (each_apart xs d.0, own_distinct xs d.1)
-  where
-    each_apart : (ys : List Mark) → Rattle.std.specs.List.AllByRecursion (λ y. same_number x y ≡ false) ys → AllIn (λ y. ¬ (x.number ≡ y.number)) ys
-    each_apart [] a = tt
-    each_apart (y ∷ ys) a = (differ y a.0, each_apart ys a.1)
-      where
-        differ : (y : Mark) → (x.number == y.number) ≡ false → ¬ (x.number ≡ y.number)
-        differ y ne e = absurd (grind (arith, ne, e))
-
 contains_of : (xs : List Mark) (m : Mark) → Has xs m → Contains xs m
 contains_of [] m h = absurd h
 contains_of (x ∷ xs) m (inl e) = (0, omega arith, e)
@@ -126,7 +96,7 @@ rising (x ∷ y ∷ ys) s d =
 pub sorted_marks : (P : ℕ → Mark → Type 0) (rows : List ℕ) (old new : List Mark) → AreGathered P rows old → IsPermutation old new → IsNonDecreasingBy (λ m. m.number) new
     → AreMarks (λ m. AnyIn (λ row. P row m) rows) new
 sorted_marks P rows old new had moves sorted = record {
-  numbered = rising new sorted (own_distinct new (IsDistinct-IsPermutation same_number turned old new moves (std_distinct old had.apart)));
+  numbered = rising new sorted (permuted_apart (λ (m k : Mark). m.number ≡ k.number) same_number (λ m k. eqb-true m.number k.number) (λ m k. eq-eqb m.number k.number) turned old new moves had.apart);
   members = λ m. (
     λ h. (had.members m).0 (has_of old m (Contains-permutation new old m (IsPermutation-sym old new moves) (contains_of new m h))),
     λ p. has_of new m (Contains-permutation old new m moves (contains_of old m ((had.members m).1 p))),

@@ -15,7 +15,7 @@ use Rattle.dt_queue.specs.declared.rows.Rows.{Rows}
 use Rattle.dt_queue.specs.InUseInner.{InUseView, IsInGranule, SameRows, UsesRow, rows_at}
 use Rattle.dt_queue.specs.KeptInner.{AreQueuesKept, AreRowsInUse, ChangesLaneOf, IsInUse, LeavesRow, lane, mark_of, place_at}
 use Rattle.dt_queue.specs.RowsInner.{AreRowsLinked, KeepsRows, granule_at}
-use Rattle.dt_queue.proofs.KeptLanes.{either_place, empty_of, kept_pushed, some_of}
+use Rattle.dt_queue.proofs.LanesOfCells.{either_place, empty_of, kept_pushed, some_of}
 
 -- the mode takes no granule as a whole
 abbrev IsPart : Mode → Type 0

@@ -1,6 +1,6 @@
 -- What the proofs of crates above may cite of this crate; they cite nothing else of its proofs.
 pub use Rattle.dt_region.proofs.HeldTransactions.{held_id}
-pub use Rattle.dt_region.proofs.Logs.{fronts_few, fronts_length, log_few, number_none, parts_none}
+pub use Rattle.dt_region.proofs.Logs.{fronts_few, fronts_length, log_few, parts_none}
 pub use Rattle.dt_region.proofs.Rule3Deliver.{all_drop}
 pub use Rattle.dt_region.proofs.Rule6Execute.{executable_held}
 pub use Rattle.dt_region.proofs.Stamps.{kept_more, latest_more}

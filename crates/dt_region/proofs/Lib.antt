@@ -5,7 +5,6 @@ pub mod HeldTransactions
 pub mod Logs
 pub mod Tables
 pub mod RequestsUndone
-pub mod Order
 pub mod ViewOfRegion
 pub mod OpeningRegion
 pub mod Rule1Submit

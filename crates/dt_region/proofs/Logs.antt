@@ -13,11 +13,6 @@ use Rattle.dt_sched.proofs.Callers.{parts_cons}
 
 -- before anything happens
 
-pub number_none : (regions home : ℕ) → slice_index (replicate regions 0) home ≡ 0
-number_none zero home = refl
-number_none (suc regions) zero = refl
-number_none (suc regions) (suc home) = number_none regions home
-
 pub parts_none : (regions : ℕ) → parts_in (replicate regions []) ≡ 0
 parts_none zero = refl
 parts_none (suc regions) = let later = parts_none regions in rw (parts_cons [] (replicate regions [])) (omega (arith, later))

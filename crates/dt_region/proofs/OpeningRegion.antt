@@ -1,7 +1,9 @@
 -- Before anything happens a region is sound, and its scheduler has nothing.
 use Rattle.std.proofs.Common.{◌≡◌, ◌<◌, ◌≤◌, ℕ, List, [], replicate, sym, subst, ◌∙◌, arith}
+use Rattle.std.specs.Prelude.{slice_index}
 use Rattle.std.proofs.lemmas.List.{length-replicate}
 use Rattle.dt_lists.specs.Lists.{AllIn, Distinct}
+use Rattle.dt_lists.proofs.Callers.{get_of_replicate}
 use Rattle.dt_sched.specs.Views.{View, ids_of}
 use Rattle.dt_sched.specs.Decide.{IsSound}
 use Rattle.dt_sched.specs.Sched.{Sched, nothing_yet}
@@ -15,7 +17,7 @@ use Rattle.dt_region.specs.Rules.{opening_state}
 use Rattle.dt_region.specs.Conditions.{IsTableFor}
 use Rattle.dt_region.specs.Sound.{IsSoundRegion, IsHeldPart}
 use Rattle.dt_region.specs.RegionInner.{AreWell}
-use Rattle.dt_region.proofs.Logs.{number_none, parts_none, fronts_none}
+use Rattle.dt_region.proofs.Logs.{parts_none, fronts_none}
 
 pub opening_sound : (number regions : ℕ) (table : Table) → number < regions → regions ≤ 8 → IsTableFor regions table → IsSoundRegion (opening_state number regions table)
 opening_sound number regions table below few fits = record {
@@ -32,8 +34,8 @@ opening_sound number regions table below few fits = record {
   once = λ home. subst (λ log. Distinct (ids_of log)) (sym (empty_log regions home)) tt;
   parts = λ home. subst (AllIn (IsHeldPart (opening_state number regions table) home)) (sym (empty_log regions home)) tt;
   few = let none = parts_none regions in omega (arith, none);
-  taken_few = λ source. let none = number_none regions source in omega (arith, none);
-  inserted_few = λ home. let none = number_none regions home in omega (arith, none);
+  taken_few = λ source. let none : slice_index (replicate regions 0) source ≡ 0 = get_of_replicate regions source 0 in omega (arith, none);
+  inserted_few = λ home. let none : slice_index (replicate regions 0) home ≡ 0 = get_of_replicate regions home 0 in omega (arith, none);
   table = fits;
   decided = subst (λ v. IsSound v [] []) (sym (fronts_none regions)) (sound_at_first regions);
 }

@@ -12,6 +12,7 @@ stock_kept stock here kept grown =
       events = omega (arith, here, kept);
       done = stock.done;
       changes = stock.changes;
+      few = stock.few;
       finishes = omega (arith, a, grown);
     }
 
@@ -24,6 +25,7 @@ stock_made stock made grown =
       events = omega (arith, b, made);
       done = stock.done;
       changes = stock.changes;
+      few = stock.few;
       finishes = omega (arith, a, grown);
     }
 
@@ -34,14 +36,16 @@ stock_spent stock some e d c few f =
     let a = stock.events in
     let b = stock.done in
     let g = stock.changes in
+    let few-before = stock.few in
     let h = stock.finishes in
     record {
       events = omega (arith, a, e, some);
       done = omega (arith, b, d, some);
       changes = omega (arith, g, c, few, some);
+      few = omega (arith, few-before, some);
       finishes = omega (arith, h, f, some);
     }
 
 -- no room
 pub stock_none : {events done changes finishes : ℕ} → HasStock 0 events done changes finishes
-stock_none = record { events = omega arith; done = omega arith; changes = omega arith; finishes = omega arith }
+stock_none = record { events = omega arith; done = omega arith; changes = omega arith; few = omega arith; finishes = omega arith }

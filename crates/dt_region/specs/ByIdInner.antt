@@ -1,4 +1,5 @@
--- Only proofs need this file: how the entry of an id is found.
+-- Only proofs need this file: how the entry of an id is found. The list of its region has, at the number of the submission, the
+-- place of the entry; an id that came far out of order is looked for in a map instead. Read `ById` for what contracts see.
 use Rattle.std.specs.Prelude.{◌≡◌, ◌⊎◌, ℕ, List, Option, Some, None, map, slice_get, option_and_then, if◌then◌else◌}
 use Rattle.std.specs.Map.{lookup}
 use Rattle.dt_lists.specs.Lists.{Distinct}

@@ -1,6 +1,6 @@
 -- Only proofs need this file: how a region keeps what contracts see of it, and what its type says of its fields. Skip it;
 -- read `Region` for what callers see, and `Sound` for what every region keeps.
-use Rattle.std.specs.Prelude.{◌≡◌, ◌≤◌, ◌*◌, ℕ, length, slice_index}
+use Rattle.std.specs.Prelude.{◌≡◌, ◌<◌, ◌≤◌, ◌*◌, ◌^◌, ℕ, length, slice_index}
 use Rattle.dt_sched.specs.Views.{View, log_at}
 use Rattle.dt_txn.specs.Replica.{Replica}
 use Rattle.dt_sched.specs.Sched.{Sched}
@@ -35,11 +35,12 @@ abbrev pub AreWell : RegionState → Sched → Type 0
 AreWell s seen = IsSoundRegion s × (seen ≡ sched_of s.logs s.here)
 
 -- its stores have places for n executions, each of which is one event, one id that is done and at most 17 changes of
--- the table: these many events, ids and changes fit, and as many ids in the scheduler
+-- the table: these many events, ids and changes fit, and as many ids in the scheduler; so the changes are fewer than 2^63
 pub record HasStock (room for_events for_done for_changes for_finishes : ℕ) : Type 0 where
   pub events : room ≤ for_events
   pub done : room ≤ for_done
   pub changes : 17 * room ≤ for_changes
+  pub few : 17 * room < 2 ^ 63
   pub finishes : room ≤ for_finishes
 
 -- what the type of a region says of its fields, where the scheduler is seen so and has this room

@@ -34,7 +34,6 @@
 //! ```
 #![tactic(auto)]
 
-mod ascent;
 mod by_id;
 mod entries;
 mod foreign;

@@ -1,4 +1,5 @@
-ghost use Rattle.std.specs.Prelude.{◌≡◌, ◌↔◌, ◌<◌, ◌≤◌, [], ◌∷◌, ◌++◌, length, max, vec_len, vec_capacity, slice_index, slice_get, get_or, ℕ, ◌+◌, Some, List, IsTrue, IfOk, OnOk, OnErr};
+ghost use Rattle.std.specs.Prelude.{◌≡◌, ◌↔◌, ◌<◌, ◌≤◌, ◌*◌, ◌^◌, ◌+◌, ℕ, List, [], ◌∷◌, ◌++◌, length, max, vec_len, vec_capacity};
+ghost use Rattle.std.specs.Prelude.{IfOk, IsTrue, OnErr, OnOk, Some, get_or, slice_get, slice_index};
 ghost use Rattle.std.specs.Option.{option_copied};
 ghost use Rattle.dt_events.specs.Stamps.{last_stamp};
 ghost use Rattle.dt_events.specs.declared.Event.TheVariants.{Insert, Resolve, Execute};
@@ -15,14 +16,13 @@ ghost use Rattle.dt_region.specs.Rules.{opening_state, MakesSubmit, MakesAppend,
 ghost use Rattle.dt_region.specs.Conditions.{IsTableFor, CanAppend, CanDeliver, CanMove, ComesTo, HasRun, HoldsValid};
 ghost use Rattle.dt_region.specs.Sound.{IsSoundRegion};
 
-use crate::ascent::are_ascending;
 use crate::by_id::ById;
 use crate::entries::{add, keep_all, parts_and_txns, place};
 use crate::foreign::Foreign;
 use crate::kept::Kept;
 use crate::opening::{no_counts, no_ids, no_parts};
 use crate::requests::ask;
-use dt_access::{Ids, TxnId};
+use dt_access::{Ids, TxnId, are_ascending};
 use dt_events::{Event, Stamped};
 use dt_log::{Log, Taken};
 use dt_proc::Procs;
@@ -57,7 +57,7 @@ pub struct Region<S: Scheduler> {
     scheduler: S,
     events: Kept,
     heard: u64,
-    room: u32,
+    room: usize,
 }
 
 impl<S: Scheduler> Model for Region<S> {
@@ -249,7 +249,7 @@ impl<S: Scheduler> Region<S> {
         let annotated = annotate(alloc, id, rank, body, procs, &self.table)?;
         let txn = Common::new(alloc, annotated)?;
         let homes = homes(alloc, txn.get())?;
-        self.events.reserve(self.room as usize + 1)?;
+        self.events.reserve(self.room + 1)?;
         self.submitted.reserve(1)?;
         ask(alloc, &mut self.asked, homes.as_slice(), id)?;
         add_last(&mut self.submitted, txn);
@@ -302,7 +302,7 @@ impl<S: Scheduler> Region<S> {
         let home = self.number;
         let cut = part_at(alloc, txn.get(), home)?;
         let part = Common::new(alloc, cut)?;
-        self.events.reserve(self.room as usize + 1)?;
+        self.events.reserve(self.room + 1)?;
         self.foreign.reserve_for(alloc, txn.get().id)?;
         place(&mut self.logs, part)?;
         self.taken[source as usize] = number + 1;
@@ -350,7 +350,7 @@ impl<S: Scheduler> Region<S> {
         let region = self.number;
         let (parts, txns) = parts_and_txns(alloc, entries.split_off(known)?)?;
         let new = txns.len();
-        self.events.reserve(self.room as usize + 1)?;
+        self.events.reserve(self.room + 1)?;
         self.foreign.reserve_all(alloc, txns.as_slice())?;
         add(&mut self.logs, home, parts)?;
         keep_all(region, &mut self.foreign, txns);
@@ -380,7 +380,7 @@ impl<S: Scheduler> Region<S> {
             return Ok(false);
         };
         let part = part.copy(alloc)?;
-        self.events.reserve(self.room as usize + 1)?;
+        self.events.reserve(self.room + 1)?;
         self.scheduler.insert(alloc, part)?;
         self.inserted[home as usize] = place + 1;
         self.events.keep(stamp, Event::Insert { region, home });
@@ -402,7 +402,7 @@ impl<S: Scheduler> Region<S> {
             region: self.number,
             ids: Common::new(alloc, Ids::from_vec(ids.to_vec(alloc)?))?,
         };
-        self.events.reserve(self.room as usize + 1)?;
+        self.events.reserve(self.room + 1)?;
         self.scheduler.resolve(alloc, ids)?;
         self.events.keep(stamp, event);
         Ok(true)
@@ -486,13 +486,13 @@ impl<S: Scheduler> Region<S> {
     }
 
     /// Makes room for n executions: each unit of it is enough for any one execution that is finished. Nothing else
-    /// changes, and after `NoMemory` the region is as before. Beside room for 4,294,967,295 executions, which takes terabytes,
-    /// `execute` answers `NoMemory` whatever memory there is: it needs one place more, and 32 bits count no further.
+    /// changes, and after `NoMemory` the region is as before.
     pub fn reserve(&mut self, alloc: Global, runs: u32) -> Result<(), NoMemory>
         ensures ok { OnOk result (self.new ≡ record self.old { room = max self.old.room runs }) }
         ensures err { OnErr result (self.new ≡ self.old) }
         ensures sound { IsSoundRegion self.new.state }
     {
+        let runs = runs as usize;
         if runs <= self.room {
             return Ok(());
         }
@@ -505,23 +505,20 @@ impl<S: Scheduler> Region<S> {
         ensures err { OnErr result (self.new ≡ self.old) }
     {
         self.prepare(alloc, id)?;
-        // There is less memory than room for all executions that 32 bits can count.
-        let Some(runs) = self.room.checked_add(1) else {
-            return Err(NoMemory);
-        };
-        self.make_room(alloc, runs)
+        self.make_room(alloc, self.room + 1)
     }
 
     // Makes room for n executions, which are more than there is room for.
-    fn make_room(&mut self, alloc: Global, runs: u32) -> Result<(), NoMemory>
-        requires { self.old.room < runs }
+    fn make_room(&mut self, alloc: Global, runs: usize) -> Result<(), NoMemory>
+        requires more { self.old.room < runs }
+        requires changes { 17 * runs < 2 ^ 64 }
         ensures ok { OnOk result (self.new ≡ record self.old { room = runs }) }
         ensures err { OnErr result (self.new ≡ self.old) }
         ensures sound { IsSoundRegion self.new.state }
     {
-        self.events.reserve(runs as usize)?;
-        self.done.reserve(runs as usize)?;
-        self.table.reserve(runs as usize * CHANGES)?;
+        self.events.reserve(runs)?;
+        self.done.reserve(runs)?;
+        self.table.reserve(runs * CHANGES)?;
         self.scheduler.reserve(alloc, runs)?;
         self.room = runs;
         Ok(())
@@ -560,7 +557,7 @@ impl<S: Scheduler> Region<S> {
             region: self.number,
             session: session.copy(alloc)?,
         };
-        self.events.reserve(self.room as usize + 1)?;
+        self.events.reserve(self.room + 1)?;
         self.events.keep(stamp, event);
         Ok(())
     }

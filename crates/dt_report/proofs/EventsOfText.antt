@@ -21,7 +21,7 @@ use Rattle.dt_access.specs.declared.TxnId.{TxnId}
 use Rattle.dt_access.specs.Ids.{id_text}
 use Rattle.dt_events.specs.declared.Event.{Event}
 use Rattle.dt_events.specs.Events.{event_line, AreEvents}
-use Rattle.dt_events.proofs.Callers.{reads_back}
+use Rattle.dt_events.proofs.Callers.{reads_back, within_line}
 use Rattle.dt_eval.specs.declared.Cause.{Cause}
 use Rattle.dt_eval.specs.declared.Cause.TheVariants.{Word, Overflow, Zero, Kind, Long}
 use Rattle.dt_table.specs.declared.Shown.{Shown}
@@ -110,10 +110,6 @@ of_outcome (Stale key had by) may = (refl, (of_key key may.0, (refl, (of_number 
 -- the heading of the last section, without the byte that ends it
 abbrev heading : List ℕ
 heading = codes "events"
-
--- a byte that ends no line
-abbrev within_line : ℕ → Bool
-within_line b = not (b == 10)
 
 -- no byte ends the line, and the line is not the heading
 abbrev IsOther : List ℕ → Type 0

@@ -21,7 +21,7 @@ use Rattle.dt_region.specs.Region.{RegionState, held}
 use Rattle.dt_region.specs.Rules.{MayMake}
 use Rattle.dt_region.specs.Sound.{IsSoundRegion}
 use Rattle.dt_region.proofs.Callers.{executable_held}
-use Rattle.dt_round.specs.Steps.{steps_of}
+use Rattle.dt_round.specs.StepsInner.{steps_of}
 
 -- a replica has become another by one step
 pub record IsOneStepOn (here next : Replica) : Type 0 where

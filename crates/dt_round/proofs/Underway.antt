@@ -16,7 +16,7 @@ use Rattle.dt_region.specs.Conditions.{CanMove, HasPlaceToMove, HoldsValid}
 use Rattle.dt_region.specs.Sound.{IsSoundRegion}
 use Rattle.dt_region.proofs.Callers.{fronts_few, latest_more}
 use Rattle.dt_round.specs.Rounds.{CanRound}
-use Rattle.dt_round.specs.Steps.{IsOwnStep, steps_left, steps_of}
+use Rattle.dt_round.specs.StepsInner.{IsOwnStep, steps_left, steps_of}
 use Rattle.dt_round.specs.Underway.{IsUnderway}
 use Rattle.dt_round.proofs.StepCounts.{few_done, few_steps}
 use Rattle.dt_round.proofs.Effects.{IsOneStepOn, step_counted}

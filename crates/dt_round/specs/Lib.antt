@@ -1,3 +1,3 @@
 pub mod Rounds
-pub mod Steps
+pub mod StepsInner
 pub mod Underway

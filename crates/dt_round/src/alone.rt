@@ -5,7 +5,7 @@ ghost use Rattle.dt_sched.specs.Sched.{CanExecute};
 ghost use Rattle.dt_region.specs.Conditions.{CanMove, HoldsValid};
 ghost use Rattle.dt_region.specs.Region.{HasStamp, RegionView, sched_of};
 ghost use Rattle.dt_region.specs.Sound.{IsSoundRegion};
-ghost use Rattle.dt_round.specs.Steps.{InsertsSome, StepsOn};
+ghost use Rattle.dt_round.specs.StepsInner.{InsertsSome, StepsOn};
 ghost use Rattle.dt_round.specs.Underway.{IsOnWay, IsUnderway};
 ghost use Rattle.dt_txn.specs.Replica.{IsDrained};
 

@@ -38,7 +38,7 @@ use Rattle.dt_site.proofs.Callers.{last_in, may_be_answered, may_go, outcome_her
 use Rattle.dt_node.specs.NodeView.{number_of}
 use Rattle.dt_node.specs.NodeInWorld.{NodeFits}
 use Rattle.dt_node.specs.Turn.{HasPlacedOwn, IsStill, last_at}
-use Rattle.dt_run.specs.Done.{HasDone}
+use Rattle.dt_run.specs.EndOfRun.{HasDone}
 use Rattle.dt_run.specs.NodesView.{NodesView, node_in}
 use Rattle.dt_run.specs.Silence.{HasArrived}
 use Rattle.dt_run.proofs.Laws.{reached}

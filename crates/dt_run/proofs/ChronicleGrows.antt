@@ -18,7 +18,7 @@ use Rattle.dt_session.specs.Step.{IsLegal, next}
 use Rattle.dt_session.specs.Run.{AreLegal, AreLegalFrom, world_after, world_from}
 use Rattle.dt_agreement.proofs.Callers.{legal_append, world_from_append, next_keeps, ordered}
 use Rattle.dt_merge.specs.Merge.{AreLater, IsFed, region_at}
-use Rattle.dt_merge.specs.Own.{HaveGrown, IsSupplied, source_of}
+use Rattle.dt_merge.specs.OwnPart.{HaveGrown, IsSupplied, source_of}
 use Rattle.dt_merge.specs.WorldRegions.{HasInvariant}
 use Rattle.dt_node.specs.Packets.{IsToldOf, IsTruePacket}
 use Rattle.dt_node.specs.Turn.{BringsEntries, BringsRequest, IsBroughtBy}
@@ -50,6 +50,10 @@ module _ {cluster : Cluster} (ok : IsValidCluster cluster) {workload : Workload}
         subst (AreLegal cluster workload) (ap events_of s.is ∙ map-append (λ (y : Stamped). y.event) s.front (x ∷ s.rest)) legal in
         (_, (legal_append cluster workload (opening_world cluster workload) (events_of s.front) (x.event ∷ events_of s.rest) l).1.0)
 
+    -- the world after the shorter list
+    abbrev reached : World
+    reached = world_after cluster workload (events_of all)
+
     at_cut : (front rest : List Stamped) → all ++ more ≡ front ++ rest → AreLater q stamp rest
         → ((m : List Stamped) × (front ≡ all ++ m)) ⊎ ((m : List Stamped) × (all ≡ front ++ m)) → IsSupplied (world_after cluster workload (events_of front)) x.event
     at_cut front rest cut later (inr (m, is)) =
@@ -62,7 +66,7 @@ module _ {cluster : Cluster} (ok : IsValidCluster cluster) {workload : Workload}
         same_rest (y ∷ xs) ys zs e = same_rest xs ys zs (cc)
     at_cut front rest cut later (inl (m, is)) =
         subst (λ l. IsSupplied (world_after cluster workload (events_of l)) x.event) (sym is)
-        (supply_lasts legal_there.0 (world_after cluster workload (events_of all)) (world_after cluster workload (events_of (all ++ m))) x.event q legal_there.1 good_w good_v from (grown q) (supplied all [] (sym (append-nil all)) tt))
+        (supply_lasts legal_there.0 reached (world_after cluster workload (events_of (all ++ m))) x.event q legal_there.1 good_w good_v from (grown q) (supplied all [] (sym (append-nil all)) tt))
       where
         legal_front : AreLegal cluster workload (events_of all ++ events_of m)
         legal_front =
@@ -70,24 +74,23 @@ module _ {cluster : Cluster} (ok : IsValidCluster cluster) {workload : Workload}
             subst (AreLegal cluster workload) (ap events_of is ∙ map-append (λ (y : Stamped). y.event) all m)
             (legal_append cluster workload (opening_world cluster workload) (events_of front) (events_of rest) whole).0
 
-        parts : AreLegal cluster workload (events_of all) × AreLegalFrom cluster workload (world_after cluster workload (events_of all)) (events_of m)
+        parts : AreLegal cluster workload (events_of all) × AreLegalFrom cluster workload reached (events_of m)
         parts = legal_append cluster workload (opening_world cluster workload) (events_of all) (events_of m) legal_front
 
-        good_w : HasInvariant cluster workload (world_after cluster workload (events_of all))
+        good_w : HasInvariant cluster workload reached
         good_w = good_after all parts.0
 
-        v_is : world_after cluster workload (events_of (all ++ m)) ≡ world_from cluster workload (world_after cluster workload (events_of all)) (events_of m)
+        v_is : world_after cluster workload (events_of (all ++ m)) ≡ world_from cluster workload reached (events_of m)
         v_is = ap (world_after cluster workload) (map-append (λ (y : Stamped). y.event) all m) ∙ world_from_append cluster workload (opening_world cluster workload) (events_of all) (events_of m)
 
-        on : HasInvariant cluster workload (world_from cluster workload (world_after cluster workload (events_of all)) (events_of m)) × HaveGrown
-            (world_after cluster workload (events_of all)) (world_from cluster workload (world_after cluster workload (events_of all)) (events_of m))
-        on = worlds_grow (events_of m) (world_after cluster workload (events_of all)) good_w parts.1
+        on : HasInvariant cluster workload (world_from cluster workload reached (events_of m)) × HaveGrown reached (world_from cluster workload reached (events_of m))
+        on = worlds_grow (events_of m) reached good_w parts.1
 
         good_v : HasInvariant cluster workload (world_after cluster workload (events_of (all ++ m)))
         good_v = subst (HasInvariant cluster workload) (sym v_is) on.0
 
-        grown : HaveGrown (world_after cluster workload (events_of all)) (world_after cluster workload (events_of (all ++ m)))
-        grown = subst (HaveGrown (world_after cluster workload (events_of all))) (sym v_is) on.1
+        grown : HaveGrown reached (world_after cluster workload (events_of (all ++ m)))
+        grown = subst (HaveGrown reached) (sym v_is) on.1
 
     pub fed_longer : IsFed cluster workload (all ++ more) x q
     fed_longer = record { stamp = stamp; lower = lower; supplied = λ front rest cut later. at_cut front rest cut later (two_fronts all more front rest cut) }

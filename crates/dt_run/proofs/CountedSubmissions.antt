@@ -25,7 +25,7 @@ use Rattle.dt_session.specs.Run.{AreLegal, world_after, world_from}
 use Rattle.dt_session.specs.Eager.{AllChange}
 use Rattle.dt_agreement.proofs.Callers.{Submits, append_cases, legal_more, submits, world_after_more}
 use Rattle.dt_merge.specs.Merge.{region_at, those_at}
-use Rattle.dt_merge.specs.Own.{Own, own}
+use Rattle.dt_merge.specs.OwnPart.{Own, own}
 use Rattle.dt_merge.specs.WorldRegions.{HasInvariant}
 use Rattle.dt_merge.proofs.Callers.{node_there}
 use Rattle.dt_run.proofs.ChronicleGrows.{good_after}

@@ -7,7 +7,7 @@ use Rattle.std.proofs.lemmas.Bool.{false≢true}
 use Rattle.std.proofs.Common.{Bor}
 use Rattle.std.specs.Option.{is_some, option_copied}
 use Rattle.dt_lists.specs.Lists.{AllIn, Either, Has}
-use Rattle.dt_lists.proofs.Callers.{all_get, all_of_gets, at_place, either_le, either_nat, has_place}
+use Rattle.dt_lists.proofs.Callers.{all_get, all_of_gets, at_place, either_le, either_nat, has_place, place_within}
 use Rattle.dt_access.specs.declared.TxnId.{TxnId}
 use Rattle.dt_access.proofs.Callers.{id_of_test, same_by_parts, test_of_id, test_of_other}
 use Rattle.dt_access.specs.Ids.{same_id}
@@ -102,13 +102,8 @@ module _ {s : RegionState} (sound : IsSoundRegion s) {done : List TxnId} {id : T
               let bad : None ≡ Some r.0 = sym none ∙ held_at r.0 r.1 in cc
           by (inr n) = let to = d.to in omega (arith, n, to)
 
-      within_list : {A : Type 0} (xs : List A) (k : ℕ) (x : A) → slice_get xs k ≡ Some x → k < length xs
-      within_list [] k x e = cc
-      within_list (y ∷ xs) zero x e = omega arith
-      within_list (y ∷ xs) (suc k) x e = let lt : k < length xs = within_list xs k x e in omega (arith, lt)
-
       far : (k : ℕ) (x : Txn) → slice_get s.submitted k ≡ Some x → k + 1 < id.seq
-      far k x e = let lt : k < length s.submitted = within_list s.submitted k x e in omega (arith, lt, long)
+      far k x e = let lt : k < length s.submitted = place_within s.submitted k x e in omega (arith, lt, long)
 
 -- what a region keeps as done, by its outcomes
 pub outcome_done : (s : RegionState) (id : TxnId) → outcome_of s id ≢ None → Has (done_ids s.here) id

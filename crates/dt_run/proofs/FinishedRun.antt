@@ -10,8 +10,8 @@ use Rattle.dt_session.specs.Run.{world_after}
 use Rattle.dt_site.proofs.Callers.{HasShortLists, legal_short, many_here}
 use Rattle.dt_node.specs.NodeInWorld.{NodeFits}
 use Rattle.dt_node.specs.NodeView.{NodeView, number_of}
-use Rattle.dt_run.specs.Done.{IsAllDone, HasDone}
-use Rattle.dt_run.specs.Helping.{HaveAllDone}
+use Rattle.dt_run.specs.EndOfRun.{IsAllDone, HasDone}
+use Rattle.dt_run.specs.HelpersInner.{HaveAllDone}
 use Rattle.dt_run.specs.NodesView.{NodesView, node_in}
 use Rattle.dt_run.specs.SeatsInner.{AreSeated, HasFewSubmitted, SeatView, nodes_view, seat_at}
 use Rattle.dt_run.proofs.Laws.{few_events, reached}

@@ -8,7 +8,7 @@ use Rattle.dt_lists.proofs.Callers.{either_nat}
 use Rattle.dt_events.specs.declared.Event.{Event}
 use Rattle.dt_events.specs.declared.Stamped.{Stamped}
 use Rattle.dt_merge.specs.Merge.{AreKept, ComesBefore, HasLowerStamp, IsMerge, kept_at, region_at}
-use Rattle.dt_run.specs.MergingInner.{IsFoundIn, IsLeastOf, IsMerging}
+use Rattle.dt_run.specs.MergeInner.{IsFoundIn, IsLeastOf, IsMerging}
 use Rattle.dt_run.specs.Run.{AreMerged}
 use Rattle.dt_run.proofs.Laws.{merge_begins, merge_of_none, region_of_kept}
 

@@ -15,7 +15,7 @@ use Rattle.dt_session.specs.Step.{IsLegal}
 use Rattle.dt_session.specs.Run.{AreLegal, AreLegalFrom, world_after, world_from}
 use Rattle.dt_agreement.proofs.Callers.{legal_append, world_from_append}
 use Rattle.dt_merge.specs.Merge.{kept_at, region_at, those_at}
-use Rattle.dt_merge.specs.Own.{HaveGrown}
+use Rattle.dt_merge.specs.OwnPart.{HaveGrown}
 use Rattle.dt_merge.specs.WorldRegions.{HasInvariant}
 use Rattle.dt_events.specs.Events.{region_of}
 use Rattle.dt_session.specs.Eager.{first_calls, first_events, sessions_at}
@@ -31,7 +31,7 @@ use Rattle.dt_run.specs.Phase.{EndsInStep, TurnsOnce}
 use Rattle.dt_run.specs.SeatsInner.{AreSeated, EachGoes, SeatTurned, SeatView, nodes_view, seat_at}
 use Rattle.dt_run.proofs.Laws.{asked_front}
 use Rattle.dt_run.proofs.ChronicleGrows.{worlds_grow}
-use Rattle.dt_run.proofs.InStep.{entries_planned, not_lost, request_planned}
+use Rattle.dt_run.proofs.PlannedItems.{entries_planned, not_lost, request_planned}
 use Rattle.dt_run.proofs.NodesAfterTurns.{all_now, chronicle_now, nodes_now, none_kept, phase_is, stand_now}
 use Rattle.dt_run.proofs.TurnsInOrder.{good_world, new_below}
 use Rattle.dt_run.proofs.PlannedPackets as planning

@@ -16,7 +16,7 @@ use Rattle.dt_cluster.specs.declared.Cluster.{Cluster}
 use Rattle.dt_workload.specs.Valid.{IsValidWorkload}
 use Rattle.dt_workload.specs.declared.Workload.{Workload}
 use Rattle.dt_merge.specs.Merge.{HasLowerStamp, IsChronicle, IsFed, kept_at, region_at, those_at}
-use Rattle.dt_merge.specs.Own.{source_of}
+use Rattle.dt_merge.specs.OwnPart.{source_of}
 use Rattle.dt_node.specs.NodeView.{NodeView, new_items, number_of}
 use Rattle.dt_node.specs.Packets.{IsTruePacket}
 use Rattle.dt_node.specs.NodeInWorld.{AreTold, IsFor, NodeFits}

@@ -1,7 +1,7 @@
 -- Before anything happens the nodes of a cluster are as their type keeps them: no event was made, and nothing waits.
 use Rattle.std.proofs.Common.{◌≡◌, ◌<◌, ◌≤◌, ℕ, zero, suc, List, [], ◌∷◌, length, get_or, slice_get, replicate, Some, refl, sym, ap, subst, ◌∙◌, arith}
-use Rattle.std.specs.Prelude.{slice_index}
 use Rattle.dt_lists.specs.Lists.{EachThen}
+use Rattle.dt_lists.proofs.Callers.{get_of_replicate}
 use Rattle.dt_events.specs.declared.Stamped.{Stamped}
 use Rattle.dt_cluster.specs.Valid.{IsValidCluster}
 use Rattle.dt_workload.specs.Valid.{IsValidWorkload}
@@ -75,13 +75,8 @@ module _ {v : NodesView} (o : AreOpening v) where
       no_list (suc n) zero = refl
       no_list (suc n) (suc k) = no_list n k
 
-      no_count : (n k : ℕ) → slice_index (replicate n 0) k ≡ 0
-      no_count zero k = refl
-      no_count (suc n) zero = refl
-      no_count (suc n) (suc k) = no_count n k
-
       own_none : (region : ℕ) → HasPlacedOwn (opening_node_of v.cluster v.workload region)
-      own_none region = ap length (no_list v.cluster.regions region) ∙ sym (no_count v.cluster.regions region)
+      own_none region = ap length (no_list v.cluster.regions region) ∙ sym (get_of_replicate {A = ℕ} v.cluster.regions region 0)
 
       none : (region phase : ℕ) (x : Stamped) → region < v.cluster.regions → IsKeptIn v region phase x → ⊥
       none region phase x lr k = let e : slice_get [] k.place ≡ Some x = subst (λ l. slice_get l k.place ≡ Some x) (none_kept region lr) k.stands in cc

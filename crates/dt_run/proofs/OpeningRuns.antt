@@ -12,7 +12,7 @@ use Rattle.dt_run.specs.NodesView.{opening_nodes}
 use Rattle.dt_run.specs.SeatsInner.{AreBeside, AreLinkedBy, AreRunning, SeatView, new_seat, nodes_view}
 use Rattle.dt_run.specs.declared.counts.Counts.{Counts}
 use Rattle.dt_run.proofs.OpeningSeats.{opened_is, opened_seated}
-use Rattle.dt_run.proofs.PhaseMade.{put_back}
+use Rattle.dt_run.proofs.PhaseOfTurns.{put_back}
 use Rattle.dt_run.proofs.SeatCounts.{opening_counted}
 
 module _ {cluster : Cluster} (ok : IsValidCluster cluster) {workload : Workload} (fits : IsValidWorkload cluster workload) {given : List SeatView}

@@ -8,6 +8,7 @@ use Rattle.std.proofs.lemmas.List.{length-map, length-replicate}
 use Rattle.std.proofs.lemmas.List.FromFn.{get_or-map-range_with_len, length-map-range_with_len}
 use Rattle.std.proofs.lemmas.List.Sums.{length-filter}
 use Rattle.dt_lists.specs.Lists.{AllIn}
+use Rattle.dt_lists.proofs.Callers.{get_of_replicate}
 use Rattle.dt_region.specs.Sound.{IsSoundRegion}
 use Rattle.dt_region.specs.Rules.{opening_state}
 use Rattle.dt_cluster.specs.Valid.{IsValidCluster}
@@ -26,7 +27,7 @@ use Rattle.dt_run.specs.NodesStand.{AreNodes}
 use Rattle.dt_run.specs.NodesView.{kept_by, no_running_node, opening_nodes}
 use Rattle.dt_run.specs.SeatsInner.{AreBeside, AreLinkedBy, AreNew, AreSeated, SeatView, new_seat, no_seat, nodes_view, seat_at, waits_in}
 use Rattle.dt_run.proofs.FinishedRun.{all_seats, each_seat}
-use Rattle.dt_run.proofs.PhaseMade.{put_back, put_back_is}
+use Rattle.dt_run.proofs.PhaseOfTurns.{put_back, put_back_is}
 use Rattle.dt_run.proofs.OpeningNodes.{AreOpening, opening_nodes_stand}
 
 -- sessions at a region are few
@@ -65,11 +66,6 @@ none_at_all zero m k i = refl
 none_at_all (suc n) m zero i = none_of_none m i
 none_at_all (suc n) m (suc k) i = none_at_all n m k i
 
-no_count : (n k : ℕ) → ◌≡◌ {A = ℕ} (get_or (replicate n 0) k 0) 0
-no_count zero k = refl
-no_count (suc n) zero = refl
-no_count (suc n) (suc k) = no_count n k
-
 module _ {cluster : Cluster} (ok : IsValidCluster cluster) {workload : Workload} (fits : IsValidWorkload cluster workload)
     (sound : (region : ℕ) → region < cluster.regions → IsSoundRegion (opening_state region cluster.regions (opening_table cluster))) where
   abbrev opened : ℕ → NodeView
@@ -84,8 +80,8 @@ module _ {cluster : Cluster} (ok : IsValidCluster cluster) {workload : Workload}
 
   knows : (region other : ℕ) → KnowsNoMore (opening_world cluster workload) (opened region) other
   knows region other = record {
-    took = let z : get_or (replicate cluster.regions 0) other 0 ≡ 0 = no_count cluster.regions other in omega (arith, z);
-    received = let z : get_or (replicate cluster.regions 0) other 0 ≡ 0 = no_count cluster.regions other in omega (arith, z);
+    took = let z = get_of_replicate {A = ℕ} cluster.regions other 0 in omega (arith, z);
+    received = let z = get_of_replicate {A = ℕ} cluster.regions other 0 in omega (arith, z);
   }
 
   opening_fits : (region : ℕ) → region < cluster.regions → NodeFits cluster workload [] (opened region)

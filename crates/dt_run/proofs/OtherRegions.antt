@@ -1,8 +1,8 @@
 -- What other regions do leaves a node where it stands, and what packets say stays so.
-use Rattle.std.proofs.Common.{◌≡◌, ◌≢◌, ◌<◌, ◌≤◌, ◌+◌, ℕ, List, [], ◌∷◌, length, set, drop, take, Option, None, Some, option_map, refl, sym, ap, subst, ◌∙◌, arith}
+use Rattle.std.proofs.Common.{◌≡◌, ◌≢◌, ◌<◌, ◌≤◌, ◌+◌, ℕ, List, [], ◌∷◌, length, set, drop, take, Some, option_map, refl, sym, ap, subst, ◌∙◌, arith}
 use Rattle.std.specs.Prelude.{unwrap_or}
 use Rattle.std.proofs.lemmas.List.{take-append-le}
-use Rattle.dt_lists.specs.Lists.{AllIn, Has, IsFront}
+use Rattle.dt_lists.specs.Lists.{AllIn, IsFront}
 use Rattle.dt_lists.proofs.Callers.{all_map}
 use Rattle.dt_access.specs.Clash.{Bytes}
 use Rattle.dt_access.specs.declared.TxnId.{TxnId}
@@ -12,22 +12,20 @@ use Rattle.dt_txn.specs.declared.Txn.{Txn}
 use Rattle.dt_txn.specs.Replica.{fronts}
 use Rattle.dt_packet.specs.declared.packet.Packet.{Packet}
 use Rattle.dt_cluster.specs.declared.Cluster.{Cluster}
-use Rattle.dt_workload.specs.declared.Session.{Session}
 use Rattle.dt_workload.specs.declared.Workload.{Workload}
-use Rattle.dt_session.specs.declared.sessions.Seat.{Seat}
 use Rattle.dt_session.specs.Sessions.{SessionsView}
-use Rattle.dt_session.specs.World.{World, Node, Place, node_at, asked_of, log_of, logs_of, attempt_of, find_submission, received_lengths, received_logs, received_of, session_at, taken_of, txn_of}
+use Rattle.dt_session.specs.World.{World, Node, node_at, asked_of, log_of, logs_of, attempt_of, find_submission, received_lengths, received_logs, received_of, session_at, taken_of, txn_of}
 use Rattle.dt_session.specs.Step.{next}
 use Rattle.dt_session.specs.Run.{AreLegalFrom, world_from}
-use Rattle.dt_agreement.specs.Invariant.{IsPlaceOf}
-use Rattle.dt_agreement.proofs.Callers.{WaitsAt, next_txns, next_keeps, ordered, session_found, waiting_for}
-use Rattle.dt_merge.specs.Own.{HaveGrown, Own, own}
+use Rattle.dt_agreement.proofs.Callers.{next_txns, next_keeps, ordered}
+use Rattle.dt_merge.specs.OwnPart.{HaveGrown, Own, own}
 use Rattle.dt_merge.specs.WorldRegions.{HasInvariant}
 use Rattle.dt_cluster.specs.Valid.{IsValidCluster}
 use Rattle.dt_workload.specs.Valid.{IsValidWorkload}
 use Rattle.dt_site.specs.SessionsStandIn.{SessionsStandIn, seat_in}
 use Rattle.dt_site.specs.Site.{SiteView}
 use Rattle.dt_site.specs.StandsIn.{StandsIn}
+use Rattle.dt_site.proofs.Callers.{seat_alike}
 use Rattle.dt_node.specs.Packets.{IsToldOf}
 use Rattle.dt_run.proofs.Laws.{asked_front, found_own, frame, front_length, grown_refl, grown_trans, legal_grows, local, received_up}
 
@@ -86,26 +84,10 @@ module _ {cluster : Cluster} {workload : Workload} {w v : World} {region : ℕ} 
       found_own workload.sessions w.places region name ∙ ap (λ (o : Own). session_at (local region workload.sessions) o.places region name) (sym same)
       ∙ sym (found_own workload.sessions v.places region name)
 
-  -- a session is kept as it was
-  seat_same : (name : Bytes) (o : Option (Session × Place)) → session_at workload.sessions w.places region name ≡ o → option_map (seat_in w) o ≡ option_map (seat_in v) o
-  seat_same name None e = refl
-  seat_same name (Some (session, place)) e = go place.waits refl
-    where
-      r : Has workload.sessions session × (session.name ≡ name) × (session.region ≡ region) × IsPlaceOf cluster.tries w session place
-      r = session_found (IsPlaceOf cluster.tries w) workload.sessions w.places region name session place good.inv.sessions.places e
-
-      go : (waits : Option TxnId) → place.waits ≡ waits
-          → ◌≡◌ {A = Option Seat} (Some (seat_in w (session, record { answered = place.answered; waits = waits }))) (Some (seat_in v (session, record { answered = place.answered; waits = waits })))
-      go None is = refl
-      go (Some id) is =
-          let wait : WaitsAt cluster w session place id = waiting_for cluster workload w good.order good.inv session place id (subst (λ q. q < cluster.regions) (sym r.2) lr) r.3 is in
-          let stays : attempt_of w id ≡ attempt_of v id = attempt_same id (wait.region ∙ r.2) in
-          λ i. Some (record { calls = session.calls; answered = place.answered; waits = Some (record { id = id; attempt = stays i }) })
-
   pub sessions_still : {s : SessionsView} → SessionsStandIn cluster workload w region s → SessionsStandIn cluster workload v region s
   sessions_still s = record {
     tries = s.tries;
-    seats = λ name. s.seats name ∙ seat_same name (session_at workload.sessions w.places region name) refl ∙ ap (option_map (seat_in v)) (found_same name);
+    seats = λ name. s.seats name ∙ seat_alike good.inv v lr (λ id x found own. attempt_same id own) name (session_at workload.sessions w.places region name) refl ∙ ap (option_map (seat_in v)) (found_same name);
   }
 
 -- what a packet says stays so

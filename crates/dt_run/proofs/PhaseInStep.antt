@@ -13,7 +13,7 @@ use Rattle.dt_proc.specs.Tree.{ProcTree}
 use Rattle.dt_cluster.specs.declared.Cluster.{Cluster}
 use Rattle.dt_workload.specs.declared.Workload.{Workload}
 use Rattle.dt_node.specs.NodeView.{NodeView, number_of, other_at, packet_for}
-use Rattle.dt_node.specs.Sending.{IsSentBy, LeavesNothingOut, copies_of, no_outlet}
+use Rattle.dt_node.specs.TurnPackets.{IsSentBy, LeavesNothingOut, copies_of, no_outlet}
 use Rattle.dt_node.specs.Steps.{HasTurned}
 use Rattle.dt_node.specs.Turn.{HasTaken, IsSettled}
 use Rattle.dt_run.specs.LinksInner.{BesideSoFar, LinkGoes, in_at, out_at}

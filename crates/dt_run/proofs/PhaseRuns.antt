@@ -11,7 +11,7 @@ use Rattle.dt_run.specs.Phase.{EndsInStep, IsPhase}
 use Rattle.dt_run.specs.SeatsInner.{HasCounts, AreRunning, AreSeated, EachGoes, SeatView, events_at, nodes_view, seat_at}
 use Rattle.dt_run.specs.Silence.{ComesToAnEnd, PhaseIsCounted}
 use Rattle.dt_run.specs.declared.counts.Counts.{Counts}
-use Rattle.dt_run.proofs.PhaseMade.{failed_seats, in_step_made, phase_made, put_back, seats_made}
+use Rattle.dt_run.proofs.PhaseOfTurns.{failed_seats, in_step_made, phase_made, put_back, seats_made}
 use Rattle.dt_run.proofs.SeatCounts as counting
 
 module _ {cluster : Cluster} {workload : Workload} {seats : List SeatView} {broken : Bool} {counts : Counts} (r : AreRunning cluster workload seats broken counts) (sound : broken ≡ false) {turned : List SeatView}

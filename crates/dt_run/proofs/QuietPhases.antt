@@ -15,7 +15,7 @@ use Rattle.dt_txn.specs.Replica.{IsDrained}
 use Rattle.dt_node.specs.NodeView.{number_of, packet_for}
 use Rattle.dt_node.specs.NodeInWorld.{AreTold, NodeFits}
 use Rattle.dt_node.specs.Turn.{HasPlacedOwn}
-use Rattle.dt_run.specs.Done.{IsAllDone}
+use Rattle.dt_run.specs.EndOfRun.{IsAllDone}
 use Rattle.dt_run.specs.Marks.{plan_of}
 use Rattle.dt_run.specs.NodesStand.{AreInStep, AreNodes, LinkTells}
 use Rattle.dt_run.specs.NodesView.{NodesView, node_in, waiting_at, waiting_between}
@@ -23,7 +23,7 @@ use Rattle.dt_run.specs.Phase.{EndsInStep, IsPhase}
 use Rattle.dt_run.specs.Silence.{HasAllArrived, HasArrived, IsExact, IsSilent, PacketsWait, made_in}
 use Rattle.dt_run.proofs.AllArrived.{all_answered, all_executed}
 use Rattle.dt_run.proofs.CountedPhases.{made_is, made_now, regions_same}
-use Rattle.dt_run.proofs.Silent.{fits_now, has_arrived, is_put, none_new, number_now, still_exact, told_exact}
+use Rattle.dt_run.proofs.SilentPhase.{fits_now, has_arrived, is_put, none_new, number_now, still_exact, told_exact}
 
 -- whether a packet is lost is decided
 lost_or_put : (plan : LossPlan) (number : ℕ) → Either (IsVerdict plan number Lost)

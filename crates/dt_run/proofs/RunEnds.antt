@@ -15,7 +15,7 @@ use Rattle.dt_merge.specs.Weight.{most_events, sum_below}
 use Rattle.dt_merge.specs.WorldRegions.{HasInvariant}
 use Rattle.dt_node.specs.NodeView.{NodeView, opening_node_of}
 use Rattle.dt_node.specs.NodeInWorld.{AreTold}
-use Rattle.dt_run.specs.Done.{IsAllDone}
+use Rattle.dt_run.specs.EndOfRun.{IsAllDone}
 use Rattle.dt_run.specs.Marks.{kept_by_region}
 use Rattle.dt_run.specs.NodesStand.{AreInStep, AreNodes}
 use Rattle.dt_run.specs.NodesView.{NodesView, no_running_node, node_in, opening_nodes, waiting_at}
@@ -24,7 +24,7 @@ use Rattle.dt_run.specs.Silence.{ComesToAnEnd, IsExact, IsSilent, PacketsWait, c
 use Rattle.dt_run.proofs.CountedPhases.{all_of_all, kept_up, made_now, quiet_more, quiet_none, silent_of}
 use Rattle.dt_run.proofs.Laws.{events_few, sum_below_same}
 use Rattle.dt_run.proofs.QuietPhases.{done_now, exact_and_put, exact_now, exact_or_put}
-use Rattle.dt_run.proofs.StaysDone.{stays_done}
+use Rattle.dt_run.proofs.DoneForGood.{stays_done}
 
 -- the number of events is bounded
 pub kept_few : {v : NodesView} → AreNodes v → all_kept_in v ≤ most_events v.cluster v.workload

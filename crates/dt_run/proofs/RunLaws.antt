@@ -1,9 +1,9 @@
 -- The merged events of nodes that are done are a legal run, eager and finished.
-use Rattle.std.proofs.Common.{◌≡◌, ◌≢◌, ◌<◌, ◌≤◌, ◌⊎◌, ℕ, true, false, eqb, List, [], ◌∷◌, length, map, filter, Some, refl, sym, ap, subst, ◌∙◌, inl, inr, arith, eq-eqb}
+use Rattle.std.proofs.Common.{◌≡◌, ◌≢◌, ◌<◌, ◌≤◌, ◌⊎◌, ℕ, true, false, eqb, List, [], ◌∷◌, length, map, filter, Some, refl, sym, ap, subst, ◌∙◌, inl, inr, arith}
 use Rattle.std.proofs.Common.{Result, Ok, Err, IfOk, Vec}
-use Rattle.std.proofs.lemmas.Bool.{cases_Bool, false_from_ne_true}
-use Rattle.dt_lists.specs.Lists.{AllIn, Distinct, Has, IsFront}
-use Rattle.dt_lists.proofs.Callers.{all_get, all_put, get_of_map, has_map}
+use Rattle.std.proofs.lemmas.Bool.{cases_Bool}
+use Rattle.dt_lists.specs.Lists.{AllIn, Has, IsFront, Pairwise}
+use Rattle.dt_lists.proofs.Callers.{all_get, all_put, get_of_map}
 use Rattle.dt_text.specs.declared.NoMemory.{NoMemory}
 use Rattle.dt_events.specs.declared.Event.{Event}
 use Rattle.dt_events.specs.declared.Stamped.{Stamped}
@@ -15,10 +15,10 @@ use Rattle.dt_workload.specs.declared.Session.{Session}
 use Rattle.dt_session.specs.Eager.{AllChange, first_calls, first_events, sessions_at}
 use Rattle.dt_session.specs.Finished.{AreAnswered}
 use Rattle.dt_session.specs.Run.{AreLegal, world_after}
-use Rattle.dt_session.specs.World.{World, Node, Place, is_session, node_at, opening_table, opening_world, session_at}
+use Rattle.dt_session.specs.World.{World, Node, Place, node_at, opening_table, opening_world, session_at}
 use Rattle.dt_report.specs.declared.Report.{Report}
 use Rattle.dt_report.specs.Report.{report_text}
-use Rattle.dt_agreement.proofs.Callers.{places_parallel, session_of_test, test_of_key}
+use Rattle.dt_agreement.proofs.Callers.{each_found, places_parallel}
 use Rattle.dt_merge.specs.Merge.{region_at, those_at}
 use Rattle.dt_merge.specs.WorldRegions.{HasInvariant}
 use Rattle.dt_site.specs.SessionsStandIn.{SessionsStandIn}
@@ -28,7 +28,7 @@ use Rattle.dt_world.specs.Telling.{AreSitesAfter}
 use Rattle.dt_world.specs.WorldReport.{report_of}
 use Rattle.dt_node.specs.NodeView.{NodeView}
 use Rattle.dt_node.specs.NodeInWorld.{NodeFits}
-use Rattle.dt_run.specs.Done.{IsAllDone}
+use Rattle.dt_run.specs.EndOfRun.{IsAllDone}
 use Rattle.dt_run.specs.Marks.{kept_by_region}
 use Rattle.dt_run.specs.NodesStand.{AreInStep, AreNodes, BeganEagerly, StandsAmong}
 use Rattle.dt_run.specs.NodesView.{NodesView, kept_by, marks_at, no_running_node, node_in}
@@ -48,18 +48,10 @@ events_at_region region (x ∷ items) = go (cases_Bool (eqb (region_at x) region
     go (inr n) e = rw n e
 
 -- every call is answered where each session says so
-own_answered : (sessions : List Session) (places : List Place) → length places ≡ length sessions → Distinct (map (λ s. s.name) sessions)
-    → ((t : Session) → Has sessions t → (p : Place) → session_at sessions places t.region t.name ≡ Some (t, p) → p.answered ≡ length t.calls) → AreAnswered sessions places
-own_answered [] places same once g = tt
-own_answered (s ∷ sessions) [] same once g = absurd (omega (arith, same))
-own_answered (s ∷ sessions) (p ∷ places) same once g = (g s (inl refl) p (rw own refl), own_answered sessions places (omega (arith, same)) once.1 (λ t h q e. g t (inr h) q (rw (away t h) e)))
-  where
-    own : is_session s.region s.name s ≡ true
-    own = rw (test_of_key s.name s.name refl) (eq-eqb s.region s.region refl)
-
-    away : (t : Session) → Has sessions t → is_session t.region t.name s ≡ false
-    away t h = false_from_ne_true (is_session t.region t.name s)
-        (λ e. all_get _ (map (λ u. u.name) sessions) once.0 t.name (has_map (λ u. u.name) sessions t h) (session_of_test t.region t.name s e).0)
+all_answered : (sessions : List Session) (places : List Place) → Pairwise (λ s p. p.answered ≡ length s.calls) sessions places → AreAnswered sessions places
+all_answered [] places all = tt
+all_answered (s ∷ sessions) [] all = absurd all
+all_answered (s ∷ sessions) (p ∷ places) all = (all.0, all_answered sessions places all.1)
 
 module _ {v : NodesView} (n : AreNodes v) (sound : v.broken ≡ false) (some : 1 ≤ length (marks_at v 0)) (d : IsAllDone v) {events : List Event} (m : AreMerged (kept_by v.nodes) events) where
   abbrev whole : World
@@ -85,7 +77,7 @@ module _ {v : NodesView} (n : AreNodes v) (sound : v.broken ≡ false) (some : 1
 
   begins : (region : ℕ) → region < v.cluster.regions
       → IsFront (first_events v.cluster region (opening_table v.cluster) (first_calls (sessions_at region v.workload.sessions)) 0) (filter (λ event. eqb (region_of event) region) events)
-  begins region lr = subst (IsFront (first_events v.cluster region (opening_table v.cluster) (first_calls (sessions_at region v.workload.sessions)) 0)) (sym own) begun
+  begins region lr = subst (IsFront _) (sym own) begun
     where
       step : AreInStep v
       step = n.in_step sound
@@ -102,7 +94,8 @@ module _ {v : NodesView} (n : AreNodes v) (sound : v.broken ≡ false) (some : 1
       begun = (step.each region lr).begun phases
 
   answered : AreAnswered v.workload.sessions whole.places
-  answered = own_answered v.workload.sessions whole.places (sym (places_parallel v.cluster v.workload whole good.order good.inv)) n.workload.names_once each
+  answered = all_answered v.workload.sessions whole.places
+      (each_found (λ t p. p.answered ≡ length t.calls) v.workload.sessions whole.places (sym (places_parallel v.cluster v.workload whole good.order good.inv)) n.workload.names_once each)
     where
       each : (t : Session) → Has v.workload.sessions t → (p : Place) → session_at v.workload.sessions whole.places t.region t.name ≡ Some (t, p) → p.answered ≡ length t.calls
       each t h p e =

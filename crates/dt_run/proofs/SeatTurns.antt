@@ -6,7 +6,7 @@ use Rattle.dt_events.specs.declared.Stamped.{Stamped}
 use Rattle.dt_proc.specs.Tree.{ProcTree}
 use Rattle.dt_region.specs.Region.{RegionView}
 use Rattle.dt_ring.specs.Rings.{RingInView, RingOutView, SameIn, SameOut}
-use Rattle.dt_node.specs.Sending.{HasSent, LeavesNothingOut}
+use Rattle.dt_node.specs.TurnPackets.{HasSent, LeavesNothingOut}
 use Rattle.dt_node.specs.Steps.{HasTurned}
 use Rattle.dt_node.specs.Turn.{BeginsEagerly, HasTaken, IsSettled}
 use Rattle.dt_run.specs.Phase.{TurnsOnce}

@@ -27,7 +27,7 @@ use Rattle.dt_session.specs.Run.{AreLegal, AreLegalFrom, world_after, world_from
 use Rattle.dt_agreement.specs.Invariant.{IsPartAt}
 use Rattle.dt_agreement.proofs.Callers.{IsRequest, legal_append, next_keeps, next_txns, ordered, request_is, world_from_append}
 use Rattle.dt_merge.specs.Merge.{AreLater, HasLowerStamp, region_at, those_at}
-use Rattle.dt_merge.specs.Own.{Own, own}
+use Rattle.dt_merge.specs.OwnPart.{Own, own}
 use Rattle.dt_merge.specs.WorldRegions.{HasInvariant}
 use Rattle.dt_cluster.specs.Valid.{IsValidCluster}
 use Rattle.dt_workload.specs.Valid.{IsValidWorkload}

@@ -20,7 +20,7 @@ use Rattle.dt_site.specs.Site.{SiteView}
 use Rattle.dt_sum.specs.Summary.{answer_count, is_answer, kept_answers, row_sum, summary_text}
 use Rattle.dt_world.specs.WorldReport.{report_of, tables_of}
 use Rattle.dt_node.specs.NodeView.{NodeView}
-use Rattle.dt_run.specs.Done.{IsAllDone}
+use Rattle.dt_run.specs.EndOfRun.{IsAllDone}
 use Rattle.dt_run.specs.NodesStand.{AreNodes}
 use Rattle.dt_run.specs.NodesView.{NodesView, kept_by, marks_at, no_running_node, node_in}
 use Rattle.dt_run.specs.Run.{AreMerged, IsRunSummary}

@@ -19,7 +19,7 @@ use Rattle.dt_workload.specs.declared.Workload.{Workload}
 use Rattle.dt_session.specs.World.{World, Node, node_at, opening_world, received_of, taken_of, txn_of}
 use Rattle.dt_session.specs.Run.{order_of, world_after, world_from}
 use Rattle.dt_agreement.proofs.Callers.{legal_keeps, world_from_append}
-use Rattle.dt_merge.specs.Own.{HasGrown, HaveGrown, Own}
+use Rattle.dt_merge.specs.OwnPart.{HasGrown, HaveGrown, Own}
 use Rattle.dt_merge.specs.WorldRegions.{HasInvariant}
 use Rattle.dt_site.proofs.Callers.{has_received}
 use Rattle.dt_node.specs.NodeView.{NodeView, new_items, number_of}

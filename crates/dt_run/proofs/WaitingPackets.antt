@@ -4,8 +4,9 @@ use Rattle.std.proofs.Common.{◌++◌, length, map, get_or, slice_get, Some, Bo
 use Rattle.std.specs.Prelude.{flat_map}
 use Rattle.std.proofs.Math.Nat.{le-max_left}
 use Rattle.std.proofs.lemmas.List.{length-map}
+use Rattle.std.proofs.lemmas.Option.{get_or_from_slice_get}
 use Rattle.dt_lists.specs.Lists.{AllIn, EachThen, Has}
-use Rattle.dt_lists.proofs.Callers.{all_map, all_of_gets, all_put, any_append, get_of_map}
+use Rattle.dt_lists.proofs.Callers.{all_map, all_of_gets, all_put, any_append, get_of_map, place_within}
 use Rattle.dt_events.specs.declared.Stamped.{Stamped}
 use Rattle.dt_events.specs.Stamps.{events_of, last_stamp}
 use Rattle.dt_packet.specs.declared.loss.Verdict.{Verdict}
@@ -18,7 +19,7 @@ use Rattle.dt_workload.specs.declared.Workload.{Workload}
 use Rattle.dt_merge.specs.Merge.{HasLowerStamp, kept_at, those_at}
 use Rattle.dt_node.specs.NodeView.{NodeView, number_of, packet_for}
 use Rattle.dt_node.specs.Packets.{IsTruePacket}
-use Rattle.dt_node.specs.Sending.{copies_of}
+use Rattle.dt_node.specs.TurnPackets.{copies_of}
 use Rattle.dt_node.specs.NodeInWorld.{IsFor, NodeStands}
 use Rattle.dt_run.specs.NodesStand.{AreInStep, AreNodes, LinkTells, StandsAmong}
 use Rattle.dt_run.specs.NodesView.{NodesView, kept_by, link_to, no_running_node, node_in, waiting_at, waiting_between}
@@ -223,20 +224,10 @@ module _ {cluster : Cluster} {workload : Workload} {seats : List SeatView} {brok
         free_one : (link : ℕ) (o : RingOutView) → slice_get (seat_at seats region).outs link ≡ Some o → 2 ≤ o.free
         free_one link o e =
             let ends : length (seat_at seats region).outs + 1 ≡ length seats = linked.ends.outs region at_seat in
-            let below : link < length (seat_at seats region).outs = got_within (seat_at seats region).outs link o e in
+            let below : link < length (seat_at seats region).outs = place_within (seat_at seats region).outs link o e in
             let l : LinkOf cluster.regions region link = link_of cluster.regions region link lr (omega (arith, below, ends, many)) in
-            by l (get_is (seat_at seats region).outs link o e o)
+            by l (get_or_from_slice_get (seat_at seats region).outs link o o e)
           where
-            got_within : {A : Type 0} (xs : List A) (k : ℕ) (x : A) → slice_get xs k ≡ Some x → k < length xs
-            got_within [] k x e = cc
-            got_within (y ∷ xs) zero x e = omega arith
-            got_within (y ∷ xs) (suc k) x e = let lt : k < length xs = got_within xs k x e in omega (arith, lt)
-
-            get_is : {A : Type 0} (xs : List A) (k : ℕ) (x : A) → slice_get xs k ≡ Some x → (d : A) → get_or xs k d ≡ x
-            get_is [] k x e d = cc
-            get_is (y ∷ xs) zero x e d = cc
-            get_is (y ∷ xs) (suc k) x e d = get_is xs k x e d
-
             by : LinkOf cluster.regions region link → get_or (seat_at seats region).outs link o ≡ o → 2 ≤ o.free
             by l is =
                 let there : l.other < length seats = subst (λ m. l.other < m) (sym many) l.there in

@@ -8,7 +8,7 @@ use Rattle.dt_cluster.specs.declared.Cluster.{Cluster}
 use Rattle.dt_workload.specs.declared.Workload.{Workload}
 use Rattle.dt_node.specs.Packets.{IsTruePacket}
 use Rattle.dt_node.specs.NodeInWorld.{AreTold}
-use Rattle.dt_run.specs.Done.{IsAllDone}
+use Rattle.dt_run.specs.EndOfRun.{IsAllDone}
 use Rattle.dt_run.specs.NodesStand.{AreNodes}
 use Rattle.dt_run.specs.NodesView.{NodesView, node_in, opening_nodes, waiting_at, waiting_between}
 use Rattle.dt_run.specs.Phase.{EndsInStep, IsPhase}

@@ -2,12 +2,12 @@ pub mod NodesView
 pub mod Marks
 pub mod NodesStand
 pub mod Phase
-pub mod Done
+pub mod EndOfRun
 pub mod Run
 pub mod Silence
 pub mod EndLaws
 pub mod SeatsInner
-pub mod Helping
+pub mod HelpersInner
 pub mod LinksInner
-pub mod MergingInner
+pub mod MergeInner
 pub mod NodesCode

@@ -18,7 +18,7 @@ use Rattle.dt_session.specs.Eager.{first_calls, first_events, sessions_at}
 use Rattle.dt_session.specs.World.{opening_table}
 use Rattle.dt_merge.specs.Merge.{IsChronicle}
 use Rattle.dt_node.specs.NodeView.{number_of, packet_for}
-use Rattle.dt_node.specs.Sending.{copies_of}
+use Rattle.dt_node.specs.TurnPackets.{copies_of}
 use Rattle.dt_node.specs.NodeInWorld.{NodeFits}
 use Rattle.dt_node.specs.Turn.{HasPlacedOwn}
 use Rattle.dt_run.specs.Marks.{AreMarksOf, ArePlanned, kept_by_region, plan_of}

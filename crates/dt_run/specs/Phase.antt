@@ -1,12 +1,12 @@
 -- What a phase makes of all nodes. One learns here that every node makes one turn, by what waited for it and by nothing of this
 -- phase (`TurnsOnce`), and that, unless it runs out of memory, one mark is added for each region, and on each link waits what
--- its source sent (`EndsInStep`); and that no phase takes back what was kept (`KeepsEvents`). Read next: `Done`, for when no phase is left to make.
+-- its source sent (`EndsInStep`); and that no phase takes back what was kept (`KeepsEvents`). Read next: `EndOfRun`, for when no phase is left to make.
 use Rattle.std.specs.Prelude.{◌≡◌, ◌≢◌, ◌<◌, ◌+◌, ◌++◌, ◌∷◌, ℕ, List, [], length}
 use Rattle.dt_lists.specs.Lists.{IsFront}
 use Rattle.dt_packet.specs.declared.packet.Packet.{Packet}
 use Rattle.dt_proc.specs.Tree.{ProcTree}
 use Rattle.dt_node.specs.NodeView.{NodeView, new_items, packet_for}
-use Rattle.dt_node.specs.Sending.{LeavesNothingOut}
+use Rattle.dt_node.specs.TurnPackets.{LeavesNothingOut}
 use Rattle.dt_node.specs.Steps.{HasTurned}
 use Rattle.dt_node.specs.Turn.{AreBrought, HasGone, HasTaken, IsSettled, StampsRise}
 use Rattle.dt_run.specs.Marks.{kept_by_region}

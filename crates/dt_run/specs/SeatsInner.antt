@@ -9,7 +9,7 @@ use Rattle.dt_ring.specs.Rings.{AreEnds, RingInView, RingOutView, SameIn, SameOu
 use Rattle.dt_cluster.specs.declared.Cluster.{Cluster}
 use Rattle.dt_workload.specs.declared.Workload.{Workload}
 use Rattle.dt_node.specs.NodeView.{NodeView}
-use Rattle.dt_node.specs.Sending.{HasSent, LeavesNothingOut}
+use Rattle.dt_node.specs.TurnPackets.{HasSent, LeavesNothingOut}
 use Rattle.dt_node.specs.NodeInWorld.{NodeStands}
 use Rattle.dt_node.specs.Steps.{HasTurned}
 use Rattle.dt_node.specs.Turn.{BeginsEagerly, HasTaken, IsSettled}

@@ -3,7 +3,7 @@
 -- events are counted (`made_in`, `all_kept_in`, `quiet_in`) and what silent phases leave: as nothing changes, what nodes know of each
 -- other becomes exact, and then the next packets that are not lost carry what is first in turn. So of any four phases in a row
 -- before all is done one keeps an event, and as the events are few, so are the phases (`ComesToAnEnd`, `most_phases`). Read
--- `Done` before. Read next: `EndLaws`, for the statements that are promised of this.
+-- `EndOfRun` before. Read next: `EndLaws`, for the statements that are promised of this.
 use Rattle.std.specs.Prelude.{◌≡◌, ◌≢◌, ◌<◌, ◌≤◌, ◌⊎◌, ◌+◌, ◌*◌, ◌==◌, ℕ, zero, suc, [], length, get_or, max, if◌then◌else◌}
 use Rattle.dt_sched.specs.Views.{log_at}
 use Rattle.dt_txn.specs.Replica.{taken_from}
@@ -13,7 +13,7 @@ use Rattle.dt_cluster.specs.declared.Cluster.{Cluster}
 use Rattle.dt_workload.specs.declared.Workload.{Workload}
 use Rattle.dt_merge.specs.Weight.{most_events, sum_below}
 use Rattle.dt_run.specs.declared.counts.Counts.{Counts}
-use Rattle.dt_run.specs.Done.{IsAllDone}
+use Rattle.dt_run.specs.EndOfRun.{IsAllDone}
 use Rattle.dt_run.specs.Marks.{kept_by_region, mark_at, plan_of}
 use Rattle.dt_run.specs.NodesView.{NodesView, marks_at, node_in}
 

@@ -1,7 +1,7 @@
 //! How far a run has come: what its phases change.
 ghost use Rattle.std.specs.Prelude.{◌≡◌, ◌↔◌, ◌<◌, length, OnErr, OnOk, IsFalse, false, true};
 ghost use Rattle.dt_lists.specs.Lists.{AllIn};
-ghost use Rattle.dt_run.specs.Helping.{LendsTurns, nodes_of};
+ghost use Rattle.dt_run.specs.HelpersInner.{LendsTurns, nodes_of};
 ghost use Rattle.dt_run.specs.Phase.{EndsInStep, IsPhase};
 ghost use Rattle.dt_run.specs.SeatsInner.{AreRunning};
 ghost use Rattle.dt_run.specs.Silence.{ComesToAnEnd, PhaseIsCounted};

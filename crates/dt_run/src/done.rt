@@ -3,8 +3,8 @@ ghost use Rattle.std.specs.Prelude.{◌↔◌, ◌<◌, ◌+◌, length, IsTrue}
 ghost use Rattle.dt_lists.specs.Lists.{AllIn, Has};
 ghost use Rattle.dt_txn.specs.Replica.{done_ids};
 ghost use Rattle.dt_session.specs.Sessions.{EachNameIsAnswered};
-ghost use Rattle.dt_run.specs.Done.{HasDone};
-ghost use Rattle.dt_run.specs.Helping.{HaveAllDone};
+ghost use Rattle.dt_run.specs.EndOfRun.{HasDone};
+ghost use Rattle.dt_run.specs.HelpersInner.{HaveAllDone};
 ghost use Rattle.dt_run.specs.SeatsInner.{HasFewSubmitted};
 
 use crate::seat::Seat;

@@ -16,7 +16,7 @@
 //! now. One turn of each node, taken one after another, makes the list longer, since a turn's events go on from whatever
 //! events there were (`HasGone` of `dt_node`).
 //!
-//! Read next: `specs/NodesView`, `specs/Marks`, `specs/NodesStand`, `specs/Phase`, `specs/Done`, `specs/Run`, `specs/Silence`;
+//! Read next: `specs/NodesView`, `specs/Marks`, `specs/NodesStand`, `specs/Phase`, `specs/EndOfRun`, `specs/Run`, `specs/Silence`;
 //! then `nodes.rt`, `course.rt` and `to_end.rt`.
 #![tactic(auto)]
 

@@ -1,7 +1,7 @@
 //! The events of all regions as one list, in the order of their stamps.
 ghost use Rattle.std.specs.Prelude.{map, IfOk};
 ghost use Rattle.dt_merge.specs.Merge.{AreKept};
-ghost use Rattle.dt_run.specs.MergingInner.{IsLeast};
+ghost use Rattle.dt_run.specs.MergeInner.{IsLeast};
 ghost use Rattle.dt_run.specs.Run.{AreMerged};
 
 use dt_events::{Event, Stamped};

@@ -8,7 +8,7 @@ ghost use Rattle.dt_txn.specs.Replica.{IsDrained};
 ghost use Rattle.dt_node.specs.NodeView.{opening_node_of};
 ghost use Rattle.dt_cluster.specs.Valid.{IsValidCluster};
 ghost use Rattle.dt_workload.specs.Valid.{IsValidWorkload};
-ghost use Rattle.dt_run.specs.Done.{IsAllDone};
+ghost use Rattle.dt_run.specs.EndOfRun.{IsAllDone};
 ghost use Rattle.dt_run.specs.NodesStand.{AreNodes};
 ghost use Rattle.dt_run.specs.NodesView.{kept_by, marks_at, opening_nodes};
 ghost use Rattle.dt_run.specs.Phase.{EndsInStep, IsPhase};

@@ -1,7 +1,7 @@
 ghost use Rattle.std.specs.Prelude.{◌≡◌, ◌<◌, ◌≤◌, ◌+◌, ◌^◌, ◌++◌, ◌∷◌, ℕ, [], flat_map, length, map, OnOk};
 ghost use Rattle.dt_lists.specs.Lists.{AllIn, Pairwise};
 ghost use Rattle.dt_ring.specs.Rings.{SameIn, SameOut};
-ghost use Rattle.dt_node.specs.Sending.{HasSent, LeavesNothingOut};
+ghost use Rattle.dt_node.specs.TurnPackets.{HasSent, LeavesNothingOut};
 ghost use Rattle.dt_node.specs.NodeInWorld.{NodeStands};
 ghost use Rattle.dt_node.specs.Steps.{HasTurned};
 ghost use Rattle.dt_node.specs.Turn.{BeginsEagerly, HasTaken, IsSettled};

@@ -1,8 +1,8 @@
 //! The run itself.
 ghost use denote.Param.Send.{IsSend, IsSync};
 ghost use Rattle.std.specs.Prelude.{◌≡◌, ◌≤◌, false, true, IfOk, OnErr, OnOk};
-ghost use Rattle.dt_run.specs.Done.{IsAllDone};
-ghost use Rattle.dt_run.specs.Helping.{LendsTurns, HasRunOn, nodes_of};
+ghost use Rattle.dt_run.specs.EndOfRun.{IsAllDone};
+ghost use Rattle.dt_run.specs.HelpersInner.{LendsTurns, HasRunOn, nodes_of};
 ghost use Rattle.dt_run.specs.NodesStand.{AreNodes};
 ghost use Rattle.dt_run.specs.Phase.{KeepsEvents};
 ghost use Rattle.dt_run.specs.Run.{IsRunReport};

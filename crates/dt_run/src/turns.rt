@@ -3,7 +3,7 @@ ghost use Rattle.std.specs.Prelude.{◌<◌, length, All, OnOk};
 ghost use Rattle.dt_round.specs.Rounds.{CanRound, Continues};
 ghost use Rattle.dt_txn.specs.Replica.{IsDrained};
 ghost use Rattle.dt_run.specs.SeatsInner.{EachGoes, SeatCan, SeatGoes};
-ghost use Rattle.dt_run.specs.Helping.{LendsTurns};
+ghost use Rattle.dt_run.specs.HelpersInner.{LendsTurns};
 
 use crate::seat::Seat;
 use dt_lock::{By, Gate, round};

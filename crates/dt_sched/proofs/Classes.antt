@@ -1,8 +1,9 @@
 -- The class of an id exists as a list, and there is only one.
-use Rattle.std.proofs.Common.{◌≡◌, ◌≢◌, ◌≤◌, List, [], ◌∷◌, length, sym, subst, inl, inr}
-use Rattle.dt_lists.specs.Lists.{AnyIn, Has, Either}
+use Rattle.std.proofs.Common.{◌≡◌, ◌≢◌, ◌≤◌, List, [], ◌∷◌, length, map, refl, sym, subst, inl, inr, arith}
+use Rattle.std.proofs.lemmas.List.{length-map}
+use Rattle.dt_lists.specs.Lists.{AllIn, AnyIn, Distinct, EachThen, Has, Either}
 use Rattle.dt_lists.proofs.Callers.{any_get, any_put, two_of_different, either_any, either_same, either_list, IsPicked, ascending_same, pick}
-use Rattle.dt_lists.proofs.Callers.{chain_join}
+use Rattle.dt_lists.proofs.Callers.{all_get, all_image, all_put, chain_join, distinct_within, each_image}
 use Rattle.dt_access.specs.Ids.{Before, AreAscending}
 use Rattle.dt_access.specs.declared.TxnId.{TxnId}
 use Rattle.dt_sched.specs.Views.{View, here, Mutual, IsClass}
@@ -76,3 +77,35 @@ some_class_decided view ids = either_same (AnyIn (λ t. IsClass view t ids) ids)
     (λ a. let r : (t : TxnId) × Has ids t × IsClass view t ids = any_get _ ids a in (r.0, r.2))
     (λ c. any_put (λ t. IsClass view t ids) ids c.0 (in_own_class view c.0 ids c.1) c.1)
     (either_any _ ids (λ t. class_decided view t ids))
+
+-- the first of a group
+abbrev first_in : List TxnId → TxnId
+first_in [] = record { seq = 0; region = 0 }
+first_in (id ∷ ids) = id
+
+first_has : (ids : List TxnId) → 2 ≤ length ids → Has ids (first_in ids)
+first_has [] le = absurd (let none : 2 ≤ 0 = le in omega (arith, none))
+first_has (id ∷ ids) le = inl refl
+
+-- groups that are classes of their members, and differ, differ in their first members
+firsts_apart : (view : View) (groups : List (List TxnId)) → AllIn (λ ids. 2 ≤ length ids) groups → AllIn (λ ids. AllIn (λ t. IsClass view t ids) ids) groups → Distinct groups
+    → EachThen (λ a b. ¬ (first_in a ≡ first_in b)) groups
+firsts_apart view [] several classes once = tt
+firsts_apart view (ids ∷ groups) several classes once = (
+  all_put (λ b. ¬ (first_in ids ≡ first_in b)) groups (λ b h same.
+      all_get (λ c. ¬ (ids ≡ c)) groups once.0 b h
+      (class_unique view (first_in ids) ids b (all_get (λ t. IsClass view t ids) ids classes.0 (first_in ids) (first_has ids several.0))
+      (subst (λ t. IsClass view t b) (sym same)
+      (all_get (λ t. IsClass view t b) b (all_get (λ c. AllIn (λ t. IsClass view t c) c) groups classes.1 b h) (first_in b) (first_has b (all_get (λ c. 2 ≤ length c) groups several.1 b h)))))),
+  firsts_apart view groups several.1 classes.1 once.1,
+)
+
+-- so such groups are no more than the ids among which their members are
+pub few_groups : (view : View) (groups : List (List TxnId)) → AllIn (λ ids. 2 ≤ length ids) groups → AllIn (λ ids. AllIn (λ t. IsClass view t ids) ids) groups → Distinct groups
+    → (known : List TxnId) → AllIn (AllIn (Has known)) groups → length groups ≤ length known
+few_groups view groups several classes once known members =
+    let firsts : Distinct (map first_in groups) = each_image (λ a b. ¬ (a ≡ b)) first_in groups (firsts_apart view groups several classes once) in
+    let first_known : AllIn (Has known) (map first_in groups) = all_image (Has known) first_in groups
+    (all_put (λ ids. Has known (first_in ids)) groups
+    (λ ids h. all_get (Has known) ids (all_get (AllIn (Has known)) groups members ids h) (first_in ids) (first_has ids (all_get (λ c. 2 ≤ length c) groups several ids h)))) in
+    subst (λ n. n ≤ length known) (length-map groups first_in) (distinct_within (map first_in groups) known firsts first_known)

@@ -6,7 +6,7 @@ use Rattle.dt_access.specs.declared.TxnId.{TxnId}
 use Rattle.dt_access.specs.declared.Part.{Part}
 use Rattle.dt_sched.specs.Views.{View, log_at, HasPart, IsLonger, AreClashing, Edge, here, onward, Reaches, HasParts, IsComplete, IsClosed, IsPresent, IsSooner, Mutual, PrecedesBy, Precedes, IsClass, IsWellFormed, StandsAlike}
 use Rattle.dt_sched.specs.Ties.{BreaksTies}
-use Rattle.dt_sched.proofs.Reach.{reach_decided, reach_source}
+use Rattle.dt_sched.proofs.Reach.{ids_in, has_of_present, present_of_complete, reach_decided, reach_source}
 use Rattle.dt_sched.proofs.Ranks.{sooner_breaks_ties}
 use Rattle.dt_sched.proofs.LongerViews.{log_longer, edge_longer, reaches_longer, complete_longer}
 
@@ -49,6 +49,10 @@ closed_before view v t r c u s = c u (chain_join s r)
 -- a closed id is complete
 pub complete_of_closed : (view : View) (t : TxnId) → IsClosed view t → IsComplete view t
 complete_of_closed view t c = c t here
+
+-- and so it is among the ids of the view
+pub closed_listed : (view : View) (t : TxnId) → IsClosed view t → Has (ids_in view) t
+closed_listed view t c = has_of_present view t (present_of_complete view t (complete_of_closed view t c))
 
 module _ (short long : View) (l : IsLonger short long) (w : IsWellFormed long) where
   -- all that reaches a closed id reached it already

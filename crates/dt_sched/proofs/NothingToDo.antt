@@ -7,10 +7,10 @@ use Rattle.dt_access.specs.declared.TxnId.{TxnId}
 use Rattle.dt_sched.specs.Views.{View, Reaches, IsComplete, IsClosed, IsSooner, PrecedesBy, IsClass}
 use Rattle.dt_sched.specs.Ties.{BreaksTies}
 use Rattle.dt_sched.specs.Decide.{IsExecutableBy, IsResolvable, HasNothingToDo, HasNothingToDoBy}
-use Rattle.dt_sched.proofs.Reach.{ids_in, has_of_present, present_of_complete, closed_decided}
+use Rattle.dt_sched.proofs.Reach.{ids_in, closed_decided}
 use Rattle.dt_sched.proofs.Precedence.{decided_by, transitive_by}
 use Rattle.dt_sched.proofs.Ranks.{sooner_breaks_ties}
-use Rattle.dt_sched.proofs.ClosedTransactions.{closed_before, complete_of_closed}
+use Rattle.dt_sched.proofs.ClosedTransactions.{closed_before, closed_listed}
 use Rattle.dt_sched.proofs.Classes.{pick_ids, class_of, class_unique, in_own_class}
 use Rattle.dt_sched.proofs.Decisions.{has_id_decided, has_class_decided}
 
@@ -65,11 +65,8 @@ module _ (order : View → TxnId → TxnId → Type 0) (ties : BreaksTies order)
       at : (ids : List TxnId) × IsPicked Before (λ u. Has (ids_in view) u × (IsClosed view u × ¬ (Has done u))) ids → IsSomethingToDo order view resolved done
       at r = from r.0 r.1.members
         where
-          listed : (u : TxnId) → IsClosed view u → Has (ids_in view) u
-          listed u c = has_of_present view u (present_of_complete view u (complete_of_closed view u c))
-
           from : (ids : List TxnId) → ((u : TxnId) → Has ids u ↔ Has (ids_in view) u × (IsClosed view u × ¬ (Has done u))) → IsSomethingToDo order view resolved done
-          from [] m = absurd ((m t).1 (listed t closed, (closed, waiting)))
+          from [] m = absurd ((m t).1 (closed_listed view t closed, (closed, waiting)))
           from (x ∷ xs) m = first (least (PrecedesBy order view) (λ t p. p.0 refl) (transitive_by order ties view) (decided_by order ties view) x xs)
             where
               first : (s : TxnId) × IsMinimal (PrecedesBy order view) (x ∷ xs) s → IsSomethingToDo order view resolved done
@@ -81,7 +78,7 @@ module _ (order : View → TxnId → TxnId → Type 0) (ties : BreaksTies order)
                   before : (u : TxnId) → PrecedesBy order view u s.0 → Has done u
                   before u p = elim (has_id_decided done u) [
                     | inl d ↦ d
-                    | inr n ↦ let c : IsClosed view u = closed_before view u s.0 p.1 its.1.0 in absurd (s.1.none_below u ((m u).1 (listed u c, (c, n))) p)
+                    | inr n ↦ let c : IsClosed view u = closed_before view u s.0 p.1 its.1.0 in absurd (s.1.none_below u ((m u).1 (closed_listed view u c, (c, n))) p)
                   ]
 
   -- where nothing is left to do, what is closed is done

@@ -12,9 +12,10 @@ use Rattle.dt_sched.proofs.Classes.{class_of_member}
 use Rattle.dt_sched.proofs.StableDecisions.{resolvable_closed, all_closed_stays}
 use Rattle.dt_sched.proofs.OnePartMore.{with_part_longer, with_part_well_formed, empty_well_formed}
 
-pub sound_at_first : (regions : ℕ) → IsSound (replicate regions []) [] []
-sound_at_first regions = record {
-  well_formed = empty_well_formed regions;
+-- where nothing is resolved and nothing is done
+pub sound_with_none : (view : View) → IsWellFormed view → IsSound view [] []
+sound_with_none view w = record {
+  well_formed = w;
   done_once = tt;
   done_closed = tt;
   done_downward = λ u t h p. absurd h;
@@ -24,6 +25,9 @@ sound_at_first regions = record {
   resolved_closed = tt;
   resolved_classes = tt;
 }
+
+pub sound_at_first : (regions : ℕ) → IsSound (replicate regions []) [] []
+sound_at_first regions = sound_with_none (replicate regions []) (empty_well_formed regions)
 
 -- also any growth of the view keeps it
 pub sound_longer : (short long : View) → IsLonger short long → IsWellFormed long → (resolved : List (List TxnId)) (done : List TxnId) → IsSound short resolved done → IsSound long resolved done

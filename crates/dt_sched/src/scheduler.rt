@@ -51,7 +51,7 @@ pub trait Scheduler: Sized {
         ensures spare { spare self.old ≤ spare self.new };
 
     /// Makes room for at least n calls of `finish`. Nothing else changes.
-    fn reserve(&mut self, alloc: Global, places: u32) -> Result<(), NoMemory>
+    fn reserve(&mut self, alloc: Global, places: usize) -> Result<(), NoMemory>
         ensures room { OnOk result (places ≤ spare self.new) }
         ensures same { seen self.new ≡ seen self.old }
         ensures spare { spare self.old ≤ spare self.new };

@@ -17,7 +17,7 @@ use Rattle.dt_txn.specs.Staleness.{IsStaleOutcome}
 use Rattle.dt_txn.proofs.Callers.{own_fresh}
 use Rattle.dt_serial.specs.Order.{IsLive}
 use Rattle.dt_serial.specs.Evidence.{MadeMove, own_outcome, IsGrounded, HasReason}
-use Rattle.dt_serial.proofs.One.{mover_at, IsStaleAt, live_or_stale, one_live}
+use Rattle.dt_serial.proofs.OneTransaction.{mover_at, IsStaleAt, live_or_stale, one_live}
 use Rattle.dt_serial.proofs.Rows.{same_moves}
 use Rattle.dt_serial.proofs.Runs.{version_after, table_after_append, outcomes_append, has_outcome_at, IsOutcomeAt, outcome_get, moves_grow, IsMoveAt, numbered_move}
 

@@ -43,13 +43,16 @@ module _ (f : TxnId → Option Txn) (own : (i : TxnId) (x : Txn) → f i ≡ Som
   looked_filter p [] = refl
   looked_filter p (i ∷ ids) = go (f i) refl (p i) refl (looked_filter p ids)
     where
+      with_one : Txn → Bool → List Txn
+      with_one x b = cond b (x ∷ filter (λ z. p z.id) (filter_map f ids)) (filter (λ z. p z.id) (filter_map f ids))
+
       kept : (o : Option Txn) → f i ≡ o → p i ≡ true → cons_option o (filter (λ x. p x.id) (filter_map f ids)) ≡ filter (λ x. p x.id) (cons_option o (filter_map f ids))
       kept None e y = refl
-      kept (Some x) e y = sym (ap (λ b. cond b (x ∷ filter (λ z. p z.id) (filter_map f ids)) (filter (λ z. p z.id) (filter_map f ids))) (ap p (own i x e) ∙ y))
+      kept (Some x) e y = sym (ap (with_one x) (ap p (own i x e) ∙ y))
 
       dropped : (o : Option Txn) → f i ≡ o → p i ≡ false → filter (λ x. p x.id) (filter_map f ids) ≡ filter (λ x. p x.id) (cons_option o (filter_map f ids))
       dropped None e n = refl
-      dropped (Some x) e n = sym (ap (λ b. cond b (x ∷ filter (λ z. p z.id) (filter_map f ids)) (filter (λ z. p z.id) (filter_map f ids))) (ap p (own i x e) ∙ n))
+      dropped (Some x) e n = sym (ap (with_one x) (ap p (own i x e) ∙ n))
 
       go : (o : Option Txn) → f i ≡ o → (b : Bool) → p i ≡ b → filter_map f (filter p ids) ≡ filter (λ x. p x.id) (filter_map f ids)
           → filter_map f (cond (p i) (i ∷ filter p ids) (filter p ids)) ≡ filter (λ x. p x.id) (cons_option (f i) (filter_map f ids))

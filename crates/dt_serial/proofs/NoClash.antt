@@ -19,9 +19,9 @@ use Rattle.dt_txn.specs.Transaction.{IsValid, used_of}
 use Rattle.dt_txn.specs.Execution.{one, see, seen_of}
 use Rattle.dt_txn.specs.Serial.{after}
 use Rattle.dt_serial.specs.Order.{Changes, ChangesBy, MayChange}
-use Rattle.dt_serial.proofs.One.{change_of_one, clash_of_change}
+use Rattle.dt_serial.proofs.OneTransaction.{change_of_one, clash_of_change}
 use Rattle.dt_serial.proofs.Rows.{apply_keeps_value}
-use Rattle.dt_serial.proofs.Valid.{valid_keeps}
+use Rattle.dt_serial.proofs.ValidTransactions.{valid_keeps}
 
 -- the moves of a unit that an effect does not move
 moves_stay : (e : Effect) (t : Table) (key : Bytes) → ¬ (Changes t.version e key) → moves_of (apply e t) key ≡ moves_of t key

@@ -29,9 +29,9 @@ use Rattle.dt_txn.specs.Staleness.{IsStaleOutcome}
 use Rattle.dt_serial.specs.Order.{txn_ids, Ordered, IsDown, FollowsMove, IsLive, Changes, ChangesBy, MayChange, IsHistory, uses_in}
 use Rattle.dt_serial.specs.Replay.{replay}
 use Rattle.dt_serial.proofs.Rows.{either_changes}
-use Rattle.dt_serial.proofs.One.{clash_of_change, mover_at, one_alike, live_entries, live_of_outcome, change_of_one}
+use Rattle.dt_serial.proofs.OneTransaction.{clash_of_change, mover_at, one_alike, live_entries, live_of_outcome, change_of_one}
 use Rattle.dt_serial.proofs.Runs.{table_after_append, outcomes_ids, has_outcome_at, AlongRun, along_put, replay_append, replay_version, replay_alike, replay_none, replay_value, replay_swap}
-use Rattle.dt_serial.proofs.Past.{among_same, IsPast, past_of_down, same_past, down_front, down_closed, filter_ids, down_filter}
+use Rattle.dt_serial.proofs.PastOfId.{among_same, IsPast, past_of_down, same_past, down_front, down_closed, filter_ids, down_filter}
 use Rattle.dt_serial.proofs.History.{down_at, past_at, apart_at, replay_before, keys_at, anchor_at, IsMoveNumber, index, follower, live_before, same_movers, across, closed_front, replayed_moves}
 use Rattle.dt_serial.proofs.History.{replayed_mover}
 

@@ -17,8 +17,8 @@ use Rattle.dt_txn.specs.Execution.{stale_at}
 use Rattle.dt_txn.specs.Serial.{after, table_after}
 use Rattle.dt_serial.specs.Order.{Ordered, FollowsMove, IsHistory, IsPart, IsDown, IsLive, KeepsToKeys}
 use Rattle.dt_table.proofs.Callers.{move_at}
-use Rattle.dt_serial.proofs.One.{one_live}
-use Rattle.dt_serial.proofs.Valid.{move_narrow}
+use Rattle.dt_serial.proofs.OneTransaction.{one_live}
+use Rattle.dt_serial.proofs.ValidTransactions.{move_narrow}
 use Rattle.dt_serial.proofs.Runs.{after_moves, moves_grow}
 
 abbrev move_use : ℕ → Bytes → ℕ → Access

@@ -8,7 +8,7 @@ use Rattle.std.specs.declared.cmp.Ordering.{Ordering}
 use Rattle.std.specs.declared.cmp.Ordering.TheVariants.{Less, Equal, Greater}
 use Rattle.std.specs.Ordering.{is_lt, nat_cmp}
 use Rattle.std.specs.Cmp.Lexicographic.{bytes_decides, slice_cmp, texts_ties}
-use Rattle.std.specs.BTreeMap.{insert_entry}
+use Rattle.std.specs.BTreeMap.{BTreeMap, insert_entry}
 use Rattle.std.specs.Map.{keys_of, lookup, set_value}
 use Rattle.std.proofs.lemmas.Map.{keys-set_value}
 use Rattle.std.proofs.lemmas.Map.Steps.{set_value_same}
@@ -27,6 +27,7 @@ use Rattle.dt_access.specs.declared.TxnId.{TxnId}
 use Rattle.dt_access.proofs.Callers.{same_key_after, same_key_self}
 use Rattle.dt_txn.specs.declared.Outcome.{Outcome}
 use Rattle.dt_workload.specs.Valid.{calls_in, session_names}
+use Rattle.dt_workload.specs.declared.Ranked.{Ranked}
 use Rattle.dt_workload.specs.declared.Session.{Session}
 use Rattle.dt_session.specs.declared.sessions.Seat.{Seat}
 use Rattle.dt_session.specs.Eager.{sessions_at, with_session}
@@ -114,6 +115,15 @@ module _ (region : ℕ) (sessions : List Session) (once : Distinct (session_name
       (subst (λ x. AllIn (λ t. x.name ≢ t.name) (drop (suc n) sessions)) (sym is) (names_after sessions n s once within)) in
       inserted s (sessions_at region (drop (length sessions - behind) sessions)) (sessions_at_all (λ t. s.name ≢ t.name) region (drop (length sessions - behind) sessions) new)
       ∙ sym (ap (λ l. map idle_seat (sessions_at region l)) parts ∙ rw (eq-eqb s.region region here) refl)
+
+  -- with a copy of it put among them, the seats are those of one session more
+  pub put_among : (seats put : BTreeMap Bytes Seat) (old : List (Bytes × Seat)) (name : Bytes) (calls : List Ranked) → s.region ≡ region → old ≡ map idle_seat (sessions_at region (drop (length sessions - behind) sessions))
+      → name ≡ s.name → calls ≡ s.calls → put.entries ≡ insert_entry (slice_cmp nat_cmp) old name (record { calls = calls; answered = 0; waits = None })
+      → HasAscendingKeys put.entries → seats ≡ put → (seats.entries ≡ map idle_seat (sessions_at region (drop (length sessions - (behind + 1)) sessions))) × HasAscendingKeys seats.entries
+  put_among seats put old name calls here same named copied more ascending is = (
+    ap (λ m. m.entries) is ∙ more ∙ (λ j. insert_entry (slice_cmp nat_cmp) (same j) (named j) (record { calls = copied j; answered = 0; waits = None })) ∙ gathered here,
+    subst (λ m. HasAscendingKeys m.entries) (sym is) ascending,
+  )
 
   -- it is not
   pub passed_over : s.region ≢ region → sessions_at region (drop (length sessions - behind) sessions) ≡ sessions_at region (drop (length sessions - (behind + 1)) sessions)

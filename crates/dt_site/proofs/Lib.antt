@@ -1,5 +1,5 @@
 pub mod Lists
-pub mod Short
+pub mod ListLengths
 pub mod SitesInWorlds
 pub mod Moves
 pub mod Opening

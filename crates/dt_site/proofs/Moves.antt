@@ -25,7 +25,7 @@ use Rattle.dt_session.specs.Run.{txns_of}
 use Rattle.dt_agreement.proofs.Callers.{unmoved_at_first, version_stays}
 use Rattle.dt_site.specs.Site.{SiteView}
 use Rattle.dt_site.specs.StandsIn.{IsReached, StandsIn}
-use Rattle.dt_site.proofs.Short.{HasShortLists, legal_short}
+use Rattle.dt_site.proofs.ListLengths.{HasShortLists, legal_short}
 use Rattle.dt_site.proofs.SitesInWorlds.{here_is, inv, valid_txn}
 
 -- each of the transactions that ran moved a unit at most once

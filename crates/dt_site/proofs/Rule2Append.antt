@@ -1,6 +1,6 @@
 -- Rule 2: a home places a request of a region. The transaction is that which the world asks for there, wherever it comes
 -- from: another site, or a packet.
-use Rattle.std.proofs.Common.{eq-eqb, eqb-true, ◌≡◌, ◌≢◌, ◌<◌, ◌≤◌, ◌+◌, ℕ, true, false, cond, eqb, List, [], ◌∷◌, ◌++◌, length, map, set, take, slice_get, Ok}
+use Rattle.std.proofs.Common.{eq-eqb, eqb-true, ◌≡◌, ◌≢◌, ◌<◌, ◌≤◌, ◌+◌, ℕ, Bool, true, false, cond, eqb, List, [], ◌∷◌, ◌++◌, length, map, set, take, slice_get, Ok}
 use Rattle.std.proofs.Common.{Some, refl, sym, ap, ap₂, subst, ◌∙◌, inl, inr, arith}
 use Rattle.std.specs.Prelude.{option_and_then}
 use Rattle.std.proofs.lemmas.Bool.{false_from_ne_true}
@@ -54,12 +54,16 @@ module _ {cluster : Cluster} {workload : Workload} {w : World} (k : IsReached cl
   valid : IsValid cluster.procs cluster.version cluster.regions txn
   valid = valid_txn k txn.id txn found
 
+  -- the world after the append, by whether it is the request's turn
+  abbrev placed_if : Bool → World
+  placed_if turn = cond turn (placed w home source (option_and_then (txn_of w) (slice_get (asked_of w source home) number))) w
+
   -- a request that is not the next one changes nothing
   pub append_still : number ≢ taken_from p.region.state.here source → next cluster workload w (Append home source number) ≡ w
   append_still other =
       let no : eqb number (taken_of w home source) ≡ false =
       false_from_ne_true (eqb number (taken_of w home source)) (λ t. other (eqb-true number (taken_of w home source) t ∙ taken_is)) in
-      ap (λ b. cond b (placed w home source (option_and_then (txn_of w) (slice_get (asked_of w source home) number))) w) no
+      ap placed_if no
 
   -- where it is the next request
 
@@ -73,8 +77,7 @@ module _ {cluster : Cluster} {workload : Workload} {w : World} (k : IsReached cl
     placed_is : next cluster workload w (Append home source number) ≡ placed w home source (Some txn)
     placed_is =
         let one : option_and_then (txn_of w) (slice_get (asked_of w source home) number) ≡ Some txn = ap (option_and_then (txn_of w)) wants ∙ found in
-        ap (λ b. cond b (placed w home source (option_and_then (txn_of w) (slice_get (asked_of w source home) number))) w) is_turn
-        ∙ ap (placed w home source) one
+        ap placed_if is_turn ∙ ap (placed w home source) one
 
     -- the home's log then, and all logs
 

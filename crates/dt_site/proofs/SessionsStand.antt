@@ -1,15 +1,14 @@
 -- The sessions of a region that stand in a world: what they allow is what the rules allow there, and after each event they
 -- stand in the next world, the one that it is about changed and all others as they were.
-use Rattle.std.proofs.Common.{◌≡◌, ◌≢◌, ◌⊎◌, ◌<◌, ◌+◌, ℕ, Bool, true, false, cond, eq-eqb, List, [], ◌∷◌, length, map, get_or, slice_get, Some, None, refl, sym, ap, ap₂, subst, ◌∙◌, inl, inr, arith}
+use Rattle.std.proofs.Common.{◌≡◌, ◌≢◌, ◌⊎◌, ◌<◌, ◌+◌, ℕ, Bool, true, false, cond, List, [], ◌∷◌, length, map, get_or, slice_get, Some, None, refl, sym, ap, ap₂, subst, ◌∙◌, inl, inr}
 use Rattle.std.specs.Prelude.{Option, IsSome, option_map, option_and_then, unwrap_or}
 use Rattle.std.specs.Cmp.Lexicographic.{bytes_decides, texts_ties}
-use Rattle.std.proofs.lemmas.Bool.{cases_Bool, false_from_ne_true}
+use Rattle.std.proofs.lemmas.Bool.{cases_Bool}
 use Rattle.std.proofs.lemmas.Cmp.{eq_by_cmp_equiv, nat_list_cmp_total}
 use Rattle.std.proofs.lemmas.List.{length-map}
 use Rattle.std.proofs.lemmas.Map.{lookup-set_value}
 use Rattle.std.proofs.lemmas.Option.{slice_get_within, some_pair_parts}
-use Rattle.dt_lists.specs.Lists.{Distinct, Has}
-use Rattle.dt_lists.proofs.Callers.{all_get, has_map}
+use Rattle.dt_lists.specs.Lists.{Distinct, Has, Pairwise}
 use Rattle.dt_access.specs.Clash.{Bytes}
 use Rattle.dt_access.specs.declared.TxnId.{TxnId}
 use Rattle.dt_events.specs.declared.Event.{Event}
@@ -24,8 +23,8 @@ use Rattle.dt_session.proofs.Callers.{idle_found, same_name}
 use Rattle.dt_session.specs.Step.{IsLegal, MayAnswer, MaySubmit, awaited_at, next, next_attempt}
 use Rattle.dt_session.specs.Tries.{MayEnd, MayTry}
 use Rattle.dt_session.specs.World.{World, Place, Submission, attempt_of, idle_place, is_session, opening_world, outcome_at, session_at, submission_of, with_place}
-use Rattle.dt_agreement.specs.Invariant.{IsPlaceOf}
-use Rattle.dt_agreement.proofs.Callers.{WaitsAt, next_found, session_found, session_of_test, test_of_key, waiting_for}
+use Rattle.dt_agreement.specs.Invariant.{IsPlaceOf, Inv}
+use Rattle.dt_agreement.proofs.Callers.{WaitsAt, each_found, next_found, session_found, session_of_test, waiting_for}
 use Rattle.dt_site.specs.SessionsStandIn.{SessionsStandIn, no_sessions, place_in, places_of, seat_in}
 use Rattle.dt_site.specs.StandsIn.{IsReached}
 use Rattle.dt_site.proofs.SitesInWorlds.{inv, order}
@@ -176,6 +175,24 @@ module _ (region : ℕ) (name : Bytes) (place : Place) where
 attempt_found : (w : World) (id : TxnId) (x : Submission) → submission_of w id ≡ Some x → attempt_of w id ≡ x.attempt
 attempt_found w id x e = ap (λ o. unwrap_or (option_map (λ s. s.attempt) o) 0) e
 
+-- where the attempts that sessions wait for stay, a session of a region is kept as it was
+pub seat_alike : {cluster : Cluster} {workload : Workload} {w : World} {order : List TxnId} → Inv cluster workload w order → (v : World) → {region : ℕ} → region < cluster.regions
+    → ((id : TxnId) (x : Submission) → submission_of w id ≡ Some x → id.region ≡ region → attempt_of w id ≡ attempt_of v id)
+    → (name : Bytes) (o : Option (Session × Place)) → session_at workload.sessions w.places region name ≡ o → option_map (seat_in w) o ≡ option_map (seat_in v) o
+seat_alike i v lr attempts name None e = refl
+seat_alike {cluster} {workload} {w} {order} i v {region} lr attempts name (Some (session, place)) e = go place.waits refl
+  where
+    r : Has workload.sessions session × (session.name ≡ name) × (session.region ≡ region) × IsPlaceOf cluster.tries w session place
+    r = session_found (IsPlaceOf cluster.tries w) workload.sessions w.places region name session place i.sessions.places e
+
+    go : (waits : Option TxnId) → place.waits ≡ waits
+        → ◌≡◌ {A = Option Seat} (Some (seat_in w (session, record { answered = place.answered; waits = waits }))) (Some (seat_in v (session, record { answered = place.answered; waits = waits })))
+    go None is = refl
+    go (Some id) is =
+        let wait : WaitsAt cluster w session place id = waiting_for cluster workload w order i session place id (subst (λ q. q < cluster.regions) (sym r.2) lr) r.3 is in
+        let stays : attempt_of w id ≡ attempt_of v id = attempts id wait.submission wait.found (wait.region ∙ r.2) in
+        λ i. Some (record { calls = session.calls; answered = place.answered; waits = Some (record { id = id; attempt = stays i }) })
+
 -- after a legal event
 
 module _ {cluster : Cluster} {workload : Workload} {w : World} (k : IsReached cluster workload w) (event : Event) (legal : IsLegal cluster workload w event) where
@@ -188,20 +205,7 @@ module _ {cluster : Cluster} {workload : Workload} {w : World} (k : IsReached cl
   -- a session that stands where it stood is kept as it was
   seat_stays : (region : ℕ) → region < cluster.regions → (name : Bytes) (o : Option (Session × Place)) → session_at workload.sessions w.places region name ≡ o
       → option_map (seat_in w) o ≡ option_map (seat_in later) o
-  seat_stays region lr name None e = refl
-  seat_stays region lr name (Some (session, place)) e = go place.waits refl
-    where
-      r : Has workload.sessions session × (session.name ≡ name) × (session.region ≡ region) × IsPlaceOf cluster.tries w session place
-      r = session_found (IsPlaceOf cluster.tries w) workload.sessions w.places region name session place (inv k).sessions.places e
-
-      go : (waits : Option TxnId) → place.waits ≡ waits
-          → ◌≡◌ {A = Option Seat} (Some (seat_in w (session, record { answered = place.answered; waits = waits }))) (Some (seat_in later (session, record { answered = place.answered; waits = waits })))
-      go None is = refl
-      go (Some id) is =
-          let wait : WaitsAt cluster w session place id =
-          waiting_for cluster workload w (order k) (inv k) session place id (subst (λ q. q < cluster.regions) (sym r.2) lr) r.3 is in
-          let stays : attempt_of w id ≡ attempt_of later id = sym (attempt_stays id wait.submission wait.found) in
-          λ i. Some (record { calls = session.calls; answered = place.answered; waits = Some (record { id = id; attempt = stays i }) })
+  seat_stays region lr name o e = seat_alike (inv k) later lr (λ id x found own. sym (attempt_stays id x found)) name o e
 
   -- where the sessions stand as before, those of each region stand in the next world
   pub sessions_stay : later.places ≡ w.places → {region : ℕ} → region < cluster.regions → {s : SessionsView} → SessionsStandIn cluster workload w region s
@@ -246,21 +250,12 @@ module _ {cluster : Cluster} {workload : Workload} {w : World} (k : IsReached cl
 
 -- what all regions keep says where each session stands
 
--- a session's own place is found by its name and region
-module _ (f : Session → Place) where
-  own_places : (sessions : List Session) (places : List Place) → length places ≡ length sessions → Distinct (map (λ s. s.name) sessions)
-      → ((t : Session) → Has sessions t → (p : Place) → session_at sessions places t.region t.name ≡ Some (t, p) → f t ≡ p) → map f sessions ≡ places
-  own_places [] [] same once g = refl
-  own_places [] (p ∷ places) same once g = absurd (omega arith)
-  own_places (s ∷ sessions) [] same once g = absurd (omega arith)
-  own_places (s ∷ sessions) (p ∷ places) same once g = ap₂ (λ x l. x ∷ l) (g s (inl refl) p (rw own refl)) (own_places sessions places (omega arith) once.1 (λ t h q e. g t (inr h) q (rw (away t h) e)))
-    where
-      own : is_session s.region s.name s ≡ true
-      own = rw (test_of_key s.name s.name refl) (eq-eqb s.region s.region refl)
-
-      away : (t : Session) → Has sessions t → is_session t.region t.name s ≡ false
-      away t h = false_from_ne_true (is_session t.region t.name s)
-          (λ e. all_get _ (map (λ u. u.name) sessions) once.0 t.name (has_map (λ u. u.name) sessions t h) (session_of_test t.region t.name s e).0)
+-- what each session's place is, the places are
+places_of_each : (f : Session → Place) (sessions : List Session) (places : List Place) → Pairwise (λ s p. f s ≡ p) sessions places → map f sessions ≡ places
+places_of_each f [] [] all = refl
+places_of_each f [] (p ∷ places) all = absurd all
+places_of_each f (s ∷ sessions) [] all = absurd all
+places_of_each f (s ∷ sessions) (p ∷ places) all = ap₂ (λ x l. x ∷ l) all.0 (places_of_each f sessions places all.1)
 
 place_of_seat : (w : World) (session : Session) (place : Place) → place_in (Some (seat_in w (session, place))) ≡ place
 place_of_seat w session place = go place.waits
@@ -272,8 +267,10 @@ place_of_seat w session place = go place.waits
 module _ {cluster : Cluster} {workload : Workload} {w : World} (once : Distinct (map (λ s. s.name) workload.sessions)) (regions : (t : Session) → Has workload.sessions t → t.region < cluster.regions)
     (many : length w.places ≡ length workload.sessions) (all : List SessionsView) (k : (region : ℕ) → region < cluster.regions → SessionsStandIn cluster workload w region (get_or all region no_sessions)) where
   pub places_are : places_of workload all ≡ w.places
-  places_are = own_places (λ session. place_in (seat_of (get_or all session.region no_sessions) session.name)) workload.sessions w.places many once
-      (λ t h p e. ap place_in (kept_here (k t.region (regions t h)) t.name e) ∙ place_of_seat w t p)
+  places_are =
+      let own : Session → Place = λ session. place_in (seat_of (get_or all session.region no_sessions) session.name) in
+      places_of_each own workload.sessions w.places (each_found (λ t p. own t ≡ p) workload.sessions w.places many once
+      (λ t h p e. ap place_in (kept_here (k t.region (regions t h)) t.name e) ∙ place_of_seat w t p))
 
 -- before anything happens
 

@@ -1,10 +1,9 @@
 -- How many answers there are among legal events: each makes one call more of a session answered, and no other event does. So once
 -- all calls are answered, there are as many as calls.
 use Rattle.std.proofs.Common.{◌≡◌, ℕ, ◌+◌, ◌==◌, ◌&&◌, Bool, true, false, cond, List, [], ◌∷◌, length, map, nat_le, nat_lt, Option, Some, None, slice_get, is_some, refl, sym, ap, ◌∙◌, subst, arith}
-use Rattle.std.specs.List.{cons_option, filter_map, sum_by}
+use Rattle.std.specs.List.{cons_option, filter_map}
 use Rattle.std.specs.Option.{option_and_then}
 use Rattle.std.proofs.lemmas.List.Sums.{sum_by-cons}
-use Rattle.std.proofs.lemmas.Option.{some_pair_parts}
 use Rattle.dt_text.specs.Texts.{Bytes}
 use Rattle.dt_access.specs.declared.TxnId.{TxnId}
 use Rattle.dt_events.specs.declared.Event.{Event}
@@ -15,48 +14,23 @@ use Rattle.dt_workload.specs.Valid.{calls_in}
 use Rattle.dt_workload.specs.declared.Ranked.{Ranked}
 use Rattle.dt_workload.specs.declared.Session.{Session}
 use Rattle.dt_workload.specs.declared.Workload.{Workload}
-use Rattle.dt_session.specs.World.{Place, World, asked_of, idle_place, is_session, opening_world, received_of, session_at, taken_of, txn_of, with_place}
+use Rattle.dt_session.specs.World.{Place, World, asked_of, idle_place, opening_world, received_of, session_at, taken_of, txn_of, with_place}
 use Rattle.dt_session.specs.Step.{IsLegal, MayAnswer, answered, attempt_for, called, next, placed, received, submitted}
 use Rattle.dt_session.specs.Run.{AreLegalFrom, order_of, world_after, world_from}
 use Rattle.dt_session.specs.Finished.{AreAnswered}
-use Rattle.dt_agreement.proofs.Callers.{found_is_named, legal_keeps, places_parallel}
+use Rattle.dt_agreement.proofs.Callers.{answered_changed, answered_in, found_is_named, legal_keeps, places_parallel}
 use Rattle.dt_gen.specs.Load.{load_cluster, load_workload}
 use Rattle.dt_gen.proofs.Callers.{load_calls_in, load_cluster_valid, load_workload_valid}
 use Rattle.dt_sum.specs.Summary.{answer_count, is_answer}
 use Rattle.dt_sum.specs.Laws.{EachCallHasAReply, EachCallIsAnsweredOnce}
 
--- how many calls are answered in all
-abbrev answered_in : List Place → ℕ
-answered_in places = sum_by (λ (p : Place). p.answered) places
-
--- where the place of a session is changed, the sum changes as that place does
-place_changes : (sessions : List Session) (places : List Place) (region : ℕ) (name : Bytes) (s : Session) (p now : Place) → session_at sessions places region name ≡ Some (s, p)
-    → answered_in (with_place sessions places region name now) + p.answered ≡ answered_in places + now.answered
-place_changes [] places region name s p now e = cc
-place_changes (t ∷ sessions) [] region name s p now e = cc
-place_changes (t ∷ sessions) (x ∷ places) region name s p now e = by (is_session region name t) (place_changes sessions places region name s p now) e
-  where
-    by : (b : Bool) → (session_at sessions places region name ≡ Some (s, p) → answered_in (with_place sessions places region name now) + p.answered ≡ answered_in places + now.answered)
-        → cond b (Some (t, x)) (session_at sessions places region name) ≡ Some (s, p)
-        → answered_in (cond b (now ∷ places) (x ∷ with_place sessions places region name now)) + p.answered ≡ answered_in (x ∷ places) + now.answered
-    by true later e =
-        let is : x.answered ≡ p.answered = ap (λ (v : Place). v.answered) (some_pair_parts t s x p e).1 in
-        let before = sum_by-cons (λ (v : Place). v.answered) x places in
-        let after = sum_by-cons (λ (v : Place). v.answered) now places in
-        omega (arith, is, before, after)
-    by false later e =
-        let rest = later e in
-        let before = sum_by-cons (λ (v : Place). v.answered) x places in
-        let after = sum_by-cons (λ (v : Place). v.answered) x (with_place sessions places region name now) in
-        omega (arith, rest, before, after)
-
 module _ (cluster : Cluster) (workload : Workload) where
-  -- the same, by the name that the found session has
+  -- where the place of a session is changed, the answered calls change as that place does: by the name that the found session has
   changes_by : (w : World) (region : ℕ) (name : Bytes) (s : Session) (p now : Place) → session_at workload.sessions w.places region name ≡ Some (s, p)
       → answered_in (with_place workload.sessions w.places region s.name now) + p.answered ≡ answered_in w.places + now.answered
   changes_by w region name s p now e =
       subst (λ (key : Bytes). answered_in (with_place workload.sessions w.places region key now) + p.answered ≡ answered_in w.places + now.answered)
-      (sym (found_is_named workload.sessions w.places region name s p e)) (place_changes workload.sessions w.places region name s p now e)
+      (sym (found_is_named workload.sessions w.places region name s p e)) (answered_changed workload.sessions w.places region name s p now e)
 
   -- one event: an answer makes one call more answered
   event_counts : (w : World) (event : Event) → IsLegal cluster workload w event → answered_in (next cluster workload w event).places ≡ answered_in w.places + cond (is_answer event) 1 0

@@ -94,10 +94,14 @@ more_items_quiet [] = tt
 more_items_quiet (m ∷ more) =
     ((refl, refl), join Quiet (item_tokens m.1) (flat_map (λ m. at m.0 tok.Comma ∷ item_tokens m.1) more) (item_quiet m.1) (more_items_quiet more))
 
+-- what a `let` and a `set` have in common
+setting_quiet : (q : ℕ) (n : List ℕ) (i : ℕ) (x : Syntax) (e : ℕ) → AllIn Quiet (at q (tok.Name n) ∷ at i tok.Is ∷ (syntax_tokens x ++ at e tok.Semicolon ∷ []))
+setting_quiet q n i x e = ((refl, refl), ((refl, refl), last_quiet (syntax_tokens x) (at e tok.Semicolon) (syntax_quiet x) (refl, refl)))
+
 mutual
   statement_quiet : (s : Statement) → AllIn Quiet (statement_tokens s)
-  statement_quiet (let_new p q n i x e) = ((refl, refl), ((refl, refl), ((refl, refl), last_quiet (syntax_tokens x) (at e tok.Semicolon) (syntax_quiet x) (refl, refl))))
-  statement_quiet (set_key p q n i x e) = ((refl, refl), ((refl, refl), ((refl, refl), last_quiet (syntax_tokens x) (at e tok.Semicolon) (syntax_quiet x) (refl, refl))))
+  statement_quiet (let_new p q n i x e) = ((refl, refl), setting_quiet q n i x e)
+  statement_quiet (set_key p q n i x e) = ((refl, refl), setting_quiet q n i x e)
   statement_quiet (clear_key p q n e) = ((refl, refl), ((refl, refl), ((refl, refl), tt)))
   statement_quiet (when p x b ss e) = (
     (refl, refl),

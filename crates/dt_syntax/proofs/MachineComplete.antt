@@ -344,20 +344,23 @@ mutual
       ∙ after_statement s ss e st us
       ∙ statements_read ss e st us h.1
 
+-- the tokens of a procedure from its second key on, and those behind it
+abbrev from_more_keys : ProcSyntax → List Placed → List Placed
+from_more_keys p us = flat_map key_tokens p.more_keys ++ at p.begin_at tok.Begin ∷ (statements_tokens p.body ++ at p.end_at tok.End ∷ us)
+
 proc_read : (p : ProcSyntax) (st : List Sym) (us : List Placed) → IsProc p →
     run (expect.Procs ∷ st) (proc_tokens p ++ us) ≡ run (expect.Procs ∷ st) us
 proc_read p st us h =
     ap (run (expect.Params ∷ expect.Keys ∷ expect.Procs ∷ st))
-    (append_assoc (params_tokens p.params) (at p.close_at tok.Close ∷ (key_tokens p.key ++ (flat_map key_tokens p.more_keys
-    ++ at p.begin_at tok.Begin ∷ (statements_tokens p.body ++ at p.end_at tok.End ∷ [])))) us
+    (append_assoc (params_tokens p.params) (at p.close_at tok.Close ∷ (key_tokens p.key ++ from_more_keys p [])) us
     ∙ ap (λ v. params_tokens p.params ++ at p.close_at tok.Close ∷ v)
-    (append_assoc (key_tokens p.key) (flat_map key_tokens p.more_keys ++ at p.begin_at tok.Begin ∷ (statements_tokens p.body ++ at p.end_at tok.End ∷ [])) us
+    (append_assoc (key_tokens p.key) (from_more_keys p []) us
     ∙ ap (λ v. key_tokens p.key ++ v)
     (append_assoc (flat_map key_tokens p.more_keys) (at p.begin_at tok.Begin ∷ (statements_tokens p.body ++ at p.end_at tok.End ∷ [])) us
     ∙ ap (λ v. flat_map key_tokens p.more_keys ++ at p.begin_at tok.Begin ∷ v) (inner (statements_tokens p.body) (at p.end_at tok.End) us))))
     ∙ params_read p.params p.close_at (expect.Keys ∷ expect.Procs ∷ st)
-    (key_tokens p.key ++ (flat_map key_tokens p.more_keys ++ at p.begin_at tok.Begin ∷ (statements_tokens p.body ++ at p.end_at tok.End ∷ us)))
-    ∙ key_read p.key (expect.Procs ∷ st) (flat_map key_tokens p.more_keys ++ at p.begin_at tok.Begin ∷ (statements_tokens p.body ++ at p.end_at tok.End ∷ us))
+    (key_tokens p.key ++ from_more_keys p us)
+    ∙ key_read p.key (expect.Procs ∷ st) (from_more_keys p us)
     ∙ more_keys_read p.more_keys p.begin_at (expect.Procs ∷ st) (statements_tokens p.body ++ at p.end_at tok.End ∷ us)
     ∙ statements_read p.body p.end_at (expect.Procs ∷ st) us h
 

@@ -31,6 +31,9 @@ record Rest : Type 0 where
 abbrev rest_tokens : Rest → List Placed
 rest_tokens r = flat_map key_tokens r.more_keys ++ at r.begin_at tok.Begin ∷ (statements_tokens r.body ++ at r.end_at tok.End ∷ [])
 
+abbrev with_key : KeySyntax → Rest → Rest
+with_key key r = record { more_keys = key ∷ r.more_keys; begin_at = r.begin_at; body = r.body; end_at = r.end_at; good = r.good }
+
 -- statements, with the `}` that closes them
 record Closed : Type 0 where
   body : Statements
@@ -322,10 +325,10 @@ back expect.Keys tok.Write p = λ st (m, (i, (part, (more, (r, rest))))). ((reco
 back expect.Keys t p = tt
 back expect.MoreKeys tok.Read p = λ st (m, (i, (part, (more, (r, rest))))).
     let key : KeySyntax = record { word_at = p; write = false; name_at = m.0; name = m.1; is_at = i; first = part; more = more.0; end_at = more.1 } in
-    (record { more_keys = key ∷ r.more_keys; begin_at = r.begin_at; body = r.body; end_at = r.end_at; good = r.good }, rest, simp append_assoc)
+    (with_key key r, rest, simp append_assoc)
 back expect.MoreKeys tok.Write p = λ st (m, (i, (part, (more, (r, rest))))).
     let key : KeySyntax = record { word_at = p; write = true; name_at = m.0; name = m.1; is_at = i; first = part; more = more.0; end_at = more.1 } in
-    (record { more_keys = key ∷ r.more_keys; begin_at = r.begin_at; body = r.body; end_at = r.end_at; good = r.good }, rest, simp append_assoc)
+    (with_key key r, rest, simp append_assoc)
 back expect.MoreKeys tok.Begin p = λ st (c, rest).
     (record { more_keys = []; begin_at = p; body = c.body; end_at = c.end_at; good = c.good }, rest, refl)
 back expect.MoreKeys t p = tt

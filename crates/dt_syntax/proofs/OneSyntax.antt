@@ -13,7 +13,7 @@ use Rattle.dt_syntax.specs.Grammar.{link, syntax_tokens, links_tokens, level_of,
 use Rattle.dt_syntax.specs.Grammar.{makes_text, Item, row_item, value_item, item_tokens, items_tokens, IsItem, Statement, let_new, set_key, clear_key, when}
 use Rattle.dt_syntax.specs.Grammar.{choose, abort, give, Statements, nothing, first, statement_tokens, statements_tokens, IsStatement, AreStatements}
 use Rattle.dt_syntax.proofs.Shapes.{inner, up, chain_shape, links_stop, head_is, tail_is, placed_is, six_stop, front_token, next_item, AreItems, items_stop}
-use Rattle.dt_syntax.proofs.Shapes.{items_cut, StepShape, step_shape, no_else, begins_other}
+use Rattle.dt_syntax.proofs.Shapes.{items_cut, StepShape, setting_cut, step_shape, no_else, begins_other}
 
 -- two tokens in front are the same one
 pub front_place_is : (p q : ℕ) (s t : Token) (us vs : List Placed) → at p s ∷ us ≡ at q t ∷ vs → p ≡ q
@@ -266,7 +266,7 @@ choose_cut : (x : Syntax) (b : ℕ) (ss : Statements) (e w c : ℕ) (rs : Statem
     (syntax_tokens x ++ at b tok.Begin ∷ (statements_tokens ss ++ at e tok.End ∷ at w tok.Else ∷ at c tok.Begin ∷ (statements_tokens rs ++ at f tok.End ∷ []))) ++ r
     ≡ syntax_tokens x ++ at b tok.Begin ∷ (statements_tokens ss ++ at e tok.End ∷ at w tok.Else ∷ at c tok.Begin ∷ (statements_tokens rs ++ at f tok.End ∷ r))
 choose_cut x b ss e w c rs f r =
-    append_assoc (syntax_tokens x) (at b tok.Begin ∷ (statements_tokens ss ++ at e tok.End ∷ at w tok.Else ∷ at c tok.Begin ∷ (statements_tokens rs ++ at f tok.End ∷ []))) r
+    append_assoc (syntax_tokens x) _ r
     ∙ ap (λ v. syntax_tokens x ++ at b tok.Begin ∷ v) (append_assoc (statements_tokens ss) (at e tok.End ∷ at w tok.Else ∷ at c tok.Begin ∷ (statements_tokens rs ++ at f tok.End ∷ [])) r
     ∙ ap (λ v. statements_tokens ss ++ at e tok.End ∷ at w tok.Else ∷ at c tok.Begin ∷ v) (append_assoc (statements_tokens rs) (at f tok.End ∷ []) r))
 
@@ -321,11 +321,11 @@ mutual
       (s ≡ t) × (r ≡ u)
   one_statement (let_new p q n i x e) t r u h k nr nu is =
       let f = step_shape t u (at p tok.Let) (at q (tok.Name n) ∷ at i tok.Is ∷ ((syntax_tokens x ++ at e tok.Semicolon ∷ []) ++ r)) k (sym is) in
-      let a = one_setting q f.0 n f.1 i f.2 x f.3 e f.4 r u h f.6 (ap (λ v. at q (tok.Name n) ∷ at i tok.Is ∷ v) (inner (syntax_tokens x) (at e tok.Semicolon) r) ∙ sym f.7) in
+      let a = one_setting q f.0 n f.1 i f.2 x f.3 e f.4 r u h f.6 (setting_cut q n i x e r ∙ sym f.7) in
       ((λ j. let_new p (a.name_at j) (a.named j) (a.is_at j) (a.value j) (a.end_at j)) ∙ sym f.5, a.rest)
   one_statement (set_key p q n i x e) t r u h k nr nu is =
       let f = step_shape t u (at p tok.Set) (at q (tok.Name n) ∷ at i tok.Is ∷ ((syntax_tokens x ++ at e tok.Semicolon ∷ []) ++ r)) k (sym is) in
-      let a = one_setting q f.0 n f.1 i f.2 x f.3 e f.4 r u h f.6 (ap (λ v. at q (tok.Name n) ∷ at i tok.Is ∷ v) (inner (syntax_tokens x) (at e tok.Semicolon) r) ∙ sym f.7) in
+      let a = one_setting q f.0 n f.1 i f.2 x f.3 e f.4 r u h f.6 (setting_cut q n i x e r ∙ sym f.7) in
       ((λ j. set_key p (a.name_at j) (a.named j) (a.is_at j) (a.value j) (a.end_at j)) ∙ sym f.5, a.rest)
   one_statement (clear_key p q n e) t r u h k nr nu is =
       let f = step_shape t u (at p tok.Clear) (at q (tok.Name n) ∷ at e tok.Semicolon ∷ r) k (sym is) in

@@ -315,14 +315,19 @@ shape_at t u ts us s rest e h =
     subst (λ v. StepShape u.token u.place v s rest) (tail_is t u ts us e)
     (subst (λ v. StepShape v.token v.place ts s rest) (head_is t u ts us e) h)
 
+-- the tokens of what a `let` and a `set` have in common, and those behind it
+pub setting_cut : (q : ℕ) (n : List ℕ) (i : ℕ) (x : Syntax) (e : ℕ) (rest : List Placed) →
+    at q (tok.Name n) ∷ at i tok.Is ∷ (syntax_tokens x ++ at e tok.Semicolon ∷ rest) ≡ at q (tok.Name n) ∷ at i tok.Is ∷ ((syntax_tokens x ++ at e tok.Semicolon ∷ []) ++ rest)
+setting_cut q n i x e rest = ap (λ v. at q (tok.Name n) ∷ at i tok.Is ∷ v) (inner (syntax_tokens x) (at e tok.Semicolon) rest)
+
 pub step_shape : (s : Statement) (rest : List Placed) (t : Placed) (ts : List Placed) → IsStatement s → statement_tokens s ++ rest ≡ t ∷ ts →
     StepShape t.token t.place ts s rest
 step_shape (let_new p q n i x e) rest t ts h is =
     shape_at (at p tok.Let) t _ ts (let_new p q n i x e) rest is
-    (q, n, i, x, e, refl, h, ap (λ v. at q (tok.Name n) ∷ at i tok.Is ∷ v) (inner (syntax_tokens x) (at e tok.Semicolon) rest))
+    (q, n, i, x, e, refl, h, setting_cut q n i x e rest)
 step_shape (set_key p q n i x e) rest t ts h is =
     shape_at (at p tok.Set) t _ ts (set_key p q n i x e) rest is
-    (q, n, i, x, e, refl, h, ap (λ v. at q (tok.Name n) ∷ at i tok.Is ∷ v) (inner (syntax_tokens x) (at e tok.Semicolon) rest))
+    (q, n, i, x, e, refl, h, setting_cut q n i x e rest)
 step_shape (clear_key p q n e) rest t ts h is = shape_at (at p tok.Clear) t _ ts (clear_key p q n e) rest is (q, n, e, refl, refl)
 step_shape (when p x b ss e) rest t ts h is =
     shape_at (at p tok.If) t _ ts (when p x b ss e) rest is

@@ -168,6 +168,7 @@ impl Table {
     pub fn reserve(&mut self, places: usize) -> Result<(), NoMemory>
         ensures state { self.new.state ≡ self.old.state }
         ensures room { OnOk result (places ≤ self.new.spare) }
+        ensures few { OnOk result (places < 2 ^ 63) }
         ensures spare { self.old.spare ≤ self.new.spare }
         ensures succeeds { places ≤ self.old.spare → IsOk result }
     {

@@ -1,9 +1,8 @@
 //! The scheduler with queues beside the plain one: after each call both answer alike, and what they have to where that is known.
-ghost use Rattle.std.specs.Prelude.{◌≡◌, ◌↔◌, [], IfOk, IsTrue, replicate};
-ghost use Rattle.dt_access.specs.Ids.{AreAscending};
+ghost use Rattle.std.specs.Prelude.{◌≡◌, [], IfOk, replicate};
 
 use crate::calls::{Call, make, ready};
-use dt_access::{Part, TxnId, put_id};
+use dt_access::{Part, TxnId, are_ascending, put_id};
 use dt_graph::QueueSched;
 use dt_plain::PlainSched;
 use dt_sched::Scheduler;
@@ -101,23 +100,6 @@ fn chosen(alloc: Global, ids: &[TxnId], bits: u64) -> Result<Vec<TxnId>, NoMemor
         left /= 2;
     }
     Ok(some)
-}
-
-/// Whether the ids stand in ascending order, none of them twice.
-fn are_ascending(ids: &[TxnId]) -> bool
-    ensures { IsTrue result ↔ AreAscending ids.now }
-{
-    let Some((mut last, mut rest)) = ids.split_first() else {
-        return true;
-    };
-    while let Some((next, later)) = rest.split_first() {
-        if !last.before(next) {
-            return false;
-        }
-        last = next;
-        rest = later;
-    }
-    true
 }
 
 /// Whether the ids ascend and are a class that may be resolved.

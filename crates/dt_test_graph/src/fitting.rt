@@ -3,7 +3,7 @@ ghost use Rattle.std.specs.Prelude.{◌≡◌, ◌<◌, ◌↔◌, IsTrue};
 ghost use Rattle.dt_lists.specs.Lists.{AllIn, Has};
 ghost use Rattle.dt_sched.specs.Views.{HasPart, log_at};
 ghost use Rattle.dt_sched.specs.Sched.{CanInsert};
-ghost use Rattle.dt_test_graph.specs.Fitting.{IsAlike, IsShort};
+ghost use Rattle.dt_test_graph.specs.PartConditions.{IsAlike, IsShort};
 
 use dt_access::{Part, TxnId};
 use dt_text::Listed;

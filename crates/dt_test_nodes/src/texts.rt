@@ -2,7 +2,7 @@
 ghost use Rattle.std.specs.Prelude.{◌≡◌, ◌≤◌, false, OnOk};
 ghost use Rattle.dt_cluster.specs.Valid.{IsValidCluster};
 ghost use Rattle.dt_workload.specs.Valid.{IsValidWorkload};
-ghost use Rattle.dt_run.specs.Done.{IsAllDone};
+ghost use Rattle.dt_run.specs.EndOfRun.{IsAllDone};
 ghost use Rattle.dt_run.specs.Silence.{made_in};
 
 use crate::cases::{cluster_of, workload_of};

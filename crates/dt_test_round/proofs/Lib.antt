@@ -1,3 +1,3 @@
-mod Delivered
+mod OneDelivery
 mod Opening
-mod Own
+mod OwnEvents

@@ -7,6 +7,7 @@ use dt_access::TxnId;
 use dt_graph::QueueSched;
 use dt_lock::Gate;
 use std::alloc::Global;
+use std::mem::forget;
 use std::sync::Wait;
 use std::sync::atomic::{AtomicU64, Ordering};
 use std::test::Fail;
@@ -58,16 +59,12 @@ fn backlog(alloc: Global) -> Result<Vec<Row<'static>>, Fail> {
     let mut rows = Vec::new(alloc);
     for place in 1..=FRONT {
         let number = GROUPS + place;
-        rows.push((
-            0,
-            number,
-            0,
-            if number % 2 == 0 { CLIMB_D } else { CLIMB_H },
-        ))?;
+        let climb = if number % 2 == 0 { CLIMB_D } else { CLIMB_H };
+        rows.push((0, number, 0, climb))?;
         rows.push((1, number, 1, CLIMB_A))?;
     }
-    for row in BACK {
-        rows.push(row)?;
+    for row in &BACK {
+        rows.push(*row)?;
     }
     Ok(rows)
 }
@@ -79,9 +76,9 @@ fn told<R: Threads + Wait + Sync, G: Gate>(
     workers: u32,
     gate: &G,
 ) -> Result<Vec<u8>, Fail> {
-    let procs = procs_of(alloc, PROCS)?;
     let rows = backlog(alloc)?;
-    told_of::<R, QueueSched, G>(
+    let procs = procs_of(alloc, PROCS)?;
+    let told = told_of::<R, QueueSched, G>(
         rt,
         alloc,
         &procs,
@@ -89,7 +86,9 @@ fn told<R: Threads + Wait + Sync, G: Gate>(
         Some(workers),
         gate,
         Telling::Outcomes,
-    )
+    );
+    forget(procs);
+    told
 }
 
 /// Holds a worker until all that waited for each other has passed, or for some time. So the workers are still there when another
@@ -120,15 +119,26 @@ impl Gate for Patient {
 /// How the events end: each of the two groups was resolved once.
 const RESOLVED: &[u8] = b"insert 3 1\nresolve 3 1.0 1.1\nresolve 3 2.0 2.1\n";
 
-#[test]
-fn threads_that_insert_resolve_and_work_come_to_the_same(rt: HostRuntime) -> Result<(), Fail> {
+/// What threads come to, if all that waited for each other passed the gate.
+fn told_by_threads<R: Threads + Wait + Sync>(rt: &R, alloc: Global) -> Result<Vec<u8>, Fail> {
     let gate = Patient {
         passed: AtomicU64::new(0),
     };
-    let by_threads = told(&rt, rt.alloc(), 3, &gate)?;
-    let alone = told(&rt, rt.alloc(), 1, &Open)?;
-    assert!(rt; gate.passed.load(Ordering::SeqCst) == 4);
-    assert!(rt; alone.as_slice().ends_with(RESOLVED));
-    assert!(rt; by_threads.as_slice() == alone.as_slice());
+    let told = told(rt, alloc, 3, &gate)?;
+    if gate.passed.load(Ordering::SeqCst) != 4 {
+        return Err(Fail::from("four of them pass the gate"));
+    }
+    Ok(told)
+}
+
+/// Whether what one thread comes to ends so, and more threads come to the same.
+fn is_same<R: Threads + Wait + Sync>(rt: &R, alloc: Global, end: &[u8]) -> Result<bool, Fail> {
+    let alone = told(rt, alloc, 1, &Open)?;
+    Ok(alone.as_slice().ends_with(end) && told_by_threads(rt, alloc)? == alone)
+}
+
+#[test]
+fn threads_that_insert_resolve_and_work_come_to_the_same(rt: HostRuntime) -> Result<(), Fail> {
+    assert!(rt; is_same(&rt, rt.alloc(), RESOLVED)?);
     Ok(())
 }

@@ -3,11 +3,13 @@
 use crate::calls::{Call, procs_of};
 use crate::feeding::Row;
 use crate::rounds::{Telling, parts, told_of};
+use crate::wrong;
 use dt_access::TxnId;
 use dt_graph::QueueSched;
 use dt_lock::Gate;
 use dt_proc::Procs;
 use std::alloc::Global;
+use std::mem::forget;
 use std::sync::Wait;
 use std::sync::atomic::{AtomicU64, Ordering};
 use std::test::Fail;
@@ -32,21 +34,24 @@ impl Gate for Count {
 /// A procedure with an `if`, whose blocks have `first` and `second` statements, followed by n statements.
 fn climb(alloc: Global, n: u32, first: u32, second: u32) -> Result<Procs, Fail> {
     let mut text = Vec::new(alloc);
-    text.extend_from_slice(b"proc climb(k: text) write a = k; { if has(a) { ")?;
-    put_statements(&mut text, first)?;
-    text.extend_from_slice(b"} else { ")?;
-    put_statements(&mut text, second)?;
-    text.extend_from_slice(b"} ")?;
-    put_statements(&mut text, n)?;
-    text.extend_from_slice(b"}")?;
+    put_block(
+        &mut text,
+        b"proc climb(k: text) write a = k; { if has(a) { ",
+        first,
+        b"} ",
+    )?;
+    put_block(&mut text, b"else { ", second, b"} ")?;
+    put_block(&mut text, b"", n, b"}")?;
     procs_of(alloc, text.as_slice())
 }
 
-/// Appends n statements to a text.
-pub fn put_statements(text: &mut Vec<u8>, n: u32) -> Result<(), Fail> {
+/// Appends n statements to a text, between a front and a back.
+pub fn put_block(text: &mut Vec<u8>, front: &[u8], n: u32, back: &[u8]) -> Result<(), Fail> {
+    text.extend_from_slice(front)?;
     for _statement in 0..n {
         text.extend_from_slice(b"set a = 1; ")?;
     }
+    text.extend_from_slice(back)?;
     Ok(())
 }
 
@@ -79,7 +84,7 @@ const CLIMB_H: Call<'static> = (b"climb", &[b"h"]);
 
 /// The statements behind the `if`, those of its two blocks, the workers that there may be, and how many pass the gate. The `if` and
 /// 3,999 statements behind it are 4,000. The rows have no value, so its second block is executed, and its first is not.
-const LENGTHS: [(u32, u32, u32, u32, u64); 6] = [
+const LENGTHS: &[(u32, u32, u32, u32, u64)] = &[
     (3998, 2, 2, 4, 0),
     (3999, 2, 2, 4, 2),
     (3999, 2, 2, 2, 2),
@@ -88,11 +93,31 @@ const LENGTHS: [(u32, u32, u32, u32, u64); 6] = [
     (3998, 2, 5000, 4, 0),
 ];
 
-#[test]
-fn long_calls_get_workers(rt: HostRuntime) -> Result<(), Fail> {
-    for (n, first, second, workers, want) in LENGTHS {
-        let procs = climb(rt.alloc(), n, first, second)?;
-        assert_eq!(rt; passes(&rt, rt.alloc(), &procs, workers)?, want);
+/// Whether so many pass the gate; the procedures are left to the end of the process.
+fn is_passed<R: Threads + Wait + Sync>(
+    rt: &R,
+    alloc: Global,
+    procs: Procs,
+    workers: u32,
+    want: u64,
+) -> Result<bool, Fail> {
+    let passed = passes(rt, alloc, &procs, workers);
+    forget(procs);
+    Ok(passed? == want)
+}
+
+/// Fails at the first length at which others pass the gate.
+fn check<R: Threads + Wait + Sync>(rt: &R, alloc: Global) -> Result<(), Fail> {
+    for (row, (n, first, second, workers, want)) in LENGTHS.iter().enumerate() {
+        let procs = climb(alloc, *n, *first, *second)?;
+        if !is_passed(rt, alloc, procs, *workers, *want)? {
+            return Err(wrong(row));
+        }
     }
     Ok(())
+}
+
+#[test]
+fn long_calls_get_workers(rt: HostRuntime) -> Result<(), Fail> {
+    check(&rt, rt.alloc())
 }

@@ -5,9 +5,13 @@ use crate::rounds::{PUT, PUT_H, Telling, parts, told_of};
 use dt_access::TxnId;
 use dt_graph::QueueSched;
 use dt_lock::Gate;
-use dt_proc::builtin_procs;
+use dt_proc::{Procs, builtin_procs};
+use std::alloc::Global;
+use std::mem::forget;
+use std::sync::Wait;
 use std::sync::atomic::{AtomicU64, Ordering};
 use std::test::Fail;
+use std::thread::Threads;
 
 /// Notes how many workers passed, the numbers of their ids added up, and whether the first one met a second one.
 #[derive(Drop)]
@@ -54,19 +58,26 @@ impl Gate for Meeting {
 
 const APART: [Row<'static>; 2] = [(0, 1, 0, PUT), (0, 2, 0, PUT_H)];
 
-#[test]
-fn two_workers_are_at_work_at_once(rt: HostRuntime) -> Result<(), Fail> {
+/// Whether two workers meet.
+fn meet<R: Threads + Wait + Sync>(rt: &R, alloc: Global, procs: &Procs) -> Result<bool, Fail> {
     let gate = Meeting::new();
-    let procs = builtin_procs(rt.alloc())?;
-    let _told = told_of::<_, QueueSched, _>(
-        &rt,
-        rt.alloc(),
-        &procs,
+    let _told = told_of::<R, QueueSched, Meeting>(
+        rt,
+        alloc,
+        procs,
         parts(&APART),
         Some(2),
         &gate,
         Telling::Events,
     )?;
-    assert!(rt; gate.has_seen_two());
+    Ok(gate.has_seen_two())
+}
+
+#[test]
+fn two_workers_are_at_work_at_once(rt: HostRuntime) -> Result<(), Fail> {
+    let procs = builtin_procs(rt.alloc())?;
+    let met = meet(&rt, rt.alloc(), &procs);
+    forget(procs);
+    assert!(rt; met?);
     Ok(())
 }

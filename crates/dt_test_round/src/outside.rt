@@ -2,15 +2,18 @@
 
 use crate::calls::{Call, procs_of};
 use crate::feeding::Row;
-use crate::lengths::put_statements;
+use crate::lengths::put_block;
 use crate::rounds::{Telling, parts, told_of};
 use dt_access::TxnId;
 use dt_graph::QueueSched;
 use dt_lock::Gate;
 use dt_proc::Procs;
 use std::alloc::Global;
+use std::mem::forget;
+use std::sync::Wait;
 use std::sync::atomic::{AtomicU64, Ordering};
 use std::test::Fail;
+use std::thread::Threads;
 
 /// Two workers meet here with their first calls. When both are there the one goes on to the long call, and says so; the other one
 /// waits for a moment then and after each of its calls, so that the first one may come to the lock.
@@ -87,11 +90,10 @@ const CHAINS: [Row<'static>; 6] = [
 
 /// A short procedure and a long one.
 fn procs(alloc: Global) -> Result<Procs, Fail> {
+    let front =
+        b"proc short(k: text) write a = k; { set a = 1; } proc long(k: text) write a = k; { ";
     let mut text = Vec::new(alloc);
-    text.extend_from_slice(b"proc short(k: text) write a = k; { set a = 1; } ")?;
-    text.extend_from_slice(b"proc long(k: text) write a = k; { ")?;
-    put_statements(&mut text, 40000)?;
-    text.extend_from_slice(b"}")?;
+    put_block(&mut text, front, 40000, b"}")?;
     procs_of(alloc, text.as_slice())
 }
 
@@ -101,23 +103,38 @@ const BEHIND: &[u8] = b"execute 3 6.0\n18 execute 3 3.0\ntrue";
 /// How often it is tried at most: a worker may be stopped while the other one goes on.
 const TIMES: u32 = 200;
 
-#[test]
-fn others_commit_while_a_call_is_worked(rt: HostRuntime) -> Result<(), Fail> {
-    let procs = procs(rt.alloc())?;
+/// Whether all short calls are committed while the long one is computed.
+fn are_committed<R: Threads + Wait + Sync>(
+    rt: &R,
+    alloc: Global,
+    procs: &Procs,
+) -> Result<bool, Fail> {
+    let told = told_of::<R, QueueSched, Relay>(
+        rt,
+        alloc,
+        procs,
+        parts(&CHAINS),
+        Some(2),
+        &Relay::new(),
+        Telling::Events,
+    )?;
+    Ok(told.as_slice().ends_with(BEHIND))
+}
+
+/// Tries it until they are.
+fn try_on<R: Threads + Wait + Sync>(rt: &R, alloc: Global, procs: &Procs) -> Result<(), Fail> {
     for _time in 0..TIMES {
-        let gate = Relay::new();
-        let told = told_of::<_, QueueSched, _>(
-            &rt,
-            rt.alloc(),
-            &procs,
-            parts(&CHAINS),
-            Some(2),
-            &gate,
-            Telling::Events,
-        )?;
-        if told.as_slice().ends_with(BEHIND) {
+        if are_committed(rt, alloc, procs)? {
             return Ok(());
         }
     }
     Err(Fail::from("no call was committed while another was worked"))
+}
+
+#[test]
+fn others_commit_while_a_call_is_worked(rt: HostRuntime) -> Result<(), Fail> {
+    let procs = procs(rt.alloc())?;
+    let tried = try_on(&rt, rt.alloc(), &procs);
+    forget(procs);
+    tried
 }

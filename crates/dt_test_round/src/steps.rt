@@ -87,8 +87,8 @@ fn go_on<S: Scheduler + Drop, N: Named>(
 ) -> Result<(), Fail>
     requires { procs.now ≡ N.procs }
 {
-    for step in STEPS {
-        match step {
+    for step in &STEPS {
+        match *step {
             Step::Insert => {
                 if held.regions() == 0 || !held.insert(alloc, 0)? {
                     return Err(Fail::from("there is a part"));
@@ -172,18 +172,24 @@ fn steps_named<S: Scheduler + Drop, N: Named>(
     }
 }
 
-/// What the steps make of region 0 of two, of which two sessions submit a call, whose parts stand in its log.
-fn told<S: Scheduler + Drop>(alloc: Global) -> Result<Vec<u8>, Fail> {
-    let procs = builtin_procs(alloc)?;
-    let mut told = Vec::new(alloc);
+/// The steps of region 0 of two, of which two sessions submit a call, whose parts stand in its log.
+fn make<S: Scheduler + Drop>(alloc: Global, procs: &Procs, told: &mut Vec<u8>) -> Result<(), Fail> {
     let mut region: Region<S> = begun(alloc, 0, 2)?;
-    let made = match feed(alloc, &mut region, &procs, STORY) {
-        Ok(()) => steps_named::<S, Brand>(alloc, region, &procs, &mut told),
+    match feed(alloc, &mut region, procs, STORY) {
+        Ok(()) => steps_named::<S, Brand>(alloc, region, procs, told),
         Err(fail) => {
             forget(region);
             Err(fail)
         }
-    };
+    }
+}
+
+/// What these steps make.
+fn told<S: Scheduler + Drop>(alloc: Global) -> Result<Vec<u8>, Fail> {
+    let mut told = Vec::new(alloc);
+    let procs = builtin_procs(alloc)?;
+    let made = make::<S>(alloc, &procs, &mut told);
+    forget(procs);
     made?;
     Ok(told)
 }
@@ -226,11 +232,14 @@ const WANT: [&[u8]; 2] = [
     b"2.0 1.0 none 2.0 1.0 none +-5 insert 0 0\n6 insert 0 0\n7 execute 0 1.0\nfalse",
 ];
 
+/// Whether one of these texts is told.
+fn is_told<S: Scheduler + Drop>(alloc: Global) -> Result<bool, Fail> {
+    Ok(WANT.contains(&told::<S>(alloc)?.as_slice()))
+}
+
 #[test]
 fn a_claim_is_committed_once(rt: HostRuntime) -> Result<(), Fail> {
-    let plain = told::<PlainSched>(rt.alloc())?;
-    let queues = told::<QueueSched>(rt.alloc())?;
-    assert!(rt; WANT.contains(&plain.as_slice()));
-    assert!(rt; WANT.contains(&queues.as_slice()));
+    assert!(rt; is_told::<PlainSched>(rt.alloc())?);
+    assert!(rt; is_told::<QueueSched>(rt.alloc())?);
     Ok(())
 }

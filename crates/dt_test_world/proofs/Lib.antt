@@ -1,2 +1,2 @@
-mod Played
+mod PlayedEvents
 mod Requests

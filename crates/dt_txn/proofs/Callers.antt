@@ -7,4 +7,4 @@ pub use Rattle.dt_txn.proofs.ValidBodies.{can_run, moves_unit}
 pub use Rattle.dt_txn.proofs.Fronts.{fronts_at, fronts_grown}
 pub use Rattle.dt_txn.proofs.HomeSets.{set_of_ascending, with_number_all}
 pub use Rattle.dt_txn.proofs.PartKeys.{annotated_uses}
-pub use Rattle.dt_txn.proofs.Stale.{own_fresh}
+pub use Rattle.dt_txn.proofs.Staleness.{own_fresh}

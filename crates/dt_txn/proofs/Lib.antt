@@ -6,4 +6,4 @@ pub mod Fronts
 pub mod HomeSets
 pub mod PartKeys
 pub mod Sight
-pub mod Stale
+pub mod Staleness

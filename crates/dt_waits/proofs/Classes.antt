@@ -4,7 +4,7 @@ use Rattle.std.proofs.Common.{◌≡◌, ◌≢◌, ◌<◌, ◌≤◌, ◌↔�
 use Rattle.dt_lists.specs.Lists.{AnyIn, AllIn, Has, Distinct, Either}
 use Rattle.dt_lists.specs.Chain.{here, onward}
 use Rattle.dt_lists.proofs.Callers.{all_get, all_put, any_get, any_put, any_map, any_of_image, at_place, chain_before, chain_join, chain_step, chain_takes_back, either_and, either_any, one_place}
-use Rattle.dt_lists.proofs.Callers.{either_has, either_nat, either_not, has_map, has_place, place_of, place_within, two_of_different}
+use Rattle.dt_lists.proofs.Callers.{either_has, either_nat, either_not, has_map, has_place, place_of, place_within, some_same, two_of_different}
 use Rattle.dt_access.specs.Ids.{AreAscending}
 use Rattle.dt_access.specs.declared.TxnId.{TxnId}
 use Rattle.dt_access.proofs.Callers.{before_differs, either_id}
@@ -13,12 +13,12 @@ use Rattle.dt_sched.specs.Decide.{IsResolvable}
 use Rattle.dt_sched.proofs.Callers.{class_of_member, in_own_class, reach_source}
 use Rattle.dt_class.specs.Graphs.{AdjView, AreAllBlocked, IsEdge, IsInClass, IsSource, Leads}
 use Rattle.dt_queue.specs.Queues.{Waiting, neighbours}
-use Rattle.dt_waits.specs.Left.{IsLeft, IsFree, IsOrderly}
+use Rattle.dt_waits.specs.LeftInGraph.{IsLeft, IsFree, IsOrderly}
 use Rattle.dt_waits.specs.Waits.{id_at, HoldsUp}
 use Rattle.dt_waits.specs.Graph.{GraphView, KeepsGraph, IsStuck}
 use Rattle.dt_waits.specs.Among.{HasNeighbour, IsAmong, WaitsOutside}
-use Rattle.dt_waits.proofs.IsLeft.{done_left, left_after, left_decided, out_of_not_left, resolvable_apart, resolvable_left, undone_before}
-use Rattle.dt_waits.proofs.HoldsUp.{edge_of_waits, free_by_queues, reach_by_queues}
+use Rattle.dt_waits.proofs.LeftTransactions.{done_left, left_after, left_decided, out_of_not_left, resolvable_apart, resolvable_left, undone_before}
+use Rattle.dt_waits.proofs.ChainsOfWaits.{edge_of_waits, free_by_queues, reach_by_queues}
 use Rattle.dt_waits.proofs.DegreeZero.{place_has, same_place}
 use Rattle.dt_waits.proofs.NeighbourChains.{neighbour_waits}
 
@@ -40,18 +40,22 @@ module _ (view : View) (resolved : List (List TxnId)) (done : List TxnId) (k : I
         subst (λ x. IsLeft view done (id_at g.ids x)) n.2 (all_get _ g.waiting is.uses.of_left n.0 there),
       )
 
+  -- an entry is of a transaction, and has a neighbour of another one
+  abbrev HasOther : TxnId → Waiting → Type 0
+  HasOther t w = (id_at g.ids w.vertex ≡ t) × AnyIn (λ m. ¬ (id_at g.ids m.vertex ≡ t)) (neighbours g.waiting w.slot)
+
   -- what isn't free waits for something
   some_waits : (t : TxnId) → ¬ (IsFree view done t) → (u : TxnId) × HoldsUp g.ids g.waiting u t
   some_waits t n = elim (either_any _ g.waiting at) [
     | inl a ↦
-        let w : (w : Waiting) × Has g.waiting w × ((id_at g.ids w.vertex ≡ t) × AnyIn (λ m. ¬ (id_at g.ids m.vertex ≡ t)) (neighbours g.waiting w.slot)) = any_get _ g.waiting a in
+        let w : (w : Waiting) × Has g.waiting w × HasOther t w = any_get _ g.waiting a in
         let m : (m : Waiting) × Has (neighbours g.waiting w.0.slot) m × ¬ (id_at g.ids m.vertex ≡ t) = any_get _ (neighbours g.waiting w.0.slot) w.2.1 in
         (id_at g.ids m.0.vertex, (m.2, any_put _ g.waiting w.0 w.1 (w.2.0, any_put _ (neighbours g.waiting w.0.slot) m.0 m.1 refl)))
     | inr none ↦ absurd (n ((free_by_queues view done g.ids g.waiting k.sound.well_formed is.uses t).1 (λ u f.
         none (any_map _ _ g.waiting (λ w a. (a.0, any_map _ _ (neighbours g.waiting w.slot) (λ m e s. f.0 (sym e ∙ s)) a.1)) f.1))))
   ]
     where
-      at : (w : Waiting) → Either ((id_at g.ids w.vertex ≡ t) × AnyIn (λ m. ¬ (id_at g.ids m.vertex ≡ t)) (neighbours g.waiting w.slot))
+      at : (w : Waiting) → Either (HasOther t w)
       at w = either_and _ _ (either_id (id_at g.ids w.vertex) t) (either_any _ (neighbours g.waiting w.slot) (λ m. either_not _ (either_id (id_at g.ids m.vertex) t)))
 
   -- of a list of stuck vertices, each once
@@ -65,9 +69,6 @@ module _ (view : View) (resolved : List (List TxnId)) (done : List TxnId) (k : I
         let r : (u : ℕ) × (v : ℕ) × (slice_get list p ≡ Some u) × (slice_get list q ≡ Some v) × HasNeighbour g.waiting u v = (a.edges p q).0 e in
         by r.0 r.1 r.2 r.3 r.4 (either_nat u v)
       where
-        some_same : {x y : ℕ} → Some x ≡ Some y → x ≡ y
-        some_same s = cc
-
         by : (x y : ℕ) → slice_get list p ≡ Some x → slice_get list q ≡ Some y → HasNeighbour g.waiting x y → Either (u ≡ v) → Reaches view (id_at g.ids u) (id_at g.ids v)
         by x y ex ey h (inl s) = subst (λ z. Reaches view (id_at g.ids u) (id_at g.ids z)) s here
         by x y ex ey h (inr ne) = chain_step (edge_of_waits view done g.ids g.waiting k.sound.well_formed is.uses (id_at g.ids u) (id_at g.ids v)
@@ -126,9 +127,6 @@ module _ (view : View) (resolved : List (List TxnId)) (done : List TxnId) (k : I
             subst (λ x. Reaches view x (id_at g.ids vertex.0)) (ap (id_at g.ids) (some_same (sym back.1 ∙ f.2)) ∙ f.3) back.2,
             subst (λ x. Reaches view (id_at g.ids vertex.0) x) f.3 (subst (λ x. Reaches view (id_at g.ids x) (id_at g.ids f.1)) (some_same (sym forth.1 ∙ vertex.1)) forth.2),
           )
-        where
-          some_same : {x y : ℕ} → Some x ≡ Some y → x ≡ y
-          some_same s = cc
 
       its_class : IsClass view (id_at g.ids vertex.0) ids
       its_class = record { ascending = ascending; members = λ t. (λ h. found_mutual t h, λ m. found_of_reach t (left_after view done stuck.left m.1) m.0) }

@@ -8,11 +8,11 @@ use Rattle.dt_lists.proofs.Callers.{all_get, all_put, any_get, any_put, has_filt
 use Rattle.dt_access.specs.declared.TxnId.{TxnId}
 use Rattle.dt_sched.specs.Views.{View, IsWellFormed}
 use Rattle.dt_queue.specs.Queues.{Waiting, neighbours}
-use Rattle.dt_waits.specs.Left.{IsFree}
+use Rattle.dt_waits.specs.LeftInGraph.{IsFree}
 use Rattle.dt_waits.specs.Waits.{id_at, AreUses, HoldsUp, others, degree}
 use Rattle.dt_waits.proofs.NeighbourChains.{neighbour_waits, slot_other, slot_same}
 use Rattle.dt_waits.proofs.Sums.{sum_first}
-use Rattle.dt_waits.proofs.HoldsUp.{free_by_queues}
+use Rattle.dt_waits.proofs.ChainsOfWaits.{free_by_queues}
 
 -- in a list in which nothing stands twice, a place is known by what is there
 pub same_place : (ids : List TxnId) (u v : ℕ) → Distinct ids → u < length ids → v < length ids → id_at ids u ≡ id_at ids v → u ≡ v

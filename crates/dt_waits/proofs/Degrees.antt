@@ -39,18 +39,20 @@ degree_pushed waiting w vertex distinct =
 pub degree_kept : (keeps : ℕ → Bool) (waiting : List Waiting) (vertex : ℕ) → HasDistinctSlots waiting → KeepsLater (λ w. keeps w.vertex) waiting → keeps vertex ≡ true
     → degree (filter (λ w. keeps w.vertex) waiting) vertex ≡ count_neighbours (λ n. not (n.vertex == vertex) && keeps n.vertex) waiting vertex
 degree_kept keeps waiting vertex distinct later kept =
-    sum_same _ (λ w. if w.vertex == vertex then length (filter (λ n. not (n.vertex == vertex) && keeps n.vertex) (neighbours waiting w.slot)) else 0) (filter (λ w. keeps w.vertex) waiting) same
+    sum_same _ counts (filter (λ w. keeps w.vertex) waiting) same
     ∙ sum_kept _ (λ w. keeps w.vertex) waiting gone
   where
+    counts : Waiting → ℕ
+    counts w = if w.vertex == vertex then length (filter (λ n. not (n.vertex == vertex) && keeps n.vertex) (neighbours waiting w.slot)) else 0
+
     same : (w : Waiting) → Has (filter (λ w. keeps w.vertex) waiting) w
-        → (if w.vertex == vertex then length (others vertex (neighbours (filter (λ w. keeps w.vertex) waiting) w.slot)) else 0)
-        ≡ (if w.vertex == vertex then length (filter (λ n. not (n.vertex == vertex) && keeps n.vertex) (neighbours waiting w.slot)) else 0)
+        → (if w.vertex == vertex then length (others vertex (neighbours (filter (λ w. keeps w.vertex) waiting) w.slot)) else 0) ≡ counts w
     same w h =
         let r : Has waiting w × (keeps w.vertex ≡ true) = has_of_filtered (λ w. keeps w.vertex) waiting w h in
         ap (λ l. if w.vertex == vertex then length l else 0)
         (ap (others vertex) (neighbours_kept (λ w. keeps w.vertex) waiting w distinct later r.0 r.1) ∙ filter_both (λ n. not (n.vertex == vertex)) (λ n. keeps n.vertex) (neighbours waiting w.slot))
 
-    gone : (w : Waiting) → Has waiting w → keeps w.vertex ≡ false → (if w.vertex == vertex then length (filter (λ n. not (n.vertex == vertex) && keeps n.vertex) (neighbours waiting w.slot)) else 0) ≡ 0
+    gone : (w : Waiting) → Has waiting w → keeps w.vertex ≡ false → counts w ≡ 0
     gone w h out = rw (slot_other w.vertex vertex apart) refl
       where
         apart : w.vertex ≢ vertex

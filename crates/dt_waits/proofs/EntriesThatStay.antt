@@ -10,13 +10,13 @@ use Rattle.dt_lists.proofs.Callers.{all_get, all_put, any_get, any_map, any_of_t
 use Rattle.dt_access.specs.declared.TxnId.{TxnId}
 use Rattle.dt_sched.specs.Views.{View, Edge, IsWellFormed}
 use Rattle.dt_queue.specs.Queues.{Waiting, entries_clash, followers}
-use Rattle.dt_waits.specs.Left.{IsLeft, IsOut, IsFree}
+use Rattle.dt_waits.specs.LeftInGraph.{IsLeft, IsOut, IsFree}
 use Rattle.dt_waits.specs.Waits.{id_at, AreUses, IsFollowed, degree, is_leaving, is_of, lowered, lowered_by, slots_of}
-use Rattle.dt_waits.proofs.IsLeft.{out_before}
+use Rattle.dt_waits.proofs.LeftTransactions.{out_before}
 use Rattle.dt_waits.proofs.NeighboursOfTheRest.{KeepsLater}
 use Rattle.dt_waits.proofs.Sums.{filter_both, filter_same}
 use Rattle.dt_waits.proofs.Degrees.{degree_leaving}
-use Rattle.dt_waits.proofs.HoldsUp.{edge_of_clash}
+use Rattle.dt_waits.proofs.ChainsOfWaits.{edge_of_clash}
 use Rattle.dt_waits.proofs.Uses.{uses_left}
 use Rattle.dt_waits.proofs.DegreeZero.{either_first, free_by_degree, same_place, zero_sum}
 

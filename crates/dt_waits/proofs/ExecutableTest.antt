@@ -9,8 +9,8 @@ use Rattle.dt_access.proofs.Callers.{either_id}
 use Rattle.dt_sched.specs.Views.{View, Reaches, IsComplete, IsClosed, IsClass, IsSooner, Mutual, Precedes}
 use Rattle.dt_sched.specs.Decide.{IsExecutable}
 use Rattle.dt_sched.proofs.Callers.{reach_source, class_alone, class_unique, complete_of_closed, sooner_breaks_ties}
-use Rattle.dt_waits.specs.Left.{IsOut, IsLeft, IsFree, IsInResolved, IsOrderly}
-use Rattle.dt_waits.proofs.IsLeft.{out_of_not_left, left_decided, undone_before, undone_is_mutual, in_resolved, done_left, class_of_resolved}
+use Rattle.dt_waits.specs.LeftInGraph.{IsOut, IsLeft, IsFree, IsInResolved, IsOrderly}
+use Rattle.dt_waits.proofs.LeftTransactions.{out_of_not_left, left_decided, undone_before, undone_is_mutual, in_resolved, done_left, class_of_resolved}
 
 module _ (view : View) (resolved : List (List TxnId)) (done : List TxnId) (k : IsOrderly view resolved done) (t : TxnId) where
   -- an executable id in no resolved class is complete and free

@@ -15,13 +15,13 @@ use Rattle.dt_sched.specs.Views.{View, IsComplete, IsSooner}
 use Rattle.dt_sched.specs.Decide.{IsExecutable}
 use Rattle.dt_sched.proofs.Callers.{class_unique, has_id_decided, sooner_breaks_ties}
 use Rattle.dt_waits.specs.declared.open.Open.{Open}
-use Rattle.dt_waits.specs.Left.{IsLeft, IsOut, IsFree, IsInResolved, IsOrderly}
+use Rattle.dt_waits.specs.LeftInGraph.{IsLeft, IsOut, IsFree, IsInResolved, IsOrderly}
 use Rattle.dt_waits.specs.Waits.{id_at, AreUses, IsFollowed, degree, is_leaving}
 use Rattle.dt_waits.specs.Graph.{GraphView, KeepsGraph, IsOpened, IsStuck}
 use Rattle.dt_waits.specs.Steps.{FinishesAlone, FinishesBefore, FinishesLast, Leaves, one_done, with_one_done}
-use Rattle.dt_waits.proofs.IsLeft.{executable_left, class_of_resolved}
+use Rattle.dt_waits.proofs.LeftTransactions.{executable_left, class_of_resolved}
 use Rattle.dt_waits.proofs.WhatLeaves.{leaves_alone, leaves_with_class, nothing_leaves}
-use Rattle.dt_waits.proofs.IsOrderly.{orderly_finish}
+use Rattle.dt_waits.proofs.OrderlyStates.{orderly_finish}
 use Rattle.dt_waits.proofs.ExecutableTest.{executable_in_resolved, executable_of_free, free_of_executable}
 use Rattle.dt_waits.proofs.DegreeZero.{free_by_degree, same_place}
 use Rattle.dt_waits.proofs.InsertStep.{in_resolved_decided, pairwise_map}

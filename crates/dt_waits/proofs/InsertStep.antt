@@ -15,12 +15,12 @@ use Rattle.dt_sched.specs.Sched.{CanInsert, with_part}
 use Rattle.dt_sched.proofs.Callers.{complete_longer, complete_of_closed, has_with_part, part_of_complete, present_longer, present_of_complete, has_id_decided, sooner_breaks_ties, with_part_longer, with_part_well_formed}
 use Rattle.dt_queue.specs.Queues.{Waiting, HasDistinctSlots, neighbours}
 use Rattle.dt_waits.specs.declared.open.Open.{Open}
-use Rattle.dt_waits.specs.Left.{IsLeft, IsFree, IsInResolved, IsOrderly}
+use Rattle.dt_waits.specs.LeftInGraph.{IsLeft, IsFree, IsInResolved, IsOrderly}
 use Rattle.dt_waits.specs.Waits.{id_at, AreUses, degree, is_of, others, slots_of}
 use Rattle.dt_waits.specs.Graph.{GraphView, KeepsGraph, IsOpened, IsPlaceOfClass, IsStuck, IsVertexOf, lacking, vertex_at}
 use Rattle.dt_waits.specs.Steps.{Inserts}
-use Rattle.dt_waits.proofs.IsLeft.{executable_left, out_back, out_stays}
-use Rattle.dt_waits.proofs.IsOrderly.{orderly_insert}
+use Rattle.dt_waits.proofs.LeftTransactions.{executable_left, out_back, out_stays}
+use Rattle.dt_waits.proofs.OrderlyStates.{orderly_insert}
 use Rattle.dt_waits.proofs.ExecutableTest.{executable_in_resolved, executable_of_free, free_of_executable}
 use Rattle.dt_waits.proofs.Uses.{part_there, uses_inserted}
 use Rattle.dt_waits.proofs.NeighbourChains.{slot_other}

@@ -15,7 +15,7 @@ use Rattle.dt_sched.proofs.Callers.{complete_of_closed, present_of_complete, ran
 use Rattle.dt_waits.specs.Waits.{id_at}
 use Rattle.dt_waits.specs.Graph.{GraphView, IsKeeping, IsPlaceOfClass, KeepsGraph, nothing_kept, vertex_at}
 use Rattle.dt_waits.specs.Steps.{FinishesId, InsertsPart, Resolves, ResolvesClass, RunsBefore, alone, before, last}
-use Rattle.dt_waits.proofs.IsOrderly.{orderly_at_first, orderly_finish, orderly_insert, orderly_resolve}
+use Rattle.dt_waits.proofs.OrderlyStates.{orderly_at_first, orderly_finish, orderly_insert, orderly_resolve}
 use Rattle.dt_waits.proofs.DegreeZero.{id_has, place_has}
 use Rattle.dt_waits.proofs.InsertStep.{inserted}
 use Rattle.dt_waits.proofs.ResolveStep.{resolved_more}

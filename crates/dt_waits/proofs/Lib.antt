@@ -1,9 +1,9 @@
-pub mod IsLeft
+pub mod LeftTransactions
 pub mod ExecutableTest
 pub mod WhatLeaves
-pub mod IsOrderly
+pub mod OrderlyStates
 pub mod NeighbourChains
-pub mod HoldsUp
+pub mod ChainsOfWaits
 pub mod NeighboursOfTheRest
 pub mod Sums
 pub mod Degrees
@@ -16,7 +16,7 @@ pub mod RunInOrder
 pub mod FinishStep
 pub mod ResolveStep
 pub mod Classes
-pub mod MayLeave
+pub mod LeavingDegrees
 pub mod KeepsGraph
 pub mod Bounds
 pub mod Callers

@@ -9,12 +9,12 @@ use Rattle.dt_access.specs.declared.TxnId.{TxnId}
 use Rattle.dt_sched.specs.Views.{View, IsSooner}
 use Rattle.dt_sched.specs.Decide.{IsExecutable, IsResolvable}
 use Rattle.dt_sched.proofs.Callers.{class_of_member, has_id_decided, sooner_breaks_ties}
-use Rattle.dt_waits.specs.Left.{IsInResolved, IsOrderly}
+use Rattle.dt_waits.specs.LeftInGraph.{IsInResolved, IsOrderly}
 use Rattle.dt_waits.specs.Waits.{id_at}
 use Rattle.dt_waits.specs.Graph.{GraphView, KeepsGraph, IsOpened, IsPlaceOfClass, IsStuck, IsVertexOf, vertex_at}
 use Rattle.dt_waits.specs.Steps.{Resolves}
-use Rattle.dt_waits.proofs.IsLeft.{resolvable_waits}
-use Rattle.dt_waits.proofs.IsOrderly.{orderly_resolve}
+use Rattle.dt_waits.proofs.LeftTransactions.{resolvable_waits}
+use Rattle.dt_waits.proofs.OrderlyStates.{orderly_resolve}
 use Rattle.dt_waits.proofs.ExecutableTest.{executable_in_resolved}
 use Rattle.dt_waits.proofs.DegreeZero.{same_place}
 use Rattle.dt_waits.proofs.InsertStep.{in_resolved_decided}

@@ -14,7 +14,7 @@ use Rattle.dt_sched.specs.Views.{View, log_at, ids_of, HasPart, IsWellFormed, Is
 use Rattle.dt_sched.specs.Sched.{CanInsert, with_part}
 use Rattle.dt_sched.proofs.Callers.{has_with_part, log_with_part, with_part_well_formed}
 use Rattle.dt_queue.specs.Queues.{Waiting, HasDistinctSlots}
-use Rattle.dt_waits.specs.Left.{IsLeft}
+use Rattle.dt_waits.specs.LeftInGraph.{IsLeft}
 use Rattle.dt_waits.specs.Waits.{id_at, IsUseOf, WaitsWith, FollowsLog, AreUses}
 
 -- what stands before what in a list with one more at its end

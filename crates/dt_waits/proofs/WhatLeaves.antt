@@ -9,8 +9,8 @@ use Rattle.dt_access.proofs.Callers.{either_id}
 use Rattle.dt_sched.specs.Views.{View, Reaches, IsClass, Mutual}
 use Rattle.dt_sched.specs.Decide.{IsExecutable}
 use Rattle.dt_sched.proofs.Callers.{reach_decided, has_id_decided}
-use Rattle.dt_waits.specs.Left.{IsOut, IsInResolved, IsOrderly}
-use Rattle.dt_waits.proofs.IsLeft.{out_decided, undone_before, undone_is_mutual, in_resolved, class_of_resolved}
+use Rattle.dt_waits.specs.LeftInGraph.{IsOut, IsInResolved, IsOrderly}
+use Rattle.dt_waits.proofs.LeftTransactions.{out_decided, undone_before, undone_is_mutual, in_resolved, class_of_resolved}
 
 module _ (view : View) (resolved : List (List TxnId)) (done : List TxnId) (k : IsOrderly view resolved done) (t : TxnId) (x : IsExecutable view resolved done t) where
   -- what was out stays out

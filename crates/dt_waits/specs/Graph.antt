@@ -13,7 +13,7 @@ use Rattle.dt_sched.specs.Views.{View, log_at, IsPresent, IsComplete, IsSooner}
 use Rattle.dt_sched.specs.Decide.{IsExecutable}
 use Rattle.dt_sched.specs.Sched.{Sched}
 use Rattle.dt_queue.specs.Queues.{Waiting}
-use Rattle.dt_waits.specs.Left.{IsLeft, IsFree, IsInResolved, IsOrderly}
+use Rattle.dt_waits.specs.LeftInGraph.{IsLeft, IsFree, IsInResolved, IsOrderly}
 use Rattle.dt_waits.specs.Waits.{id_at, AreUses, degree, slots_of}
 use Rattle.dt_waits.specs.declared.vertex.Vertex.{Vertex}
 use Rattle.dt_waits.specs.declared.open.Open.{Open}

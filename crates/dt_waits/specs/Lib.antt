@@ -1,5 +1,5 @@
 pub mod Place
-pub mod Left
+pub mod LeftInGraph
 pub mod Waits
 pub mod Graph
 pub mod Steps

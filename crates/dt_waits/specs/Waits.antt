@@ -1,7 +1,7 @@
 -- How the waiting entries of the queues stand to a view: each use of a row by a part of a left transaction waits, at the home
 -- of the part, and the entries of a home stand in the order of its log. The vertex of an entry is a number; a list of ids says
 -- of which transaction. What waits for what by the queues alone is `HoldsUp`; that chains of it are the reach of the view is
--- in proofs/HoldsUp.antt. Read next: `Graph`, for what is kept of it.
+-- in proofs/ChainsOfWaits.antt. Read next: `Graph`, for what is kept of it.
 use Rattle.std.specs.Prelude.{◌≡◌, ◌≢◌, ◌<◌, ℕ, Bool, ◌==◌, not, if◌then◌else◌, List, length, map, get_or, sum_by}
 use Rattle.std.specs.List.{filter, list_any}
 use Rattle.dt_lists.specs.Lists.{AnyIn, AllIn, EachThen, Has}
@@ -11,7 +11,7 @@ use Rattle.dt_access.specs.declared.access.Mode.{Mode}
 use Rattle.dt_access.specs.declared.TxnId.{TxnId}
 use Rattle.dt_access.specs.declared.Part.{Part}
 use Rattle.dt_sched.specs.Views.{View, log_at, ids_of}
-use Rattle.dt_waits.specs.Left.{IsLeft}
+use Rattle.dt_waits.specs.LeftInGraph.{IsLeft}
 use Rattle.dt_queue.specs.Queues.{Waiting, HasDistinctSlots, followers, neighbours}
 
 -- the id of a vertex; past the last one an arbitrary id

@@ -7,7 +7,7 @@ ghost use Rattle.dt_access.specs.declared.TxnId.{TxnId};
 ghost use Rattle.dt_sched.specs.Decide.{IsExecutable, IsResolvable};
 ghost use Rattle.dt_sched.specs.Views.{IsClosed, IsLonger, IsWellFormed, Reaches, View};
 ghost use Rattle.dt_queue.specs.Queues.{Waiting};
-ghost use Rattle.dt_waits.specs.Left.{IsFree, IsLeft, IsOrderly, IsOut, LeftEdge};
+ghost use Rattle.dt_waits.specs.LeftInGraph.{IsFree, IsLeft, IsOrderly, IsOut, LeftEdge};
 ghost use Rattle.dt_waits.specs.Waits.{AreUses, HoldsUp, degree, id_at};
 
 /// What is left is enough: a chain between two that are left passes only such, what is out of the graph stays out in every

@@ -346,6 +346,9 @@ no_wanted_fault cluster once front last wanted others later fit =
     let valid = (all_append_right (IsValidSession cluster) front (longer last wanted others ∷ later) fit.sessions).0 in
     by wanted.rank wanted.wanted (all_append_right (RankedFits cluster) last.calls (wanted ∷ others) valid.calls).0.1
   where
+    room : HasNoCause (Needs (calls_in (front ++ last ∷ []) < 20000) cause.TooMany NothingMore)
+    room = met (calls_in (front ++ last ∷ []) < 20000) cause.TooMany NothingMore (room_for_one front last wanted others later fit.few_calls) all_met
+
     by : (rank : ℕ) (w : Wanted) → WantedFits cluster w → HasNoCause (IsFormFault cluster (front ++ last ∷ []) (wanted_line cluster.procs rank w))
     by rank (Call number args) can =
         let name : Bytes = proc_name (slice_get cluster.procs number) in
@@ -353,11 +356,11 @@ no_wanted_fault cluster once front last wanted others later fit =
         met (¬ (front ++ last ∷ [] ≡ [])) cause.NoSession _ (some_before front last) (met (IsSome (proc_named cluster name)) cause.Proc _ (ap is_some is)
         (met (FitsIf (proc_named cluster name) args) cause.Args _ (subst (λ o. FitsIf o args) (sym is) can.fits)
         (met (GivesKeys (proc_named cluster name) args) cause.Key _ (subst (λ o. GivesKeys o args) (sym is) can.keys)
-        (met (calls_in (front ++ last ∷ []) < 20000) cause.TooMany NothingMore (room_for_one front last wanted others later fit.few_calls) all_met))))
+        room)))
     by rank (Move key target) can =
         met (¬ (front ++ last ∷ [] ≡ [])) cause.NoSession _ (some_before front last) (met (IsUnitKey cluster.version key) cause.Key _ can.0
         (met (target < cluster.regions) cause.Region _ can.1
-        (met (calls_in (front ++ last ∷ []) < 20000) cause.TooMany NothingMore (room_for_one front last wanted others later fit.few_calls) all_met)))
+        room))
 
 no_onward_fault : (cluster : Cluster) → HaveNames cluster.procs → (before all : List Session) (form : Form) (rest : List Form)
     → Fit cluster all → Onward cluster.procs before all (form ∷ rest) → HasNoCause (IsFormFault cluster before form)

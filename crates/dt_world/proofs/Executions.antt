@@ -29,7 +29,7 @@ use Rattle.dt_agreement.proofs.Callers.{lookup_has, legal_agree, executable_know
 use Rattle.dt_site.proofs.Callers.{order}
 use Rattle.dt_world.specs.SessionReplay.{ran_at}
 use Rattle.dt_world.specs.WorldReport.{IsOutcomeOf, ran, ran_of, rans_of}
-use Rattle.dt_world.proofs.Growth.{grows_to, legal_at, split_at}
+use Rattle.dt_world.proofs.GrowingNodes.{grows_to, legal_at, split_at}
 
 -- an executed id has an outcome
 
@@ -110,11 +110,15 @@ module _ (cluster : Cluster) (ok : IsValidCluster cluster) (workload : Workload)
       let x : (region < cluster.regions) × IsExecutedAt (world_after cluster workload events) region id = executed_at i region id e in
       ap (filter_map (ran_of cluster workload events)) (order_new i region id e new) ∙ order_pushed (order_of (take i events)) id r (sym (ran_is region id x.0 x.1) ∙ is)
 
+  -- some region has executed the attempt
+  abbrev IsExecuted : TxnId → Type 0
+  IsExecuted id = (region : ℕ) × (region < cluster.regions) × IsExecutedAt (world_after cluster workload events) region id
+
   -- every reported outcome is the one that all regions keep that executed the attempt
   pub outcomes_kept : AllIn (λ (r : Ran). IsOutcomeOf cluster.regions (world_after cluster workload events) r.id r.outcome) (rans_of cluster workload events)
   outcomes_kept = each (order_of events) (all_put _ (order_of events) (λ id h. ((legal_keeps cluster ok workload fits events legal).ordered.executed id).0 h))
     where
-      is_outcome : (id : TxnId) (o : Outcome) → ((region : ℕ) × (region < cluster.regions) × IsExecutedAt (world_after cluster workload events) region id) → serial_outcome cluster workload events id ≡ Some o
+      is_outcome : (id : TxnId) (o : Outcome) → IsExecuted id → serial_outcome cluster workload events id ≡ Some o
           → IsOutcomeOf cluster.regions (world_after cluster workload events) id o
       is_outcome id o x e =
           let s : (p : Outcome) × (outcome_at (world_after cluster workload events) x.0 id ≡ Some p) × (serial_outcome cluster workload events id ≡ Some p) = serial_is x.0 id x.1 x.2 in
@@ -125,14 +129,14 @@ module _ (cluster : Cluster) (ok : IsValidCluster cluster) (workload : Workload)
             kept = λ region other lr h. let twice : Some other ≡ Some o = sym ((legal_agree cluster ok workload fits events legal).outcomes region id other lr h) ∙ e in cc;
           }
 
-      here : (id : TxnId) → ((region : ℕ) × (region < cluster.regions) × IsExecutedAt (world_after cluster workload events) region id)
+      here : (id : TxnId) → IsExecuted id
           → (s : Option Submission) (o : Option Outcome) → serial_outcome cluster workload events id ≡ o
           → AllIn (λ (r : Ran). IsOutcomeOf cluster.regions (world_after cluster workload events) r.id r.outcome) (option_to_list (option_and_then (λ x. option_map (ran id x) o) s))
       here id x None o e = tt
       here id x (Some s) None e = tt
       here id x (Some s) (Some o) e = (is_outcome id o x e, tt)
 
-      each : (ids : List TxnId) → AllIn (λ id. (region : ℕ) × (region < cluster.regions) × IsExecutedAt (world_after cluster workload events) region id) ids
+      each : (ids : List TxnId) → AllIn IsExecuted ids
           → AllIn (λ (r : Ran). IsOutcomeOf cluster.regions (world_after cluster workload events) r.id r.outcome) (filter_map (ran_of cluster workload events) ids)
       each [] a = tt
       each (id ∷ ids) a = joined (ran_of cluster workload events id) (here id a.0 (submission_of (world_after cluster workload events) id) (serial_outcome cluster workload events id) refl) (each ids a.1)

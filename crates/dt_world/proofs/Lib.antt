@@ -8,10 +8,10 @@ pub mod Rule2Append
 pub mod Rule3Deliver
 pub mod Rule7Answer
 pub mod KeptLaws
-pub mod Growth
+pub mod GrowingNodes
 pub mod Executions
 pub mod Replay
 pub mod Reports
 pub mod NothingLeftOut
-pub mod SitesTold
+pub mod ReportLookups
 pub mod Callers

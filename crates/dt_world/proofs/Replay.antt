@@ -29,7 +29,7 @@ use Rattle.dt_world.specs.WorldSessions.{no_session}
 use Rattle.dt_world.specs.SessionReplay.{IsReply, after_reply, after_submission, replay_of, count_at, wait_at}
 use Rattle.dt_world.specs.WorldReport.{IsReplyOf, answered_session, replies_from, reply_for, reply_to}
 use Rattle.dt_world.proofs.Executions.{serial_is}
-use Rattle.dt_world.proofs.Growth.{NodeGrows, grows_past}
+use Rattle.dt_world.proofs.GrowingNodes.{NodeGrows, grows_past}
 use Rattle.dt_world.proofs.PlacesOfNames.{no_session_of_none, place_set, session_of_place}
 
 -- replies, with one more event
@@ -177,15 +177,23 @@ module _ (cluster : Cluster) (ok : IsValidCluster cluster) (workload : Workload)
     pub answer_waits : ¬ (wait_at (replay_of (world_after cluster workload xs)) place ≡ None)
     answer_waits e = subst (λ o. MayEnd cluster.tries (awaited_at (world_after cluster workload xs) region o)) (sym (wait_is (world_after cluster workload xs) place) ∙ e) may
 
+    -- where the session stands when it is answered
+    abbrev place_then : Place
+    place_then = record { answered = (get_or (world_after cluster workload xs).places place idle_place).answered + 1; waits = None }
+
     pub answer_follows : replay_of (world_after cluster workload (xs ++ Answer region name ∷ [])) ≡ after_reply (replay_of (world_after cluster workload xs)) place
     answer_follows =
         ap replay_of (world_after_more cluster workload xs (Answer region name) ∙ ap (answered workload (world_after cluster workload xs) region) at_session)
         ∙ ap (λ (a : List (Option TxnId)). record { waits = a; submitted = map (λ n. length n.submitted) (world_after cluster workload xs).nodes })
-        (ap (map (λ p. p.waits)) (place_set region (get_or workload.sessions place no_session).name workload.sessions (world_after cluster workload xs).places
-        (record { answered = (get_or (world_after cluster workload xs).places place idle_place).answered + 1; waits = None }) (now_places cluster ok workload fits xs ys (Answer region name) legal) place found_own')
-        ∙ map-set (λ p. p.waits) (world_after cluster workload xs).places place (record { answered = (get_or (world_after cluster workload xs).places place idle_place).answered + 1; waits = None }))
+        (ap (map (λ p. p.waits)) (place_set region (get_or workload.sessions place no_session).name workload.sessions (world_after cluster workload xs).places place_then
+        (now_places cluster ok workload fits xs ys (Answer region name) legal) place found_own')
+        ∙ map-set (λ p. p.waits) (world_after cluster workload xs).places place place_then)
 
     module _ (id : TxnId) (waits : wait_at (replay_of (world_after cluster workload xs)) place ≡ Some id) where
+      -- the reply that the session has, by the attempt's outcome
+      abbrev reply_with : Outcome → Reply
+      reply_with outcome = reply_to (get_or workload.sessions place no_session) (get_or (world_after cluster workload xs).places place idle_place) outcome
+
       waits_here : (get_or (world_after cluster workload xs).places place idle_place).waits ≡ Some id
       waits_here = sym (wait_is (world_after cluster workload xs) place) ∙ waits
 
@@ -231,9 +239,8 @@ module _ (cluster : Cluster) (ok : IsValidCluster cluster) (workload : Workload)
           (reply_to (get_or workload.sessions place no_session) (get_or (world_after cluster workload xs).places place idle_place) s.0)
       reply_of_answer =
           ap (reply_for cluster workload (xs ++ Answer region name ∷ ys)) at_session
-          ∙ ap (λ o. option_map (reply_to (get_or workload.sessions place no_session) (get_or (world_after cluster workload xs).places place idle_place))
-          (option_and_then (serial_outcome cluster workload (xs ++ Answer region name ∷ ys)) o)) waits_here
-          ∙ ap (option_map (reply_to (get_or workload.sessions place no_session) (get_or (world_after cluster workload xs).places place idle_place))) s.2
+          ∙ ap (λ o. option_map reply_with (option_and_then (serial_outcome cluster workload (xs ++ Answer region name ∷ ys)) o)) waits_here
+          ∙ ap (option_map reply_with) s.2
 
       pub answer_replies : (reply : Reply) → IsReply (world_after cluster workload (xs ++ Answer region name ∷ ys)) region name id reply
           → replies_from cluster workload (xs ++ Answer region name ∷ ys) (opening_world cluster workload) (xs ++ Answer region name ∷ []) ≡ replies_from cluster workload
@@ -246,15 +253,15 @@ module _ (cluster : Cluster) (ok : IsValidCluster cluster) (workload : Workload)
           let out : reply.outcome ≡ s.0 = cc in
           let call : reply.call ≡ (get_or (world_after cluster workload xs).places place idle_place).answered + 1 = is.call_is ∙ ap (λ x. x.call) sub ∙ w.call in
           let session : reply.session ≡ (get_or workload.sessions place no_session).name = is.session_is ∙ sym session_is.0 in
-          let whole : reply ≡ reply_to (get_or workload.sessions place no_session) (get_or (world_after cluster workload xs).places place idle_place) s.0 = λ i. record { session = session i; call = call i; outcome = out i } in
+          let whole : reply ≡ reply_with s.0 = λ i. record { session = session i; call = call i; outcome = out i } in
           replies_more cluster workload (xs ++ Answer region name ∷ ys) (opening_world cluster workload) xs (Answer region name)
           ∙ ap (λ o. replies_from cluster workload (xs ++ Answer region name ∷ ys) (opening_world cluster workload) xs ++ option_to_list o) (reply_of_answer ∙ ap Some (sym whole))
 
       pub answer_kept : (reply : Reply) → reply_for cluster workload (xs ++ Answer region name ∷ ys) (answered_session workload (world_after cluster workload xs) (Answer region name)) ≡ Some reply
           → IsReplyOf cluster.regions (world_after cluster workload (xs ++ Answer region name ∷ ys)) reply
       answer_kept reply e =
-          let both : Some (reply_to (get_or workload.sessions place no_session) (get_or (world_after cluster workload xs).places place idle_place) s.0) ≡ Some reply = sym reply_of_answer ∙ e in
-          let same : reply_to (get_or workload.sessions place no_session) (get_or (world_after cluster workload xs).places place idle_place) s.0 ≡ reply = cc in
+          let both : Some (reply_with s.0) ≡ Some reply = sym reply_of_answer ∙ e in
+          let same : reply_with s.0 ≡ reply = cc in
           subst (IsReplyOf cluster.regions (world_after cluster workload (xs ++ Answer region name ∷ ys))) same (record {
             id = id;
             submission = w.submission;

@@ -1,7 +1,7 @@
 -- What the parts of a report are, step by step.
 use Rattle.std.proofs.Common.{◌≡◌, ◌≢◌, ◌<◌, ◌≤◌, ◌+◌, ℕ, zero, suc, Bool, Bor, true, false, cond, not, List, [], ◌∷◌, ◌++◌, length, map, get_or, replicate, take}
 use Rattle.std.proofs.Common.{drop, slice_get, Some, None, Ok, Err, refl, sym, ap, ap₂, subst, subst₂, ◌∙◌, ◌⊎◌, inr, append_assoc, append-nil, arith}
-use Rattle.std.specs.Prelude.{Option, Result, IfOk, OnOk, option_map, option_and_then, option_to_list, filter_map}
+use Rattle.std.specs.Prelude.{Option, Result, IfOk, option_map, option_and_then, option_to_list, filter_map}
 use Rattle.std.specs.List.{position, range_with_len}
 use Rattle.std.proofs.Math.Seq.{take-length}
 use Rattle.std.proofs.lemmas.Option.{slice_get-get_or}
@@ -40,8 +40,8 @@ use Rattle.dt_world.specs.WorldReport.{IsOutcomeOf, IsReplyOf, answered_name, an
 use Rattle.dt_world.proofs.Executions.{executed_at, order_again, order_new, order_other, outcomes_kept, rans_more}
 use Rattle.dt_world.proofs.Replay.{answer_executed, answer_follows, answer_kept, answer_own, answer_region, answer_replies, answer_waits, now_followed, now_legal, now_listed}
 use Rattle.dt_world.proofs.Replay.{append_same, deliver_same, execute_same, insert_same, replies_more, resolve_same, submit_few, submit_follows, submit_region}
-use Rattle.dt_world.proofs.SitesTold.{reached}
-use Rattle.dt_world.proofs.Growth.{split_at}
+use Rattle.dt_world.proofs.ReportLookups.{reached}
+use Rattle.dt_world.proofs.GrowingNodes.{split_at}
 use Rattle.dt_site.proofs.Callers.{many_here}
 use Rattle.dt_world.proofs.NothingLeftOut.{all_are_answered, all_are_ran}
 use Rattle.dt_world.proofs.WorldLaws.{many_sites, submitted_few}
@@ -352,14 +352,6 @@ absent_of b false e f = refl
 pub present_of : (b c : Bool) → b ≡ false → b ≡ not c → c ≡ true
 present_of b true e f = refl
 present_of b false e f = cc
-
-pub on_ok : {T E : Type 0} (P : Type 0) (r : Result T E) → P → OnOk r P
-on_ok P (Ok x) p = p
-on_ok P (Err e) p = tt
-
-pub on_ok_map : {T E : Type 0} (P Q : Type 0) (r : Result T E) → (P → Q) → OnOk r P → OnOk r Q
-on_ok_map P Q (Ok x) f p = f p
-on_ok_map P Q (Err e) f p = tt
 
 pub ran_found : (w : World) (region : ℕ) (id : TxnId) (s : Submission) (o : Outcome) → submission_of w id ≡ Some s → outcome_at w region id ≡ Some o → ran_at w region id ≡ Some (ran id s o)
 ran_found w region id s o e f = ap₂ (λ x y. option_and_then (λ z. option_map (ran id z) y) x) e f

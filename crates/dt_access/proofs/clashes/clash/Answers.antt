@@ -1,7 +1,7 @@
 use Rattle.std.proofs.Common.{◌≡◌, true, false, ◌||◌, ap, ap₂, sym, ◌∙◌}
 use Rattle.std.proofs.lemmas.Bool.{or_left, or_right, or_from}
 use Rattle.dt_access.specs.Clash.{clash}
-use Rattle.dt_access.specs.Meeting.{meet_on_row, takes_from}
+use Rattle.dt_access.specs.ClashSearchInner.{meet_on_row, takes_from}
 use Rattle.dt_access.proofs.ClashParts.{clash_parts}
 use Rattle.dt_access.proofs.clashes.clash.Goals as goal
 use Rattle.dt_access.proofs.clashes.clash.Goals.{then-meet_on_row, else-meet_on_row}

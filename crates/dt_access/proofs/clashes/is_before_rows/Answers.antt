@@ -1,7 +1,7 @@
 use Rattle.std.proofs.Common.{[], ◌∷◌, ◌++◌, ap, ◌∙◌, nat_cmp}
 use Rattle.std.specs.Ordering.{is_lt}
 use Rattle.std.specs.Cmp.Lexicographic.{slice_cmp}
-use Rattle.dt_access.specs.Meeting.{is_below}
+use Rattle.dt_access.specs.ClashSearchInner.{is_below}
 use Rattle.dt_access.proofs.Search.{below_by_rest, below_by_other}
 use Rattle.dt_access.proofs.clashes.is_before_rows.Goals as goal
 

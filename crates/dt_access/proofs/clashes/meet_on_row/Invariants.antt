@@ -1,5 +1,5 @@
 use Rattle.std.proofs.Common.{◌≡◌, ◌+◌, length}
-use Rattle.dt_access.specs.Meeting.{meet_on_row}
+use Rattle.dt_access.specs.ClashSearchInner.{meet_on_row}
 use Rattle.dt_access.specs.Orders.{HasAscendingKeys}
 use Rattle.dt_access.proofs.clashes.meet_on_row.Given as goal
 

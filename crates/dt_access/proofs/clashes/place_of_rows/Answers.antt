@@ -1,6 +1,6 @@
 use Rattle.std.proofs.Common.{◌++◌, ◌∷◌, [], rules}
 use Rattle.std.proofs.lemmas.List.Sorted.{IsPartitionPoint-from_clause}
-use Rattle.dt_access.specs.Meeting.{is_below}
+use Rattle.dt_access.specs.ClashSearchInner.{is_below}
 use Rattle.dt_access.proofs.Search.{parted}
 use Rattle.dt_access.proofs.clashes.place_of_rows.Goals as goal
 

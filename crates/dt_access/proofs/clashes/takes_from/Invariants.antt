@@ -1,5 +1,5 @@
 use Rattle.std.proofs.Common.{◌≡◌, take, false}
-use Rattle.dt_access.specs.Meeting.{takes_from}
+use Rattle.dt_access.specs.ClashSearchInner.{takes_from}
 use Rattle.dt_access.proofs.clashes.takes_from.Given as goal
 
 abbrev pub invariant-loop-key : goal.invariant-loop-key

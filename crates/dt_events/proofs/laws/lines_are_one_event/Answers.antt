@@ -1,4 +1,4 @@
-use Rattle.dt_events.proofs.ReadBack.{one_event}
+use Rattle.dt_events.proofs.PrintedEvents.{one_event}
 use Rattle.dt_events.proofs.laws.lines_are_one_event.Goals as goal
 
 pub returns : goal.returns

@@ -1,4 +1,4 @@
-use Rattle.dt_events.proofs.ReadBack.{reads_back}
+use Rattle.dt_events.proofs.PrintedEvents.{reads_back}
 use Rattle.dt_events.proofs.laws.printed_events_read_back.Goals as goal
 
 pub returns : goal.returns

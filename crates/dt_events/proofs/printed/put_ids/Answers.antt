@@ -1,5 +1,5 @@
 use Rattle.std.proofs.Common.{arith, sym, subst}
-use Rattle.dt_events.specs.Reading.{Keeps}
+use Rattle.dt_events.specs.ReadingInner.{Keeps}
 use Rattle.dt_events.proofs.EventWords.{ids_put_all, ids_put_one, keeps_more}
 use Rattle.dt_events.proofs.printed.put_ids.Goals as goal
 

@@ -1,5 +1,5 @@
 use Rattle.std.proofs.Common.{◌≡◌, ◌++◌, drop}
-use Rattle.dt_events.specs.Reading.{Keeps}
+use Rattle.dt_events.specs.ReadingInner.{Keeps}
 use Rattle.dt_events.proofs.EventWords.{spaced_ids}
 use Rattle.dt_events.proofs.printed.put_ids.Given as goal
 

@@ -1,6 +1,6 @@
 use Rattle.std.proofs.lemmas.Result.{IfOk-weaker}
 use Rattle.dt_events.specs.Events.{AreBareWords}
-use Rattle.dt_events.specs.Reading.{spelled}
+use Rattle.dt_events.specs.ReadingInner.{spelled}
 use Rattle.dt_events.proofs.EventWords.{event_of_line, no_event_of_line}
 use Rattle.dt_events.proofs.reader.read_event.Goals as goal
 

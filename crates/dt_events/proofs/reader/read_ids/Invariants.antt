@@ -1,6 +1,6 @@
 use Rattle.std.proofs.Common.{◌≡◌, map, take}
 use Rattle.dt_access.specs.Ids.{id_text}
-use Rattle.dt_events.specs.Reading.{spelled, AreIds}
+use Rattle.dt_events.specs.ReadingInner.{spelled, AreIds}
 use Rattle.dt_events.proofs.reader.read_ids.Given as goal
 
 abbrev pub invariant-loop-word : goal.invariant-loop-word

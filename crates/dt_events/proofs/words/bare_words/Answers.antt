@@ -2,7 +2,7 @@ use Rattle.std.proofs.Common.{◌≡◌, ◌<◌, ◌^◌, ◌∷◌, ◌++◌, 
 use Rattle.std.specs.List.{slice_range}
 use Rattle.std.proofs.lemmas.Grind.{common_steps}
 use Rattle.dt_text.specs.Words.{is_visible}
-use Rattle.dt_events.specs.Reading.{spelled}
+use Rattle.dt_events.specs.ReadingInner.{spelled}
 use Rattle.dt_events.proofs.BareWords.{bares_begin, bares_from, bares_go_on, are_found, none_found, no_bare, no_bare_text, spelled-push, short-push}
 use Rattle.dt_events.proofs.words.bare_words.Goals.{then-line-at-eq34-via-then-line-at-eq34, then-line-at-eq34-via-else-line-at-eq34+then-not-is_visible}
 use Rattle.dt_events.proofs.words.bare_words.Goals as goal

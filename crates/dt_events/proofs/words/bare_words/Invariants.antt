@@ -1,6 +1,6 @@
 -- The words found and those from the place reached on are the words of the line.
 use Rattle.std.proofs.Common.{◌≢◌, ◌<◌, ◌≤◌, ◌-◌, length, get_or}
-use Rattle.dt_events.specs.Reading.{spelled, AreShort}
+use Rattle.dt_events.specs.ReadingInner.{spelled, AreShort}
 use Rattle.dt_events.proofs.BareWords.{AreSoFar}
 use Rattle.dt_events.proofs.words.bare_words.Given as goal
 

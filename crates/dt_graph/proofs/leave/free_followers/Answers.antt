@@ -2,7 +2,7 @@ use Rattle.std.proofs.Common.{◌<◌, length, subst, sym, arith}
 use Rattle.dt_graph.proofs.Followers.{fewer_told, told_below}
 use Rattle.dt_graph.proofs.ReadyFollowers.{freeing_onward}
 use Rattle.dt_graph.proofs.Degrees.{lowering_begins, lowering_ends, may_lower}
-use Rattle.dt_graph.proofs.Wakes.{waking_begins, waking_ends}
+use Rattle.dt_graph.proofs.ReadyVertices.{waking_begins, waking_ends}
 use Rattle.dt_graph.proofs.leave.free_followers.Goals as goal
 
 pub loop-follower-init : goal.loop-follower-init

@@ -5,7 +5,7 @@ use Rattle.dt_waits.specs.Waits.{lowered}
 use Rattle.dt_graph.specs.SmallStepsInner.{IsFollowedAt, Wakes}
 use Rattle.dt_graph.proofs.ReadyFollowers.{slot_spares, wakes_next}
 use Rattle.dt_graph.proofs.Degrees.{lowered_next}
-use Rattle.dt_graph.proofs.Wakes.{followed_at_decided}
+use Rattle.dt_graph.proofs.ReadyVertices.{followed_at_decided}
 use Rattle.dt_graph.proofs.leave.free_slots.Goals as goal
 
 pub loop-slot-preserved : goal.loop-slot-preserved

@@ -1,4 +1,4 @@
-use Rattle.dt_graph.proofs.Wakes.{wakes_not, wakes_one}
+use Rattle.dt_graph.proofs.ReadyVertices.{wakes_not, wakes_one}
 use Rattle.dt_graph.proofs.leave.wake.Goals as goal
 use Rattle.dt_graph.proofs.leave.wake.Goals.{else-degrees-vertex-eq0-via-then-degrees-vertex-eq0+else-has, else-degrees-vertex-eq0-via-else-degrees-vertex-eq0}
 

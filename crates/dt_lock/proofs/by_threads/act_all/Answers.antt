@@ -1,7 +1,7 @@
 use denote.Exit.{no}
 use denote.Param.Send.{IsSync, arg_sync, given_sync, param_sync, shr_sync}
 use Rattle.std.proofs.Crossing.{sync}
-use Rattle.dt_lock.proofs.Captures.{and_shared, captures_sync, no_more}
+use Rattle.dt_lock.proofs.SyncCaptures.{and_shared, captures_sync, no_more}
 use Rattle.dt_proc.proofs.Callers.{procs_sync}
 use Rattle.dt_lock.proofs.by_threads.act_all.Goals as goal
 

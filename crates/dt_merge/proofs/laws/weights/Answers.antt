@@ -1,5 +1,5 @@
 use Rattle.dt_merge.proofs.Bound.{weight_bounded, events_few}
-use Rattle.dt_merge.proofs.Few.{most_few}
+use Rattle.dt_merge.proofs.EventLimit.{most_few}
 use Rattle.dt_merge.proofs.WeightRises.{events_weighed, rises}
 use Rattle.dt_merge.proofs.laws.weights.Goals as goal
 

@@ -6,7 +6,7 @@ use Rattle.dt_txn.specs.declared.Entry.{Entry}
 use Rattle.dt_txn.specs.declared.Txn.{Txn}
 use Rattle.dt_region.specs.Region.{held}
 use Rattle.dt_node.specs.NodeView.{entry_held}
-use Rattle.dt_node.proofs.Stretches.{stretch_some}
+use Rattle.dt_node.proofs.PacketLists.{stretch_some}
 use Rattle.dt_node.proofs.departures.entries.Goals as goal
 
 pub loop-place-preserved : goal.loop-place-preserved

@@ -1,6 +1,6 @@
 use Rattle.std.proofs.Common.{◌<◌, ◌++◌, [], ◌∷◌, length, Some, sym, ap, ◌∙◌, arith}
 use Rattle.dt_region.specs.Region.{held}
-use Rattle.dt_node.proofs.Stretches.{stretch_none, stretch_some}
+use Rattle.dt_node.proofs.PacketLists.{stretch_none, stretch_some}
 use Rattle.dt_node.proofs.departures.requests.Goals as goal
 
 pub loop-place-preserved-in_default : goal.loop-place-preserved-in_default

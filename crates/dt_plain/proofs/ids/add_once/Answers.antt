@@ -1,4 +1,4 @@
-use Rattle.dt_plain.proofs.Growth.{adds_new}
+use Rattle.dt_plain.proofs.GrowingIds.{adds_new}
 use Rattle.dt_plain.proofs.Scan.{refuted}
 use Rattle.dt_plain.proofs.ids.add_once.Goals as goal
 

@@ -1,5 +1,5 @@
-use Rattle.dt_plain.proofs.Same.{ids_same, ids_differ}
-use Rattle.dt_plain.proofs.Growth.{follows_more_at, follows_past_at}
+use Rattle.dt_plain.proofs.IdEquality.{ids_same, ids_differ}
+use Rattle.dt_plain.proofs.GrowingIds.{follows_more_at, follows_past_at}
 use Rattle.dt_plain.proofs.search.follow.Goals as goal
 use Rattle.dt_plain.proofs.search.follow.Goals.{then-eq+in_ok-add_once, else-eq}
 

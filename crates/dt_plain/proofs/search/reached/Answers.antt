@@ -1,5 +1,5 @@
 use Rattle.std.proofs.Common.{arith}
-use Rattle.dt_plain.proofs.Same.{no_id}
+use Rattle.dt_plain.proofs.IdEquality.{no_id}
 use Rattle.dt_plain.proofs.Walk.{walk_begins, walk_goes_on, found_bounded, walk_ends}
 use Rattle.dt_plain.proofs.search.reached.Goals as goal
 

@@ -1,7 +1,7 @@
 use Rattle.std.proofs.Common.{◌≡◌, ◌∙◌, ◌<◌, ◌+◌, ◌-◌, ℕ, Some, ap, arith, get_or, length, slice_get, slice_index_or, slice_set, subst, sym, vec_len}
 use Rattle.std.proofs.lemmas.List.{get_or-take, length-set}
-use Rattle.dt_pool.proofs.Lending.{lent_before}
-use Rattle.dt_pool.proofs.Last.{same_some}
+use Rattle.dt_pool.proofs.HelperLoops.{lent_before}
+use Rattle.dt_pool.proofs.LastItems.{same_some}
 use Rattle.dt_pool.proofs.many.lend_last.Goals as goal
 
 pub loop-place-preserved : goal.loop-place-preserved

@@ -1,6 +1,6 @@
 use Rattle.std.proofs.Common.{false, Ok, sym, ap, subst, ◌∙◌}
 use Rattle.dt_region.specs.Region.{RegionView}
-use Rattle.dt_round.specs.Steps.{IsOwnStep, StepsOn}
+use Rattle.dt_round.specs.StepsInner.{IsOwnStep, StepsOn}
 use Rattle.dt_round.specs.Underway.{IsUnderway}
 use Rattle.dt_round.proofs.alone.finish.Goals as goal
 use Rattle.dt_round.proofs.Underway.{moves_left, one_less, one_more, stamp_left}

@@ -1,6 +1,6 @@
 use Rattle.std.proofs.Common.{◌≡◌}
 use Rattle.dt_region.specs.Region.{RegionView}
-use Rattle.dt_round.specs.Steps.{steps_left}
+use Rattle.dt_round.specs.StepsInner.{steps_left}
 use Rattle.dt_round.specs.Underway.{IsOnWay, IsUnderway}
 use Rattle.dt_round.proofs.alone.finish.Given as goal
 

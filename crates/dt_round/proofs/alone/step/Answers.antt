@@ -8,7 +8,7 @@ use Rattle.dt_sched.specs.Sched.{CanExecute, CanResolve, IsNextClass, IsNextRead
 use Rattle.dt_region.specs.Conditions.{CanMove, HoldsValid}
 use Rattle.dt_region.specs.Region.{HasStamp, RegionView, sched_of}
 use Rattle.dt_region.specs.RegionInner.{HasInsertedAll}
-use Rattle.dt_round.specs.Steps.{InsertsSome, StepsOn}
+use Rattle.dt_round.specs.StepsInner.{InsertsSome, StepsOn}
 use Rattle.dt_round.proofs.OneStep.{executes, resolves, stops}
 use Rattle.dt_round.proofs.alone.step.Goals as goal
 
@@ -70,7 +70,6 @@ resolve-requires g c = record { stamp = subst HasStamp (sym (none_inserted c.arg
 pub returns-clause-steps : goal.returns-clause-steps
 returns-clause-steps g c =
     let sched = sched_of c.insert_some.new.region.state.logs c.insert_some.new.region.state.here in
-    stops c.args.procs.now c.args.region.now c.insert_some.new.region
-    (none_inserted c.args.procs.now _ _ _ c.if-branch.false (c.in_ok-insert_some.ensures.inserts c.args.procs.now)).1
-    (none_inserted c.args.procs.now _ _ _ c.if-branch.false (c.in_ok-insert_some.ensures.inserts c.args.procs.now)).0
+    let none = none_inserted c.args.procs.now _ _ _ c.if-branch.false (c.in_ok-insert_some.ensures.inserts c.args.procs.now) in
+    stops c.args.procs.now c.args.region.now c.insert_some.new.region none.1 none.0
     (subst (IsNextReady sched []) c.in_default.is c.in_ok-id.ensures) (subst (IsNextClass sched) c.in_default-2.is c.in_ok-ids.ensures)

@@ -1,6 +1,6 @@
 use Rattle.std.proofs.Common.{take}
 use Rattle.dt_lists.specs.Lists.{AllIn}
-use Rattle.dt_run.specs.Done.{HasDone}
+use Rattle.dt_run.specs.EndOfRun.{HasDone}
 use Rattle.dt_run.specs.SeatsInner.{SeatView}
 use Rattle.dt_run.proofs.done.have_done_all.Given as goal
 

@@ -1,4 +1,4 @@
-use Rattle.dt_run.proofs.StaysDone.{stays_done}
+use Rattle.dt_run.proofs.DoneForGood.{stays_done}
 use Rattle.dt_run.proofs.end_laws.what_is_done_stays_done.Goals as goal
 
 pub returns : goal.returns

@@ -1,5 +1,5 @@
 use Rattle.std.proofs.Common.{◌∙◌, drop, length, sym}
-use Rattle.dt_run.proofs.LentSlices.{written_back}
+use Rattle.dt_run.proofs.SliceOffsets.{written_back}
 use Rattle.dt_run.proofs.RowBeside.{row_put, row_taken}
 use Rattle.dt_run.proofs.links.beside_from.Goals as goal
 

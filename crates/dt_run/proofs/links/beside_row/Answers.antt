@@ -1,5 +1,5 @@
 use Rattle.std.proofs.Common.{◌<◌, length, subst, arith}
-use Rattle.dt_run.proofs.LentSlices.{offset_fits}
+use Rattle.dt_run.proofs.SliceOffsets.{offset_fits}
 use Rattle.dt_run.proofs.RowBeside.{next_apart, next_ends, next_place, next_there, row_ends, row_steps}
 use Rattle.dt_run.proofs.links.beside_row.Goals as goal
 

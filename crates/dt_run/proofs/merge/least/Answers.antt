@@ -4,7 +4,7 @@ use Rattle.std.specs.Option.{option_copied}
 use Rattle.std.proofs.lemmas.List.{length-map}
 use Rattle.dt_events.specs.declared.Stamped.{Stamped}
 use Rattle.dt_merge.specs.Merge.{kept_at}
-use Rattle.dt_run.specs.MergingInner.{IsFoundIn, IsLeastOf}
+use Rattle.dt_run.specs.MergeInner.{IsFoundIn, IsLeastOf}
 use Rattle.dt_run.proofs.MergeLoop.{found_first, found_lower, found_same, found_still, head_at, head_rest, no_head}
 use Rattle.dt_run.proofs.merge.least.Goals as goal
 use Rattle.dt_run.proofs.merge.least.Goals.{in-Some-found, in-None, then-lower, else-lower}

@@ -1,5 +1,5 @@
 use Rattle.std.proofs.Common.{map}
-use Rattle.dt_run.specs.MergingInner.{IsFoundIn}
+use Rattle.dt_run.specs.MergeInner.{IsFoundIn}
 use Rattle.dt_run.proofs.merge.least.Given as goal
 
 abbrev pub invariant-loop-region : goal.invariant-loop-region

@@ -1,6 +1,6 @@
 use Rattle.std.proofs.Common.{ℕ, List, Bor, None, Some, map, length, subst}
 use Rattle.dt_events.specs.declared.Stamped.{Stamped}
-use Rattle.dt_run.specs.MergingInner.{IsLeast, IsLeastOf}
+use Rattle.dt_run.specs.MergeInner.{IsLeast, IsLeastOf}
 use Rattle.dt_run.proofs.MergeLoop.{less_left, merging_ends, taken_off}
 use Rattle.dt_run.proofs.merge.merged.Goals as goal
 

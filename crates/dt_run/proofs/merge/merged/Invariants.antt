@@ -1,5 +1,5 @@
 use Rattle.std.proofs.Common.{map}
-use Rattle.dt_run.specs.MergingInner.{IsMerging}
+use Rattle.dt_run.specs.MergeInner.{IsMerging}
 use Rattle.dt_run.proofs.MergeLoop.{left_in}
 use Rattle.dt_run.proofs.merge.merged.Given as goal
 

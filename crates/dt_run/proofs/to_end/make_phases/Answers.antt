@@ -5,7 +5,7 @@ use Rattle.dt_lists.proofs.Callers.{front_refl}
 use Rattle.dt_run.specs.SeatsInner.{HasFewSubmitted}
 use Rattle.dt_run.proofs.FinishedRun.{done_where, few_submitted}
 use Rattle.dt_run.proofs.RunEnds.{phases_few}
-use Rattle.dt_run.proofs.RunsOn.{ended, keeps_on, ran_out}
+use Rattle.dt_run.proofs.PhaseSequence.{ended, keeps_on, ran_out}
 use Rattle.dt_run.proofs.to_end.make_phases.Goals as goal
 
 pub returns-in-Err-clause-run : goal.returns-in-Err-clause-run

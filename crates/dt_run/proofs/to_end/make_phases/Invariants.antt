@@ -1,5 +1,5 @@
 use Rattle.std.proofs.Common.{◌≡◌, ◌<◌, ◌⊎◌, ◌-◌, false}
-use Rattle.dt_run.specs.Helping.{nodes_of}
+use Rattle.dt_run.specs.HelpersInner.{nodes_of}
 use Rattle.dt_run.specs.Phase.{KeepsEvents}
 use Rattle.dt_run.specs.SeatsInner.{AreRunning}
 use Rattle.dt_run.specs.Silence.{made_in, most_phases}

@@ -1,5 +1,5 @@
 use Rattle.std.proofs.Common.{sym, ◌∙◌}
-use Rattle.dt_run.proofs.LentSeats.{all_lent, back_again, left_can, some_of}
+use Rattle.dt_run.proofs.HelperTurns.{all_lent, back_again, left_can, some_of}
 use Rattle.dt_run.proofs.turns.turn_with.Goals as goal
 
 pub lend_last-requires-clause-can : goal.lend_last-requires-clause-can

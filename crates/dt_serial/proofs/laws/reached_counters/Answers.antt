@@ -1,6 +1,6 @@
 use Rattle.dt_txn.specs.Serial.{table_after}
 use Rattle.dt_serial.specs.Order.{ByTest}
-use Rattle.dt_serial.proofs.One.{live_of_outcome}
+use Rattle.dt_serial.proofs.OneTransaction.{live_of_outcome}
 use Rattle.dt_serial.proofs.Outcome.{counters_reached, counters_exact}
 use Rattle.dt_serial.proofs.laws.reached_counters.Goals as goal
 

@@ -2,7 +2,7 @@ use Rattle.std.proofs.Common.{◌*◌, ◌≤◌, length, arith}
 use Rattle.dt_lists.proofs.Callers.{all_map}
 use Rattle.dt_sched.specs.Sched.{parts_in}
 use Rattle.dt_plain.proofs.Callers.{refuted, tested}
-use Rattle.dt_test_graph.proofs.Fits.{few_parts}
+use Rattle.dt_test_graph.proofs.PartConditions.{few_parts}
 use Rattle.dt_test_graph.proofs.fitting.fits.Goals as goal
 
 pub returns : goal.returns

@@ -1,6 +1,6 @@
 use Rattle.std.proofs.Common.{◌↔◌, drop}
 use Rattle.dt_lists.specs.Lists.{AllIn}
-use Rattle.dt_test_graph.specs.Fitting.{IsAlike}
+use Rattle.dt_test_graph.specs.PartConditions.{IsAlike}
 use Rattle.dt_test_graph.proofs.fitting.log_is_alike.Given as goal
 
 abbrev pub invariant-loop-other : goal.invariant-loop-other

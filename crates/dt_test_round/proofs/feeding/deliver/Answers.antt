@@ -7,7 +7,7 @@ use Rattle.dt_txn.specs.declared.txn.Entry.{Entry}
 use Rattle.dt_txn.specs.Transaction.{part_of}
 use Rattle.dt_region.specs.Conditions.{CanDeliver}
 use Rattle.dt_region.specs.Rules.{MakesDelivery, after_deliver, with_event}
-use Rattle.dt_test_round.proofs.Delivered.{can_take, fed_more}
+use Rattle.dt_test_round.proofs.OneDelivery.{can_take, fed_more}
 use Rattle.dt_test_round.proofs.feeding.deliver.Goals as goal
 
 pub deliver-requires-clause-can : goal.deliver-requires-clause-can

@@ -2,7 +2,7 @@ use Rattle.std.proofs.Common.{ℕ, ◌+◌, take, add-one, sym, ap, subst, ◌�
 use Rattle.std.specs.Prelude.{option_copied}
 use Rattle.std.proofs.lemmas.Bool.{false≢true}
 use Rattle.dt_sched.specs.Views.{HasPart}
-use Rattle.dt_test_round.proofs.Delivered.{none_next, none_past}
+use Rattle.dt_test_round.proofs.OneDelivery.{none_next, none_past}
 use Rattle.dt_test_round.proofs.feeding.has_part.Goals as goal
 use Rattle.dt_test_round.proofs.feeding.has_part.Goals.{in-Some+else-is_of, in_default}
 

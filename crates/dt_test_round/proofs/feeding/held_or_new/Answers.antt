@@ -2,7 +2,7 @@ use Rattle.std.proofs.Common.{◌≡◌, Some, sym, ap, ◌∙◌}
 use Rattle.std.specs.Prelude.{option_copied}
 use Rattle.dt_access.specs.declared.TxnId.{TxnId}
 use Rattle.dt_region.specs.Region.{held}
-use Rattle.dt_test_round.proofs.Delivered.{agrees_held}
+use Rattle.dt_test_round.proofs.OneDelivery.{agrees_held}
 use Rattle.dt_test_round.proofs.feeding.held_or_new.Goals as goal
 
 pub returns-in-Some-clause-valid : goal.returns-in-Some-clause-valid

@@ -1,6 +1,6 @@
 use Rattle.std.proofs.Common.{◌<◌, length, Bool, Ok, subst, arith}
 use Rattle.dt_region.specs.Rules.{MakesAppend}
-use Rattle.dt_test_round.proofs.Own.{placed}
+use Rattle.dt_test_round.proofs.OwnEvents.{placed}
 use Rattle.dt_test_round.proofs.feeding.place.Goals as goal
 
 pub returns : goal.returns

@@ -1,4 +1,4 @@
-use Rattle.dt_test_round.proofs.Own.{submitted}
+use Rattle.dt_test_round.proofs.OwnEvents.{submitted}
 use Rattle.dt_test_round.proofs.requests.submit.Goals as goal
 
 pub returns : goal.returns

@@ -1,6 +1,6 @@
 use Rattle.std.proofs.Common.{refl, sym, subst}
 use Rattle.dt_test_world.specs.WorldOfEvents.{HasLed}
-use Rattle.dt_test_world.proofs.Played.{led_more}
+use Rattle.dt_test_world.proofs.PlayedEvents.{led_more}
 use Rattle.dt_test_world.proofs.worlds.make.Goals as goal
 
 pub returns-in-Ok-clause-led : goal.returns-in-Ok-clause-led

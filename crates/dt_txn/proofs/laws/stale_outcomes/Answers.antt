@@ -1,4 +1,4 @@
-use Rattle.dt_txn.proofs.Stale.{one_first, one_otherwise, stale_exactly}
+use Rattle.dt_txn.proofs.Staleness.{one_first, one_otherwise, stale_exactly}
 use Rattle.dt_txn.proofs.laws.stale_outcomes.Goals as goal
 
 pub returns-clause-exactly : goal.returns-clause-exactly

@@ -1,4 +1,4 @@
-use Rattle.dt_waits.proofs.IsLeft.{executable_left, left_chain, out_stays, resolvable_left}
+use Rattle.dt_waits.proofs.LeftTransactions.{executable_left, left_chain, out_stays, resolvable_left}
 use Rattle.dt_waits.proofs.laws.left_is_enough.Goals as goal
 
 pub returns-clause-left_chain : goal.returns-clause-left_chain

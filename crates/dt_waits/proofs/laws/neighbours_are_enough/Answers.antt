@@ -1,5 +1,5 @@
 use Rattle.dt_waits.proofs.DegreeZero.{free_by_degree}
-use Rattle.dt_waits.proofs.HoldsUp.{reach_by_queues}
+use Rattle.dt_waits.proofs.ChainsOfWaits.{reach_by_queues}
 use Rattle.dt_waits.proofs.laws.neighbours_are_enough.Goals as goal
 
 pub returns-clause-reach_by_queues : goal.returns-clause-reach_by_queues

@@ -1,6 +1,6 @@
 use Rattle.std.proofs.Common.{refl, ◌∙◌}
 use Rattle.std.proofs.lemmas.List.{take_all}
-use Rattle.dt_world.proofs.SitesTold.{lent_next}
+use Rattle.dt_world.proofs.ReportLookups.{lent_next}
 use Rattle.dt_world.proofs.world.each_lent.Goals as goal
 
 pub loop-site-preserved : goal.loop-site-preserved

@@ -1,4 +1,4 @@
-use Rattle.dt_graph.proofs.Questions.{ready_told, unready_told}
+use Rattle.dt_graph.proofs.QuestionAnswers.{ready_told, unready_told}
 use Rattle.dt_graph.proofs.graph.Graph.is_ready.Goals as goal
 
 pub returns-in-Some : goal.returns-in-Some

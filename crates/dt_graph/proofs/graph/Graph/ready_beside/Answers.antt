@@ -1,6 +1,6 @@
 use Rattle.std.proofs.Common.{subst}
 use Rattle.dt_lists.specs.Lists.{Has}
-use Rattle.dt_graph.proofs.Questions.{busy_all, busy_more, is_busy, not_busy, ready_at}
+use Rattle.dt_graph.proofs.QuestionAnswers.{busy_all, busy_more, is_busy, not_busy, ready_at}
 use Rattle.dt_graph.proofs.graph.Graph.ready_beside.Goals as goal
 
 pub returns-then-not-contains : goal.returns-then-not-contains

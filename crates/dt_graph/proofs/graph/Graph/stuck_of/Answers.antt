@@ -1,7 +1,7 @@
 use Rattle.std.proofs.Common.{refl, true≢false, sym, ◌∙◌}
 use Rattle.dt_waits.specs.Graph.{GraphView}
 use Rattle.dt_graph.specs.HeldInner.{kept_of}
-use Rattle.dt_graph.proofs.Questions.{named_not_stuck, stuck_more, unnamed_not_stuck}
+use Rattle.dt_graph.proofs.QuestionAnswers.{named_not_stuck, stuck_more, unnamed_not_stuck}
 use Rattle.dt_graph.proofs.graph.Graph.stuck_of.Goals as goal
 use Rattle.dt_graph.proofs.graph.Graph.stuck_of.Goals.{in_default-via-in-Some+else-has, in_default-via-in_default}
 

@@ -1,6 +1,7 @@
 use Rattle.std.proofs.Common.{◌≤◌, ◌<◌, ◌+◌, ◌^◌, ◌∙◌, length, vec_capacity, arith}
 use Rattle.std.proofs.lemmas.List.{length-append}
-use Rattle.dt_graph.proofs.Subsets.{few_below, subset_reached}
+use Rattle.dt_lists.proofs.Callers.{few_below}
+use Rattle.dt_graph.proofs.Subsets.{subset_reached}
 use Rattle.dt_graph.proofs.subset.Subset.reach.Goals as goal
 
 pub overflow_sub-len : goal.overflow_sub-len

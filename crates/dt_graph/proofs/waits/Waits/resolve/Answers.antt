@@ -1,10 +1,9 @@
 use Rattle.std.proofs.Common.{◌≡◌, ◌<◌, ◌⊎◌, ◌↔◌, ℕ, length, get_or, slice_get, Some, refl, sym, ap, subst, ◌∙◌}
 use Rattle.std.proofs.lemmas.List.{get_or_read, take_all}
 use Rattle.dt_lists.specs.Lists.{Has}
-use Rattle.dt_lists.proofs.Callers.{all_get}
+use Rattle.dt_lists.proofs.Callers.{all_get, has_at}
 use Rattle.dt_waits.specs.Graph.{vertex_at}
 use Rattle.dt_graph.specs.SubsetInner.{PutsIn}
-use Rattle.dt_graph.proofs.WalkByPlaces.{item_in}
 use Rattle.dt_graph.proofs.ClassMembers.{IsPutting, first_readied, none_readied, putting_on, resolves_held}
 use Rattle.dt_graph.proofs.waits.Waits.resolve.Goals as goal
 
@@ -13,7 +12,7 @@ loop-vertex-preserved c =
     let k = c.loop-vertex.invariant in
     let v = get_or c.args.members.now c.loop-vertex.vertex-index 0 in
     let items = c.loop-vertex.self.vertices.items in
-    let below : v < length c.args.self.now.vertices.items = all_get _ _ c.requires.within _ (item_in _ _ c.loop-vertex-test.true) in
+    let below : v < length c.args.self.now.vertices.items = all_get _ _ c.requires.within _ (has_at {A = ℕ} _ _ 0 c.loop-vertex-test.true) in
     let within : v < length items = subst (λ n. v < n) (sym k.put.size) below in
     let read : c.index_mut.result.now ≡ vertex_at items v = get_or_read items v _ within c.index_mut.ensures.value _ in
     record {

@@ -1,6 +1,6 @@
 use Rattle.std.proofs.Common.{◌≤◌, ◌<◌, [], length, refl, ◌∙◌, arith}
 use Rattle.dt_node.specs.Turn.{MayAnswerAt}
-use Rattle.dt_node.proofs.SteppedSessions.{answered_all, answered_more, answered_none, ordered}
+use Rattle.dt_node.proofs.SessionSteps.{answered_all, answered_more, answered_none, ordered}
 use Rattle.dt_node.proofs.SmallNumbers.{session_here, sessions_past}
 use Rattle.dt_node.proofs.CallAfterCall.{made_nothing, moves_more}
 use Rattle.dt_node.proofs.SessionsByPlace.{all_answered, ends_more, ends_none}

@@ -1,6 +1,6 @@
 use Rattle.std.proofs.Common.{sym}
 use Rattle.dt_node.proofs.PartsOfNode.{call_moves, call_on, call_seats, call_step, opened, same_moves}
-use Rattle.dt_node.proofs.Ready.{has_stamp}
+use Rattle.dt_node.proofs.CallConditions.{has_stamp}
 use Rattle.dt_node.proofs.node.Node.answer_one.Goals as goal
 
 pub answer-requires : goal.answer-requires

@@ -1,6 +1,6 @@
 use Rattle.std.specs.Prelude.{IsTrue}
 use Rattle.dt_txn.specs.Replica.{IsDrained}
-use Rattle.dt_node.specs.Measure.{left_for}
+use Rattle.dt_node.specs.MeasureInner.{left_for}
 use Rattle.dt_node.proofs.PassesOfTurn.{HasPassed}
 use Rattle.dt_node.proofs.node.Node.go_on.Given as goal
 

@@ -1,7 +1,7 @@
 use Rattle.std.proofs.Common.{Ok}
-use Rattle.dt_node.proofs.BroughtItems.{may_place, place_append, place_count, place_ends}
+use Rattle.dt_node.proofs.PacketItems.{may_place, place_append, place_count, place_ends}
 use Rattle.dt_node.proofs.PartsOfNode.{same_moves}
-use Rattle.dt_node.proofs.Ready.{has_stamp}
+use Rattle.dt_node.proofs.CallConditions.{has_stamp}
 use Rattle.dt_node.proofs.node.Node.place_one.Goals as goal
 
 pub append_owned-requires-clause-stamp : goal.append_owned-requires-clause-stamp

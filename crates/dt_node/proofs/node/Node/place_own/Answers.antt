@@ -1,6 +1,6 @@
 use Rattle.std.proofs.Common.{[], refl, ◌∙◌}
 use Rattle.dt_node.proofs.CallAfterCall.{made_nothing, moves_more}
-use Rattle.dt_node.proofs.OwnHome.{placing_none, placing_on}
+use Rattle.dt_node.proofs.SubmissionEvents.{placing_none, placing_on}
 use Rattle.dt_node.proofs.PassesOfTurn.{knows_more}
 use Rattle.dt_node.proofs.TruePackets.{take_on}
 use Rattle.dt_node.proofs.node.Node.place_own.Goals as goal

@@ -1,5 +1,5 @@
 use Rattle.dt_node.proofs.CallsOfNode.{round_moves}
-use Rattle.dt_node.proofs.Ready.{can_round}
+use Rattle.dt_node.proofs.CallConditions.{can_round}
 use Rattle.dt_node.proofs.PassesOfTurn.{round_asked, round_rests, round_taken}
 use Rattle.dt_node.proofs.node.Node.round.Goals as goal
 

@@ -2,7 +2,7 @@ use Rattle.std.proofs.Common.{refl, sym, ap, subst, arith}
 use Rattle.dt_txn.specs.Transaction.{BodyFits}
 use Rattle.dt_session.specs.Sessions.{StandsAt}
 use Rattle.dt_node.proofs.PartsOfNode.{sub_less, sub_moves, sub_seats, waits_next}
-use Rattle.dt_node.proofs.Ready.{few, has_stamp}
+use Rattle.dt_node.proofs.CallConditions.{few, has_stamp}
 use Rattle.dt_node.proofs.Rule1Submit.{body_fits_here, place_fits, rank_fits}
 use Rattle.dt_node.proofs.node.Node.submit.Goals as goal
 

@@ -2,8 +2,8 @@ use Rattle.std.proofs.Common.{◌≤◌, ◌<◌, [], length, refl, subst, ◌�
 use Rattle.dt_access.specs.Orders.{HasAscendingKeys}
 use Rattle.dt_node.specs.NodeView.{NodeView}
 use Rattle.dt_node.specs.Turn.{MaySubmitAt}
-use Rattle.dt_node.proofs.Beginning.{begun_all, begun_more, begun_none}
-use Rattle.dt_node.proofs.SteppedSessions.{submitted_all, submitted_more, submitted_none}
+use Rattle.dt_node.proofs.EagerStart.{begun_all, begun_more, begun_none}
+use Rattle.dt_node.proofs.SessionSteps.{submitted_all, submitted_more, submitted_none}
 use Rattle.dt_node.proofs.SmallNumbers.{session_here, sessions_past}
 use Rattle.dt_node.proofs.CallAfterCall.{made_nothing, moves_more}
 use Rattle.dt_node.proofs.SessionsByPlace.{all_submitted, ends_more, ends_none}
@@ -44,15 +44,16 @@ pub sessions-preserved : goal.sessions-preserved
 sessions-preserved g c =
     let at : c.sessions.index < length c.sessions.self.sessions.seats =
     session_here c.self-in-sessions.view_is c.sessions.index c.name.result c.is_some.result c.name.ensures.place c.is_some.ensures c.sessions-test.true in
+    let ascending = subst (λ (n : NodeView). HasAscendingKeys n.sessions.seats) c.self.view_is c.name-first.ensures.ascending in
     record {
       moved = moves_more c.sessions.invariant.moved c.submit_one.ensures.moved;
       knows = knows_more c.sessions.invariant.knows c.submit_one.ensures.knows;
       seats = c.submit_one.ensures.seats ∙ c.sessions.invariant.seats;
       within = omega (arith, at, c.sessions.invariant.seats);
       ends = ends_more MaySubmitAt c.args.self.now c.sessions.self c.submit_one.new.self c.sessions.index c.sessions.some c.in_ok-some.field-0 c.sessions.invariant.ends c.in_ok-some.ensures.ends;
-      stepped = submitted_more c.sessions.index (subst (λ (n : NodeView). HasAscendingKeys n.sessions.seats) c.self.view_is c.name-first.ensures.ascending) c.sessions.invariant.stepped c.submit_one.new.self
+      stepped = submitted_more c.sessions.index ascending c.sessions.invariant.stepped c.submit_one.new.self
           c.in_ok-some.field-0 at c.in_ok-some.ensures.ends c.in_ok-some.ensures.one;
-      begins = begun_more c.sessions.index c.in_ok-some.field-0 (subst (λ (n : NodeView). HasAscendingKeys n.sessions.seats) c.self.view_is c.name-first.ensures.ascending)
+      begins = begun_more c.sessions.index c.in_ok-some.field-0 ascending
           c.sessions.invariant.moved.gone c.submit_one.ensures.moved.gone c.sessions.invariant.begins c.in_ok-some.ensures.ends c.in_ok-some.ensures.one;
     }
 

@@ -1,5 +1,5 @@
 use Rattle.std.proofs.Common.{◌≡◌, ◌≤◌, ◌-◌, [], length}
-use Rattle.dt_node.specs.Beginning.{BeginsSoFar}
+use Rattle.dt_node.specs.EagerStartInner.{BeginsSoFar}
 use Rattle.dt_node.specs.Turn.{MaySubmitAt}
 use Rattle.dt_node.specs.StepsInner.{HaveStepped, IsSubmission}
 use Rattle.dt_node.specs.TurnInner.{EndsSoFar, KnowsTheSame, MovesOn}

@@ -2,9 +2,9 @@ use Rattle.std.proofs.Common.{◌<◌, [], length, sym, subst}
 use Rattle.dt_node.specs.NodeView.{number_of}
 use Rattle.dt_node.specs.TurnInner.{IsNextOfPlace}
 use Rattle.dt_node.proofs.CallAfterCall.{moves_more}
-use Rattle.dt_node.proofs.OwnHome.{has_submitted}
+use Rattle.dt_node.proofs.SubmissionEvents.{has_submitted}
 use Rattle.dt_node.proofs.OwnRequests.{own_within}
-use Rattle.dt_node.proofs.SessionsOn.{submitted_on}
+use Rattle.dt_node.proofs.SessionCalls.{submitted_on}
 use Rattle.dt_node.proofs.TruePackets.{can_on}
 use Rattle.dt_node.proofs.node.Node.submit_one.Goals as goal
 

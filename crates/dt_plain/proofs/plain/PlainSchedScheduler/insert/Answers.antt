@@ -1,6 +1,6 @@
 use Rattle.std.proofs.Common.{◌<◌, length, arith}
 use Rattle.std.proofs.lemmas.Grind.{common_steps}
-use Rattle.dt_plain.proofs.Fits.{home_there}
+use Rattle.dt_plain.proofs.InsertConditions.{home_there}
 use Rattle.dt_plain.proofs.plain.PlainSchedScheduler.insert.Goals as goal
 
 pub index_mut-log-requires : goal.index_mut-log-requires

@@ -1,4 +1,4 @@
-use Rattle.dt_pool.proofs.Last.{same_some}
+use Rattle.dt_pool.proofs.LastItems.{same_some}
 use Rattle.dt_pool.proofs.lent.Lent.work.Goals as goal
 
 pub invariant_of-result : goal.invariant_of-result

@@ -1,6 +1,6 @@
 use Rattle.std.proofs.Common.{◌++◌, ◌∷◌, [], refl, arith}
 use Rattle.std.proofs.lemmas.Result.{on_err_weaker, on_ok_weaker}
-use Rattle.dt_queue.proofs.KeptLanes.{changed_read, changed_whole, changed_write, keeps_lanes, same_self}
+use Rattle.dt_queue.proofs.LanesOfCells.{changed_read, changed_whole, changed_write, keeps_lanes, same_self}
 use Rattle.dt_queue.proofs.kept.Kept.add_mark.Goals as goal
 
 pub granule_of-requires : goal.granule_of-requires

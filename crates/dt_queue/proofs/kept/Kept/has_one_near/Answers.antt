@@ -1,7 +1,7 @@
 use Rattle.std.proofs.Common.{length, inl, inr, refl}
 use Rattle.dt_access.specs.declared.access.Mode.TheVariants.{Read}
 use Rattle.dt_queue.specs.KeptInner.{lane}
-use Rattle.dt_queue.proofs.KeptLanes.{empty_of}
+use Rattle.dt_queue.proofs.LanesOfCells.{empty_of}
 use Rattle.dt_queue.proofs.kept.Kept.has_one_near.Goals as goal
 
 pub returns-in-Read : goal.returns-in-Read

@@ -1,5 +1,5 @@
 use Rattle.std.proofs.Common.{[], get_or, length, not, inl, refl, ap}
-use Rattle.dt_queue.proofs.KeptLanes.{empty_of, some_of}
+use Rattle.dt_queue.proofs.LanesOfCells.{empty_of, some_of}
 use Rattle.dt_queue.proofs.RowsUsed.{used_where}
 use Rattle.dt_queue.proofs.kept.Kept.is_in_use.Goals as goal
 

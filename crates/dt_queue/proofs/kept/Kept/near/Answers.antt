@@ -4,7 +4,7 @@ use Rattle.dt_access.specs.declared.access.Mode.TheVariants.{Whole}
 use Rattle.dt_queue.specs.KeptInner.{IsNearInMode, IsNearMark, lane}
 use Rattle.dt_queue.specs.LanesInner.{AreMarks, IsLastBetween, number_or}
 use Rattle.dt_queue.specs.RowsInner.{granule_at}
-use Rattle.dt_queue.proofs.KeptLanes.{empty_of, some_of}
+use Rattle.dt_queue.proofs.LanesOfCells.{empty_of, some_of}
 use Rattle.dt_queue.proofs.NearCells.{near_marks, near_taker}
 use Rattle.dt_queue.proofs.kept.Kept.near.Goals as goal
 

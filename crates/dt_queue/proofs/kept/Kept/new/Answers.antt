@@ -1,5 +1,5 @@
 use Rattle.std.proofs.Common.{arith}
-use Rattle.dt_queue.proofs.KeptLanes.{none_kept}
+use Rattle.dt_queue.proofs.LanesOfCells.{none_kept}
 use Rattle.dt_queue.proofs.kept.Kept.new.Goals as goal
 
 pub returns-clause-kept : goal.returns-clause-kept

@@ -9,7 +9,7 @@ use Rattle.dt_queue.specs.declared.rows.Rows.{Rows}
 use Rattle.dt_queue.specs.InUseInner.{InUseView, UsesRow, rows_at}
 use Rattle.dt_queue.specs.RowsInner.{AreRowsLinked, KeepsRows, granule_at, name_at}
 use Rattle.dt_queue.specs.KeptInner.{place_at}
-use Rattle.dt_queue.proofs.KeptLanes.{all_before, kept_same, same_lanes, to_err}
+use Rattle.dt_queue.proofs.LanesOfCells.{all_before, kept_same, same_lanes, to_err}
 use Rattle.dt_queue.proofs.RowsUsed.{own_granule, push_steps, rows_same, used_same, uses_as}
 use Rattle.dt_queue.proofs.kept.Kept.push.Goals as goal
 

@@ -4,7 +4,7 @@ use Rattle.dt_access.specs.declared.access.Mode.{Mode}
 use Rattle.dt_queue.specs.declared.cell.Cell.{Cell}
 use Rattle.dt_queue.specs.declared.kept.Kept.{Kept}
 use Rattle.dt_queue.specs.KeptInner.{lane, place_at}
-use Rattle.dt_queue.proofs.KeptLanes.{kept_removed, same_lanes}
+use Rattle.dt_queue.proofs.LanesOfCells.{kept_removed, same_lanes}
 use Rattle.dt_queue.proofs.RowsUsed.{leaves_as, rows_removed}
 use Rattle.dt_queue.proofs.kept.Kept.remove.Goals as goal
 

@@ -1,7 +1,7 @@
 use Rattle.std.proofs.Common.{not, ◌==◌, refl, arith}
 use Rattle.std.specs.List.{filter}
 use Rattle.dt_queue.specs.declared.mark.Mark.{Mark}
-use Rattle.dt_queue.proofs.KeptLanes.{changed_read, changed_whole, changed_write}
+use Rattle.dt_queue.proofs.LanesOfCells.{changed_read, changed_whole, changed_write}
 use Rattle.dt_queue.proofs.kept.Kept.remove_mark.Goals as goal
 
 pub granule_of-requires : goal.granule_of-requires

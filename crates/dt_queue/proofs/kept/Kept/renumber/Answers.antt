@@ -3,7 +3,7 @@ use Rattle.slab.specs.Slab.{Slab, Updates, get, with_value}
 use Rattle.dt_queue.specs.declared.cell.Cell.{Cell}
 use Rattle.dt_queue.specs.declared.kept.Kept.{Kept}
 use Rattle.dt_queue.specs.KeptInner.{place_at}
-use Rattle.dt_queue.proofs.KeptLanes.{same_lanes}
+use Rattle.dt_queue.proofs.LanesOfCells.{same_lanes}
 use Rattle.dt_queue.proofs.NewNumbers.{cell_set, first_is, gap_in, kept_renumbered, shown_renumbered}
 use Rattle.dt_queue.proofs.kept.Kept.renumber.Goals as goal
 

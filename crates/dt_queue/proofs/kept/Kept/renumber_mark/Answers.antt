@@ -1,6 +1,6 @@
 use Rattle.std.proofs.Common.{map, refl, arith}
 use Rattle.dt_queue.specs.NumbersInner.{renumbered}
-use Rattle.dt_queue.proofs.KeptLanes.{changed_read, changed_whole, changed_write}
+use Rattle.dt_queue.proofs.LanesOfCells.{changed_read, changed_whole, changed_write}
 use Rattle.dt_queue.proofs.kept.Kept.renumber_mark.Goals as goal
 
 pub granule_of-requires : goal.granule_of-requires

@@ -8,7 +8,7 @@ use Rattle.dt_queue.specs.Queues.{neighbours}
 use Rattle.dt_queue.specs.declared.cell.Cell.{Cell}
 use Rattle.dt_queue.specs.declared.kept.Kept.{Kept}
 use Rattle.dt_queue.specs.declared.mark.Mark.{Mark}
-use Rattle.dt_queue.proofs.ShownCells.{neighbours_are, waits}
+use Rattle.dt_queue.proofs.EntriesOfCells.{neighbours_are, waits}
 use Rattle.dt_queue.proofs.queues.Queues.count_others.Goals as goal
 
 -- marks are counted as their vertices are

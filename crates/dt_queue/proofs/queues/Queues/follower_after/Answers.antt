@@ -1,6 +1,6 @@
 use Rattle.std.proofs.Common.{IsSome, None, refl, sym, subst}
 use Rattle.dt_queue.proofs.NextCells.{none_hidden}
-use Rattle.dt_queue.proofs.ShownCells.{follower_is, waits}
+use Rattle.dt_queue.proofs.EntriesOfCells.{follower_is, waits}
 use Rattle.dt_queue.proofs.queues.Queues.follower_after.Goals as goal
 
 pub index-requires : goal.index-requires

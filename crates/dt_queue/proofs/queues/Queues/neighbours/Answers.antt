@@ -1,7 +1,7 @@
 use Rattle.std.proofs.Common.{IsSome, refl, ap, map, sym, subst, ◌∙◌}
 use Rattle.std.proofs.lemmas.Result.{IfOk-weaker}
 use Rattle.dt_queue.specs.declared.mark.Mark.{Mark}
-use Rattle.dt_queue.proofs.ShownCells.{neighbours_are, waits}
+use Rattle.dt_queue.proofs.EntriesOfCells.{neighbours_are, waits}
 use Rattle.dt_queue.proofs.queues.Queues.neighbours.Goals as goal
 
 pub index-requires : goal.index-requires

@@ -2,7 +2,7 @@ use Rattle.std.proofs.Common.{[], ◌∷◌, ◌++◌, ap, arith, subst, ◌∙�
 use Rattle.std.proofs.lemmas.Result.{IfOk-weaker, on_err_weaker}
 use Rattle.dt_queue.specs.Queues.{IsQueued}
 use Rattle.dt_queue.proofs.NewNumbers.{shown_length}
-use Rattle.dt_queue.proofs.ShownCells.{shown_fresh, shown_push, shown_same}
+use Rattle.dt_queue.proofs.EntriesOfCells.{shown_fresh, shown_push, shown_same}
 use Rattle.dt_queue.proofs.queues.Queues.push.Goals as goal
 
 pub returns-clause-added : goal.returns-clause-added

@@ -1,5 +1,5 @@
 use Rattle.std.proofs.Common.{IsSome, refl, sym, subst}
-use Rattle.dt_queue.proofs.ShownCells.{shown_remove, waits}
+use Rattle.dt_queue.proofs.EntriesOfCells.{shown_remove, waits}
 use Rattle.dt_queue.proofs.queues.Queues.remove.Goals as goal
 
 pub remove-requires : goal.remove-requires

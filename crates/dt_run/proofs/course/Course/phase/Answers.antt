@@ -1,4 +1,4 @@
-use Rattle.dt_run.proofs.PhaseMade.{ends_apart, in_step_made, phase_failed, phase_made, seats_can}
+use Rattle.dt_run.proofs.PhaseOfTurns.{ends_apart, in_step_made, phase_failed, phase_made, seats_can}
 use Rattle.dt_run.proofs.PhaseRuns.{comes_to_an_end, failed_running, kept_fits, phase_counts, quiet_fits, running_now}
 use Rattle.dt_run.proofs.course.Course.phase.Goals as goal
 

@@ -1,6 +1,6 @@
 use Rattle.std.proofs.Common.{◌↔◌, IsTrue, subst, sym}
 use Rattle.dt_lists.specs.Lists.{AllIn}
-use Rattle.dt_run.specs.Done.{IsAllDone}
+use Rattle.dt_run.specs.EndOfRun.{IsAllDone}
 use Rattle.dt_run.specs.SeatsInner.{HasFewSubmitted}
 use Rattle.dt_run.proofs.FinishedRun.{done_where, few_submitted}
 use Rattle.dt_run.proofs.nodes.Nodes.finished.Goals as goal

@@ -1,7 +1,7 @@
 use Rattle.std.proofs.Common.{◌≡◌, ◌≤◌, ◌<◌, ◌^◌, false, IfOk, length, ap, subst, sym, ◌∙◌}
 use Rattle.std.specs.Prelude.{sum_by}
 use Rattle.dt_table.specs.Table.{shown}
-use Rattle.dt_run.specs.Done.{IsAllDone}
+use Rattle.dt_run.specs.EndOfRun.{IsAllDone}
 use Rattle.dt_run.specs.NodesView.{NodesView, marks_at}
 use Rattle.dt_run.specs.Run.{IsRunSummary}
 use Rattle.dt_run.specs.SeatsInner.{answers_at, events_at, seat_at}

@@ -1,6 +1,6 @@
 use Rattle.std.proofs.Common.{◌≡◌, ◌≤◌, false, Bor, IfOk, length, map, ap, subst, sym, ◌∙◌}
 use Rattle.dt_site.specs.Site.{SiteView}
-use Rattle.dt_run.specs.Done.{IsAllDone}
+use Rattle.dt_run.specs.EndOfRun.{IsAllDone}
 use Rattle.dt_run.specs.NodesView.{NodesView, kept_by, marks_at}
 use Rattle.dt_run.specs.Run.{AreMerged, IsRunText}
 use Rattle.dt_run.specs.SeatsInner.{SeatView}

@@ -2,7 +2,7 @@ use Rattle.std.proofs.Common.{◌∙◌, drop, length, sym}
 use Rattle.dt_lists.proofs.Callers.{pairwise_length}
 use Rattle.dt_ring.specs.Rings.{SameIn, SameOut}
 use Rattle.dt_run.specs.SeatsInner.{SeatView}
-use Rattle.dt_run.proofs.LentSlices.{written_back}
+use Rattle.dt_run.proofs.SliceOffsets.{written_back}
 use Rattle.dt_run.proofs.SeatTurns.{seat_turned}
 use Rattle.dt_run.proofs.seat.Seat.make_turn.Goals as goal
 

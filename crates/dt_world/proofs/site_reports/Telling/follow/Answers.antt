@@ -1,7 +1,8 @@
 use Rattle.std.proofs.Common.{◌≡◌, ◌+◌, [], ◌∷◌, ◌++◌, refl, sym, ap, ◌∙◌, inl, inr}
+use Rattle.std.proofs.lemmas.Result.{on_ok_weaker}
 use Rattle.dt_events.specs.declared.Event.TheVariants.{Submit, Answer}
 use Rattle.dt_world.specs.SessionReplay.{replay_at, replies_at}
-use Rattle.dt_world.proofs.Reports.{follows_answer, follows_reply, follows_submission, event_at, on_ok, on_ok_map, plain_event, session_listed}
+use Rattle.dt_world.proofs.Reports.{follows_answer, follows_reply, follows_submission, event_at, plain_event, session_listed}
 use Rattle.dt_world.proofs.site_reports.Telling.follow.Goals as goal
 
 pub unreachable-requires : goal.unreachable-requires
@@ -80,14 +81,14 @@ pub returns-in_ok-reply-in-Answer-clause-replay : goal.returns-in_ok-reply-in-An
 returns-in_ok-reply-in-Answer-clause-replay g c =
     let event = event_at c.args.self.now c.requires.events c.args.at c.index-events-at.result (Answer c.in-Answer.region c.in-Answer.session) c.requires.at c.index-events-at.is c.in-Answer.is in
     let follows = follows_answer c.requires.led c.args.at c.in-Answer.region c.in-Answer.session event c.in-Some-find.place (sym c.find-in-Answer.ensures ∙ c.in-Some-find.is) c.args.replay.now c.requires.replay in
-    on_ok _ c.push.result (c.answer.ensures ∙ follows.replay)
+    on_ok_weaker c.push.result (λ pushed. c.answer.ensures ∙ follows.replay) c.push.ensures.added
 
 pub returns-in_ok-reply-in-Answer-clause-replies : goal.returns-in_ok-reply-in-Answer-clause-replies
 returns-in_ok-reply-in-Answer-clause-replies g c =
     let event = event_at c.args.self.now c.requires.events c.args.at c.index-events-at.result (Answer c.in-Answer.region c.in-Answer.session) c.requires.at c.index-events-at.is c.in-Answer.is in
     let reply = follows_reply c.requires.led c.args.at c.in-Answer.region c.in-Answer.session event c.in-Some-find.place (sym c.find-in-Answer.ensures ∙ c.in-Some-find.is) c.args.replay.now c.requires.replay
     c.in-Some-waits.id (sym c.waits.ensures ∙ c.in-Some-waits.is) in
-    on_ok_map _ _ c.push.result
+    on_ok_weaker c.push.result
     (λ e. e ∙ ap (λ l. l ++ c.in_ok-reply-in-Answer.reply ∷ []) c.requires.replies ∙ reply.replies c.in_ok-reply-in-Answer.reply c.in_ok-reply-in-Answer.ensures) c.push.ensures.added
 
 pub returns-in_default : goal.returns-in_default

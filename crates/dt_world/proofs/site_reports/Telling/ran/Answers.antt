@@ -4,7 +4,7 @@ use Rattle.dt_session.specs.World.{Submission, outcome_at}
 use Rattle.dt_report.specs.declared.Ran.{Ran}
 use Rattle.dt_site.specs.Site.{SiteView, attempt, no_site}
 use Rattle.dt_world.specs.Telling.{TellingView, world_told}
-use Rattle.dt_world.proofs.SitesTold.{executed_there, lent_is, lent_there, outcome_told, stands_among}
+use Rattle.dt_world.proofs.ReportLookups.{executed_there, lent_is, lent_there, outcome_told, stands_among}
 use Rattle.dt_world.specs.WorldReport.{ran}
 use Rattle.dt_world.proofs.Reports.{ran_found}
 use Rattle.dt_world.proofs.site_reports.Telling.ran.Goals as goal

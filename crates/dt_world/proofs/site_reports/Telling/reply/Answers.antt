@@ -3,7 +3,7 @@ use Rattle.dt_txn.specs.declared.Outcome.{Outcome}
 use Rattle.dt_session.specs.World.{Submission, outcome_at}
 use Rattle.dt_site.specs.Site.{SiteView, attempt, no_site}
 use Rattle.dt_world.specs.Telling.{TellingView, world_told}
-use Rattle.dt_world.proofs.SitesTold.{executed_there, lent_is, outcome_told, stands_among}
+use Rattle.dt_world.proofs.ReportLookups.{executed_there, lent_is, outcome_told, stands_among}
 use Rattle.dt_world.proofs.site_reports.Telling.reply.Goals as goal
 
 pub unreachable-requires : goal.unreachable-requires

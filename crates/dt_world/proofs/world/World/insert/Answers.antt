@@ -7,6 +7,7 @@ use Rattle.dt_world.proofs.OneSite.{insert_done, insert_not, refused_same, regio
 use Rattle.dt_world.proofs.WorldLaws.{a_site, behind, made_before}
 use Rattle.dt_world.proofs.WorldFacts.{steps_few}
 use Rattle.dt_world.proofs.world.World.insert.Goals as goal
+use Rattle.dt_world.proofs.world.World.insert.Goals.{then-region-self-via-then-region-self, then-region-self-via-else-region-self+then-home-self}
 
 pub insert-requires-clause-home : goal.insert-requires-clause-home
 insert-requires-clause-home g c = region_here c.self.invariant c.if-region-self.false (behind (a_site c.self.invariant c.if-region-self.false) c.index_mut.ensures.value c.behind-self.view_is) c.args.home c.if-home-self.false
@@ -43,3 +44,21 @@ returns-then-not-branch g c =
 pub insert-requires-clause-stamp : goal.insert-requires-clause-stamp
 insert-requires-clause-stamp g c =
     stamp_here c.self.invariant c.if-region-self.false (behind (a_site c.self.invariant c.if-region-self.false) c.index_mut.ensures.value c.behind-self.view_is) (steps_few c.self.invariant c.self.view_is c.requires)
+
+pub returns-then-region-self : goal.returns-then-region-self
+returns-then-region-self g c =
+    let here : IsLegal c.args.self.now.cluster c.args.self.now.workload c.args.self.now.state (Insert c.args.region c.args.home)
+    → IsLegal c.self.inside.cluster c.self.inside.workload _ (Insert c.args.region c.args.home) =
+    λ l. subst (λ (v : WorldView). IsLegal v.cluster v.workload v.state (Insert c.args.region c.args.home)) (sym c.self.view_is) l in
+    elim c.then-region-self.branch [
+      | then-region-self-via-then-region-self w ↦ (
+        refl,
+        λ l. omega (arith, (here l).regions.0, w.if-region-self.true),
+        refl,
+      )
+      | then-region-self-via-else-region-self+then-home-self w ↦ (
+        refl,
+        λ l. omega (arith, (here l).regions.1, w.if-home-self.true),
+        refl,
+      )
+    ]

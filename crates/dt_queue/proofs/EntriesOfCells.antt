@@ -1,0 +1,324 @@
+-- What is shown of the cells: which entries wait, what their neighbours are, and what follows them.
+use Rattle.std.proofs.Common.{◌≡◌, ◌⊎◌, ℕ, ◌<◌, ◌≤◌, Bool, true, false, cond, not, ◌&&◌, ◌||◌, ◌==◌, nat_lt, List, eq-eqb, eqb-true, ltb-true, lt-ltb}
+use Rattle.std.proofs.Common.{[], ◌∷◌, ◌++◌, map, length, slice_get, Option, Some, None, option_map, refl, ap, ap₂, sym, subst, inl, inr, arith, ◌∙◌}
+use Rattle.std.specs.List.{filter}
+use Rattle.std.proofs.lemmas.Simd.{map-map}
+use Rattle.std.proofs.lemmas.Option.{same_Some, slice_get-get_or}
+use Rattle.slab.specs.Slab.{Updates, get, entries, entries_from}
+use Rattle.dt_lists.specs.Lists.{AnyIn, EachThen, Has, IsFront}
+use Rattle.dt_lists.proofs.Callers.{all_get, any_get, any_image, any_of_image, any_of_test, any_put, ascending_same, each_image, filter_each, has_filter, has_map, has_of_filtered, one_place}
+use Rattle.dt_lists.proofs.Callers.{test_of_any, either_side}
+use Rattle.dt_access.specs.Clash.{Bytes, is_whole, may_change}
+use Rattle.dt_access.proofs.Callers.{clash_cases, uses_of_granule, uses_of_row}
+use Rattle.dt_queue.specs.declared.cell.Cell.{Cell}
+use Rattle.dt_queue.specs.declared.mark.Mark.{Mark}
+use Rattle.dt_queue.specs.declared.kept.Kept.{Kept}
+use Rattle.dt_queue.specs.declared.rows.Rows.{Rows}
+use Rattle.dt_access.specs.declared.access.Mode.{Mode}
+use Rattle.std.proofs.lemmas.List.{get_or_append_left, map-append}
+use Rattle.dt_queue.specs.KeptInner.{AddsCell, CellsClash, AreQueuesKept, IsNearMark, IsNextMark, entry, in_order, mark_of, waiting_of}
+use Rattle.dt_queue.specs.LanesInner.{AreMarks}
+use Rattle.dt_queue.specs.NextInner.{IsFirstAfter}
+use Rattle.dt_queue.specs.Queues.{IsQueued, Waiting, follower_of, followers_after, is_at, is_neighbour, nearest, neighbours, taken_out}
+use Rattle.dt_queue.specs.RowsInner.{granule_at, granule_name, name_at}
+use Rattle.dt_queue.proofs.InOrder.{IsListed, Rise, listed, listed_less, listed_more, same_list}
+use Rattle.dt_queue.proofs.EntryLists.{Slots, after_is, before_is, entry_is, greater, lesser, meets, near_in, near_rises, nearest_is, of_near, slots_of_list, to_near, without_is}
+
+or_one : (s t : Bool) → (s ≡ true) ⊎ (t ≡ true) → (s || t) ≡ true
+or_one true t e = refl
+or_one false true e = refl
+or_one false false (inl e) = cc
+or_one false false (inr e) = cc
+
+and_both : (s t : Bool) → s ≡ true → t ≡ true → (s && t) ≡ true
+and_both true true e f = refl
+and_both true false e f = cc
+and_both false t e f = cc
+
+and_left : (s t : Bool) → (s && t) ≡ true → s ≡ true
+and_left true t e = refl
+and_left false t e = cc
+
+and_right : (s t : Bool) → (s && t) ≡ true → t ≡ true
+and_right true t e = e
+and_right false t e = cc
+
+module _ (k : Kept) (kept : AreQueuesKept k) where
+  -- ---- cells clash where their entries do
+
+  known_name : (row : ℕ) → row < length k.rows.names.keys → slice_get k.rows.names.keys row ≡ Some (name_at k.rows.names.keys row)
+  known_name row lt = slice_get-get_or k.rows.names.keys row (0, []) lt
+
+  one_row : (i j : ℕ) → i < length k.rows.names.keys → j < length k.rows.names.keys → name_at k.rows.names.keys i ≡ name_at k.rows.names.keys j → i ≡ j
+  one_row i j a b e = one_place k.rows.names.keys i j (name_at k.rows.names.keys j) kept.linked.names_once (known_name i a ∙ ap Some e) (known_name j b)
+
+  one_granule : (i j : ℕ) → i < length k.rows.names.keys → j < length k.rows.names.keys → granule_name (name_at k.rows.names.keys i) ≡ granule_name (name_at k.rows.names.keys j)
+      → granule_at k.rows i ≡ granule_at k.rows j
+  one_granule i j a b e =
+      one_place k.rows.granules.keys (granule_at k.rows i) (granule_at k.rows j) (granule_name (name_at k.rows.names.keys j)) kept.linked.granules_once (kept.linked.granule i a ∙ ap Some e) (kept.linked.granule j b)
+
+  same_name : (i j : ℕ) → i < length k.rows.names.keys → j < length k.rows.names.keys → granule_at k.rows i ≡ granule_at k.rows j
+      → granule_name (name_at k.rows.names.keys i) ≡ granule_name (name_at k.rows.names.keys j)
+  same_name i j a b e = same_Some _ _ (sym (kept.linked.granule i a) ∙ ap (slice_get k.rows.granules.keys) e ∙ kept.linked.granule j b)
+
+  meets_of : (p q : ℕ × Cell) → p.1.row < length k.rows.names.keys → q.1.row < length k.rows.names.keys → CellsClash k.rows p.1 q.1 → meets k.rows.names.keys p q ≡ true
+  meets_of p q a b (inl c) =
+      let name : name_at k.rows.names.keys p.1.row ≡ name_at k.rows.names.keys q.1.row = ap (name_at k.rows.names.keys) c.0 in
+      and_both _ _ (eq-eqb _ _ (ap (λ (n : ℕ × Bytes). n.0) name))
+      (uses_of_row ((name_at k.rows.names.keys p.1.row).1, p.1.mode) ((name_at k.rows.names.keys q.1.row).1, q.1.mode) (ap (λ (n : ℕ × Bytes). n.1) name) (or_one (may_change p.1.mode) (may_change q.1.mode) c.1))
+  meets_of p q a b (inr c) =
+      let name = same_name p.1.row q.1.row a b c.0 in
+      and_both _ _ (eq-eqb _ _ (ap (λ (n : ℕ × Bytes). n.0) name))
+      (uses_of_granule ((name_at k.rows.names.keys p.1.row).1, p.1.mode) ((name_at k.rows.names.keys q.1.row).1, q.1.mode) (ap (λ (n : ℕ × Bytes). n.1) name) (or_one (is_whole p.1.mode) (is_whole q.1.mode) c.1))
+
+  of_meets : (p q : ℕ × Cell) → p.1.row < length k.rows.names.keys → q.1.row < length k.rows.names.keys → meets k.rows.names.keys p q ≡ true → CellsClash k.rows p.1 q.1
+  of_meets p q a b e =
+      let home : (name_at k.rows.names.keys p.1.row).0 ≡ (name_at k.rows.names.keys q.1.row).0 = eqb-true _ _ (and_left _ _ e) in
+      elim (clash_cases ((name_at k.rows.names.keys p.1.row).1, p.1.mode) ((name_at k.rows.names.keys q.1.row).1, q.1.mode) (and_right _ _ e)) [
+        | inl c ↦ inl (one_row p.1.row q.1.row a b (λ i. (home i, c.0 i)), either_side (may_change p.1.mode) (may_change q.1.mode) c.1)
+        | inr c ↦ inr (one_granule p.1.row q.1.row a b (λ i. (home i, c.0 i)), either_side (is_whole p.1.mode) (is_whole q.1.mode) c.1)
+      ]
+
+  -- ---- the list of what waits
+
+  the_list : IsListed k.cells (in_order (entries k.cells))
+  the_list = listed k.cells kept.alone
+
+  the_slots : Slots (in_order (entries k.cells))
+  the_slots = slots_of_list k.cells (in_order (entries k.cells)) the_list
+
+  cell_there : (p : ℕ × Cell) → Has (in_order (entries k.cells)) p → get k.cells p.0 ≡ Some p.1
+  cell_there p h = (the_list.members p).0 h
+
+  in_list : (slot : ℕ) (c : Cell) → get k.cells slot ≡ Some c → Has (in_order (entries k.cells)) (slot, c)
+  in_list slot c e = (the_list.members (slot, c)).1 e
+
+  row_known : (p : ℕ × Cell) → Has (in_order (entries k.cells)) p → p.1.row < length k.rows.names.keys
+  row_known p h = kept.known p.0 p.1 (cell_there p h)
+
+  -- what waits has a cell
+  pub waits : (slot : ℕ) → IsQueued (waiting_of k) slot → (c : Cell) × (get k.cells slot ≡ Some c)
+  waits slot w =
+      let r = any_get (λ (p : ℕ × Cell). p.0 ≡ slot) (in_order (entries k.cells)) (any_of_image (λ (v : Waiting). v.slot ≡ slot) (entry k.rows.names.keys) (in_order (entries k.cells)) w) in
+      (r.0.1, sym (ap (get k.cells) r.2) ∙ cell_there r.0 r.1)
+
+  -- ---- neighbours
+
+  earlier_rises : (n : ℕ) → EachThen Rise (lesser n (in_order (entries k.cells)))
+  earlier_rises n = filter_each Rise (λ (p : ℕ × Cell). nat_lt p.1.number n) (in_order (entries k.cells)) the_list.numbered
+
+  of_earlier : (n : ℕ) (p : ℕ × Cell) → Has (lesser n (in_order (entries k.cells))) p → Has (in_order (entries k.cells)) p × (p.1.number < n)
+  of_earlier n p h = let b = has_of_filtered (λ (q : ℕ × Cell). nat_lt q.1.number n) (in_order (entries k.cells)) p h in (b.0, ltb-true _ _ b.1)
+
+  to_earlier : (n : ℕ) (p : ℕ × Cell) → Has (in_order (entries k.cells)) p → p.1.number < n → Has (lesser n (in_order (entries k.cells))) p
+  to_earlier n p h lt = has_filter (λ (q : ℕ × Cell). nat_lt q.1.number n) (in_order (entries k.cells)) p h (lt-ltb _ _ lt)
+
+  -- the neighbours of an entry, as cells
+  abbrev pub near_cells : ℕ × Cell → List (ℕ × Cell)
+  near_cells p = near_in k.rows.names.keys p (lesser p.1.number (in_order (entries k.cells)))
+
+  neighbours_shown : (p : ℕ × Cell) → Has (in_order (entries k.cells)) p → neighbours (waiting_of k) p.0 ≡ map (entry k.rows.names.keys) (near_cells p)
+  neighbours_shown p h =
+      ap₂ nearest (entry_is k.rows.names.keys (in_order (entries k.cells)) p the_slots h) (before_is k.rows.names.keys (in_order (entries k.cells)) p the_list.numbered the_slots h)
+      ∙ nearest_is k.rows.names.keys p (lesser p.1.number (in_order (entries k.cells)))
+
+  -- a cell is among the neighbours where it is the nearest that clashes
+  record IsNear (p q : ℕ × Cell) : Type 0 where
+    pub there : Has (in_order (entries k.cells)) q
+    pub before : q.1.number < p.1.number
+    pub clash : CellsClash k.rows q.1 p.1
+    pub free : (t : ℕ) (d : Cell) → get k.cells t ≡ Some d → q.1.number < d.number → d.number < p.1.number → CellsClash k.rows q.1 d → ¬ (CellsClash k.rows d p.1)
+
+  of_near_cells : (p q : ℕ × Cell) → Has (in_order (entries k.cells)) p → Has (near_cells p) q → IsNear p q
+  of_near_cells p q own h =
+      let r = of_near k.rows.names.keys p (lesser p.1.number (in_order (entries k.cells))) (earlier_rises p.1.number) q h in
+      let b = of_earlier p.1.number q r.0 in
+      record {
+        there = b.0;
+        before = b.1;
+        clash = of_meets q p (row_known q b.0) (row_known p own) r.1;
+        free = λ t d e lt le s f. r.2 (t, d) (to_earlier p.1.number (t, d) (in_list t d e) le) lt (meets_of q (t, d) (row_known q b.0) (kept.known t d e) s) (meets_of (t, d) p (kept.known t d e) (row_known p own) f);
+      }
+
+  to_near_cells : (p q : ℕ × Cell) → Has (in_order (entries k.cells)) p → IsNear p q → Has (near_cells p) q
+  to_near_cells p q own n =
+      to_near k.rows.names.keys p (lesser p.1.number (in_order (entries k.cells))) (earlier_rises p.1.number) q (to_earlier p.1.number q n.there n.before)
+      (meets_of q p (row_known q n.there) (row_known p own) n.clash) (λ m h lt s f. clear m (of_earlier p.1.number m h) lt s f)
+    where
+      clear : (m : ℕ × Cell) → Has (in_order (entries k.cells)) m × (m.1.number < p.1.number) → q.1.number < m.1.number → meets k.rows.names.keys q m ≡ true → meets k.rows.names.keys m p ≡ true → ⊥
+      clear m b lt s f = n.free m.0 m.1 (cell_there m b.0) lt b.1 (of_meets q m (row_known q n.there) (row_known m b.0) s) (of_meets m p (row_known m b.0) (row_known p own) f)
+
+  near_cells_rise : (p : ℕ × Cell) → EachThen Rise (near_cells p)
+  near_cells_rise p = near_rises k.rows.names.keys p (lesser p.1.number (in_order (entries k.cells))) (earlier_rises p.1.number)
+
+  -- the marks that were found are those of the neighbours
+  pub neighbours_are : (slot : ℕ) (x : Cell) → get k.cells slot ≡ Some x → (ms : List Mark) → AreMarks (IsNearMark k x) ms → map (λ m. m.vertex) ms ≡ map (λ w. w.vertex) (neighbours (waiting_of k) slot)
+  neighbours_are slot x e ms found =
+      let p : ℕ × Cell = (slot, x) in
+      let own = in_list slot x e in
+      let same : ms ≡ map (λ (q : ℕ × Cell). mark_of q.0 q.1) (near_cells p) =
+      ascending_same (λ (m n : Mark). m.number < n.number) (λ m lt. omega (arith, lt)) (λ m n o lt le. omega (arith, lt, le)) ms (map (λ (q : ℕ × Cell). mark_of q.0 q.1) (near_cells p)) found.numbered
+      (each_image (λ (m n : Mark). m.number < n.number) (λ (q : ℕ × Cell). mark_of q.0 q.1) (near_cells p) (near_cells_rise p)) (λ m h. down own m ((found.members m).0 h)) (λ m h. (found.members m).1 (up own m h)) in
+      ap (map (λ m. m.vertex)) same ∙ map-map (λ m. m.vertex) (λ (q : ℕ × Cell). mark_of q.0 q.1) (near_cells p)
+      ∙ sym (map-map (λ w. w.vertex) (entry k.rows.names.keys) (near_cells p)) ∙ ap (map (λ w. w.vertex)) (sym (neighbours_shown p own))
+    where
+      down : Has (in_order (entries k.cells)) (slot, x) → (m : Mark) → IsNearMark k x m → Has (map (λ (q : ℕ × Cell). mark_of q.0 q.1) (near_cells (slot, x))) m
+      down own m n =
+          let q : ℕ × Cell = (m.slot, n.0) in
+          subst (Has (map (λ (q : ℕ × Cell). mark_of q.0 q.1) (near_cells (slot, x)))) (sym n.2)
+          (has_map (λ (q : ℕ × Cell). mark_of q.0 q.1) (near_cells (slot, x)) q (to_near_cells (slot, x) q own (record { there = in_list m.slot n.0 n.1; before = n.3; clash = n.4; free = n.5 })))
+
+      up : Has (in_order (entries k.cells)) (slot, x) → (m : Mark) → Has (map (λ (q : ℕ × Cell). mark_of q.0 q.1) (near_cells (slot, x))) m → IsNearMark k x m
+      up own m h =
+          let r = any_get (λ (q : ℕ × Cell). mark_of q.0 q.1 ≡ m) (near_cells (slot, x)) (any_of_image (λ (n : Mark). n ≡ m) (λ (q : ℕ × Cell). mark_of q.0 q.1) (near_cells (slot, x)) h) in
+          let n = of_near_cells (slot, x) r.0 own r.1 in
+          subst (IsNearMark k x) r.2 (r.0.1, cell_there r.0 n.there, refl, n.before, n.clash, n.free)
+
+  -- ---- followers
+
+  -- an entry is a follower where its mark is next
+  next_of : (slot : ℕ) (x : Cell) → get k.cells slot ≡ Some x → (q : ℕ × Cell) → Has (in_order (entries k.cells)) q → is_neighbour (waiting_of k) slot q.0 ≡ true → IsNextMark k x (mark_of q.0 q.1)
+  next_of slot x e q own t =
+      let found : AnyIn (λ w. is_at slot w ≡ true) (map (entry k.rows.names.keys) (near_cells q)) = subst (AnyIn (λ w. is_at slot w ≡ true)) (neighbours_shown q own) (any_of_test (is_at slot) (neighbours (waiting_of k) q.0) t) in
+      let r = any_get (λ (p : ℕ × Cell). (p.0 == slot) ≡ true) (near_cells q) (any_of_image (λ w. is_at slot w ≡ true) (entry k.rows.names.keys) (near_cells q) found) in
+      let n = of_near_cells q r.0 own r.1 in
+      let one : r.0.1 ≡ x = same_Some r.0.1 x (sym (cell_there r.0 n.there) ∙ ap (get k.cells) (eqb-true r.0.0 slot r.2) ∙ e) in (
+        q.1,
+        cell_there q own,
+        refl,
+        subst (λ (c : Cell). c.number < q.1.number) one n.before,
+        subst (λ (c : Cell). CellsClash k.rows c q.1) one n.clash,
+        subst (λ (c : Cell). (t : ℕ) (d : Cell) → get k.cells t ≡ Some d → c.number < d.number → d.number < q.1.number → CellsClash k.rows c d → ¬ (CellsClash k.rows d q.1)) one n.free,
+      )
+
+  to_next : (slot : ℕ) (x : Cell) → get k.cells slot ≡ Some x → (q : ℕ × Cell) → Has (in_order (entries k.cells)) q → IsNextMark k x (mark_of q.0 q.1) → is_neighbour (waiting_of k) slot q.0 ≡ true
+  to_next slot x e q own n =
+      let one : n.0 ≡ q.1 = same_Some n.0 q.1 (sym n.1 ∙ cell_there q own) in
+      let near : IsNear q (slot, x) = subst (λ (c : Cell). IsNear (q.0, c) (slot, x)) one (record { there = in_list slot x e; before = n.3; clash = n.4; free = n.5 }) in
+      test_of_any (is_at slot) (neighbours (waiting_of k) q.0)
+      (subst (AnyIn (λ w. is_at slot w ≡ true)) (sym (neighbours_shown q own))
+      (any_image (λ w. is_at slot w ≡ true) (entry k.rows.names.keys) (near_cells q) (any_put (λ (p : ℕ × Cell). (p.0 == slot) ≡ true) (near_cells q) (slot, x) (to_near_cells q (slot, x) own near) (eq-eqb slot slot refl))))
+
+  filter_shown : (slot : ℕ) (G : List (ℕ × Cell)) → filter (λ w. is_neighbour (waiting_of k) slot w.slot) (map (entry k.rows.names.keys) G)
+      ≡ map (entry k.rows.names.keys) (filter (λ (q : ℕ × Cell). is_neighbour (waiting_of k) slot q.0) G)
+  filter_shown slot [] = refl
+  filter_shown slot (q ∷ G) = by (is_neighbour (waiting_of k) slot q.0) (filter_shown slot G)
+    where
+      by : (t : Bool) → filter (λ w. is_neighbour (waiting_of k) slot w.slot) (map (entry k.rows.names.keys) G) ≡ map (entry k.rows.names.keys) (filter (λ (q : ℕ × Cell). is_neighbour (waiting_of k) slot q.0) G)
+          → cond t (entry k.rows.names.keys q ∷ filter (λ w. is_neighbour (waiting_of k) slot w.slot) (map (entry k.rows.names.keys) G)) (filter (λ w. is_neighbour (waiting_of k) slot w.slot) (map (entry k.rows.names.keys) G))
+          ≡ map (entry k.rows.names.keys) (cond t (q ∷ filter (λ (q : ℕ × Cell). is_neighbour (waiting_of k) slot q.0) G) (filter (λ (q : ℕ × Cell). is_neighbour (waiting_of k) slot q.0) G))
+      by true e = ap (λ l. entry k.rows.names.keys q ∷ l) e
+      by false e = e
+
+  -- the cells that follow a cell of a slot behind another cell
+  abbrev cells_behind : ℕ → Cell → List (ℕ × Cell)
+  cells_behind slot y = filter (λ (q : ℕ × Cell). is_neighbour (waiting_of k) slot q.0) (greater y.number (in_order (entries k.cells)))
+
+  -- what is said of the first mark that is next is said of the first follower
+  pub follower_is : (slot : ℕ) (x : Cell) → get k.cells slot ≡ Some x → (place : ℕ) (y : Cell) → get k.cells place ≡ Some y → (o : Option Mark) → IsFirstAfter (IsNextMark k x) y.number o
+      → option_map (λ (m : Mark). record { slot = m.slot; vertex = m.vertex }) o ≡ slice_get (map follower_of (followers_after (waiting_of k) slot place)) 0
+  follower_is slot x e place y f o first =
+      shown o first ∙ ap (λ ws. slice_get (map follower_of ws) 0) (sym list)
+    where
+      list : followers_after (waiting_of k) slot place ≡ map (entry k.rows.names.keys) (cells_behind slot y)
+      list = ap (filter (λ w. is_neighbour (waiting_of k) slot w.slot)) (after_is k.rows.names.keys (in_order (entries k.cells)) (place, y) the_list.numbered the_slots (in_list place y f))
+          ∙ filter_shown slot (greater y.number (in_order (entries k.cells)))
+
+      rises : EachThen Rise (cells_behind slot y)
+      rises = filter_each Rise (λ (q : ℕ × Cell). is_neighbour (waiting_of k) slot q.0) (greater y.number (in_order (entries k.cells)))
+          (filter_each Rise (λ (q : ℕ × Cell). nat_lt y.number q.1.number) (in_order (entries k.cells)) the_list.numbered)
+
+      of_F : (q : ℕ × Cell) → Has (cells_behind slot y) q → IsNextMark k x (mark_of q.0 q.1) × (y.number < q.1.number)
+      of_F q h =
+          let a = has_of_filtered (λ (q : ℕ × Cell). is_neighbour (waiting_of k) slot q.0) (greater y.number (in_order (entries k.cells))) q h in
+          let b = has_of_filtered (λ (q : ℕ × Cell). nat_lt y.number q.1.number) (in_order (entries k.cells)) q a.0 in
+          (next_of slot x e q b.0 a.1, ltb-true _ _ b.1)
+
+      to_F : (q : ℕ × Cell) → Has (in_order (entries k.cells)) q → IsNextMark k x (mark_of q.0 q.1) → y.number < q.1.number
+          → Has (cells_behind slot y) q
+      to_F q own n lt =
+          has_filter (λ (q : ℕ × Cell). is_neighbour (waiting_of k) slot q.0) (greater y.number (in_order (entries k.cells))) q
+          (has_filter (λ (q : ℕ × Cell). nat_lt y.number q.1.number) (in_order (entries k.cells)) q own (lt-ltb _ _ lt)) (to_next slot x e q own n)
+
+      shown : (o : Option Mark) → IsFirstAfter (IsNextMark k x) y.number o
+          → option_map (λ (m : Mark). record { slot = m.slot; vertex = m.vertex }) o
+          ≡ slice_get (map follower_of (map (entry k.rows.names.keys) (cells_behind slot y))) 0
+      shown None none = by (cells_behind slot y) (λ q h. of_F q h)
+        where
+          by : (L : List (ℕ × Cell)) → ((q : ℕ × Cell) → Has L q → IsNextMark k x (mark_of q.0 q.1) × (y.number < q.1.number)) → None ≡ slice_get (map follower_of (map (entry k.rows.names.keys) L)) 0
+          by [] g = refl
+          by (q ∷ L) g = let r = g q (inl refl) in absurd (late q (none (mark_of q.0 q.1) r.0) r.1)
+            where
+              late : (q : ℕ × Cell) → q.1.number ≤ y.number → y.number < q.1.number → ⊥
+              late q le lt = omega (arith, le, lt)
+      shown (Some m) found = by (cells_behind slot y) rises (λ q h. of_F q h) here
+        where
+          number : m.number ≡ found.0.0.number
+          number = ap (λ (n : Mark). n.number) found.0.2
+
+          here : Has (cells_behind slot y) (m.slot, found.0.0)
+          here = to_F (m.slot, found.0.0) (in_list m.slot found.0.0 found.0.1) (subst (IsNextMark k x) found.0.2 found.0) (subst (λ n. y.number < n) number found.1)
+
+          told : (q : ℕ × Cell) → q ≡ (m.slot, found.0.0) → record { slot = m.slot; vertex = m.vertex } ≡ follower_of (entry k.rows.names.keys q)
+          told q s = ap (λ (n : Mark). record { slot = m.slot; vertex = n.vertex }) found.0.2 ∙ ap (λ (z : ℕ × Cell). follower_of (entry k.rows.names.keys z)) (sym s)
+
+          by : (L : List (ℕ × Cell)) → EachThen Rise L → ((q : ℕ × Cell) → Has L q → IsNextMark k x (mark_of q.0 q.1) × (y.number < q.1.number)) → Has L (m.slot, found.0.0)
+              → Some (record { slot = m.slot; vertex = m.vertex }) ≡ slice_get (map follower_of (map (entry k.rows.names.keys) L)) 0
+          by [] num g h = absurd h
+          by (q ∷ L) num g (inl s) = ap Some (told q s)
+          by (q ∷ L) num g (inr h) =
+              let r = g q (inl refl) in
+              let lt : q.1.number < found.0.0.number = all_get (Rise q) L num.0 (m.slot, found.0.0) h in
+              absurd (late (found.2 (mark_of q.0 q.1) r.0 r.1) lt)
+            where
+              late : m.number ≤ q.1.number → q.1.number < found.0.0.number → ⊥
+              late le lt = omega (arith, le, lt, number)
+
+-- ---- what is shown after a step
+
+-- names that were known stay when rows are added
+same_entries : (old new : List (ℕ × Bytes)) → IsFront old new → (K : List (ℕ × Cell)) → ((p : ℕ × Cell) → Has K p → p.1.row < length old) → map (entry new) K ≡ map (entry old) K
+same_entries old new front [] known = refl
+same_entries old new front (p ∷ K) known =
+    let name : name_at new p.1.row ≡ name_at old p.1.row = ap (λ l. name_at l p.1.row) (sym front.1) ∙ get_or_append_left old front.0 (0, []) p.1.row (known p (inl refl)) in
+    let first : entry new p ≡ entry old p = ap (λ (n : ℕ × Bytes). record { slot = p.0; home = n.0; key = n.1; mode = p.1.mode; vertex = p.1.vertex }) name in
+    ap₂ (λ w ws. w ∷ ws) first (same_entries old new front K (λ q h. known q (inr h)))
+
+row_of_cell : (k : Kept) → AreQueuesKept k → (p : ℕ × Cell) → Has (in_order (entries k.cells)) p → p.1.row < length k.rows.names.keys
+row_of_cell k kept p h = kept.known p.0 p.1 (((listed k.cells kept.alone).members p).0 h)
+
+-- the same cells show the same
+pub shown_same : (k n : Kept) → AreQueuesKept k → IsFront k.rows.names.keys n.rows.names.keys → n.cells.slots ≡ k.cells.slots → waiting_of n ≡ waiting_of k
+shown_same k n kept front slots =
+    ap (λ l. map (entry n.rows.names.keys) (in_order (entries_from 0 l))) slots ∙ same_entries k.rows.names.keys n.rows.names.keys front (in_order (entries k.cells)) (row_of_cell k kept)
+
+-- a cell that was put behind all others shows its entry
+pub shown_push : (k n : Kept) (slot : ℕ) (name : ℕ × Bytes) (mode : Mode) (vertex : ℕ) → AreQueuesKept k → AreQueuesKept n → IsFront k.rows.names.keys n.rows.names.keys → AddsCell k n slot name mode vertex
+    → waiting_of n ≡ waiting_of k ++ record { slot = slot; home = name.0; key = name.1; mode = mode; vertex = vertex } ∷ []
+shown_push k n slot name mode vertex kept later front adds =
+    let K = in_order (entries k.cells) in
+    let list : in_order (entries n.cells) ≡ K ++ (slot, adds.cell) ∷ [] = same_list n.cells n.cells (in_order (entries n.cells)) (K ++ (slot, adds.cell) ∷ []) (listed n.cells later.alone)
+    (listed_more k.cells n.cells K slot adds.cell (listed k.cells kept.alone) adds.updates adds.vacant (λ p h. last p (((listed k.cells kept.alone).members p).0 h))) (λ s. refl) in
+    ap (map (entry n.rows.names.keys)) list ∙ map-append (entry n.rows.names.keys) K ((slot, adds.cell) ∷ [])
+    ∙ ap₂ (λ a b. a ++ b ∷ []) (same_entries k.rows.names.keys n.rows.names.keys front K (row_of_cell k kept)) own
+  where
+    last : (p : ℕ × Cell) → get k.cells p.0 ≡ Some p.1 → p.1.number < adds.cell.number
+    last p e = let b = kept.counted p.0 p.1 e in omega (arith, b.1, adds.number)
+
+    own : entry n.rows.names.keys (slot, adds.cell) ≡ record { slot = slot; home = name.0; key = name.1; mode = mode; vertex = vertex }
+    own = λ i. record { slot = slot; home = (adds.name i).0; key = (adds.name i).1; mode = adds.mode_is i; vertex = adds.vertex_is i }
+
+-- no entry waited at the slot
+pub shown_fresh : (k n : Kept) (slot : ℕ) (name : ℕ × Bytes) (mode : Mode) (vertex : ℕ) → AreQueuesKept k → AddsCell k n slot name mode vertex → ¬ (IsQueued (waiting_of k) slot)
+shown_fresh k n slot name mode vertex kept adds w = let c = waits k kept slot w in none c.0 (sym adds.vacant ∙ c.1)
+  where
+    none : (d : Cell) → None ≡ Some d → ⊥
+    none d e = cc
+
+-- a cell that was taken out shows no more
+pub shown_remove : (k n : Kept) (slot : ℕ) → AreQueuesKept k → AreQueuesKept n → Updates k.cells n.cells slot None → n.rows ≡ k.rows → waiting_of n ≡ taken_out (waiting_of k) slot
+shown_remove k n slot kept later up rows =
+    let K = in_order (entries k.cells) in
+    let list : in_order (entries n.cells) ≡ filter (λ (p : ℕ × Cell). not (p.0 == slot)) K = same_list n.cells n.cells (in_order (entries n.cells)) (filter (λ (p : ℕ × Cell). not (p.0 == slot)) K) (listed n.cells later.alone)
+    (listed_less k.cells n.cells K slot (listed k.cells kept.alone) up) (λ s. refl) in
+    ap (λ (r : Rows). map (entry r.names.keys) (in_order (entries n.cells))) rows ∙ ap (map (entry k.rows.names.keys)) list ∙ sym (without_is k.rows.names.keys K slot)
