@@ -12,6 +12,7 @@ pub mod Growth
 pub mod Executions
 pub mod Replay
 pub mod Reports
+pub mod TextByLines
 pub mod NothingLeftOut
 pub mod SitesTold
 pub mod Callers
