@@ -26,16 +26,16 @@ ran-requires-clause-executed g c =
     let event = event_at c.args.self.now c.requires.events c.args.at c.index-events-at.result (Execute c.in-Execute.region c.in-Execute.id) c.requires.at c.index-events-at.is c.in-Execute.is in
     note_executed c.requires.led c.args.at c.in-Execute.region c.in-Execute.id event
 
-pub returns-then-branch : goal.returns-then-branch
-returns-then-branch g c =
+pub returns-then-not-branch : goal.returns-then-not-branch
+returns-then-not-branch g c =
     let event = event_at c.args.self.now c.requires.events c.args.at c.index-events-at.result (Execute c.in-Execute.region c.in-Execute.id) c.requires.at c.index-events-at.is c.in-Execute.is in
-    let there = present_of c.in_ok-insert.field-0 (is_among c.args.seen.now.keys c.in-Execute.id) c.if-branch.true c.in_ok-insert.ensures.added in
+    let there = present_of c.in_ok-insert.field-0 (is_among c.args.seen.now.keys c.in-Execute.id) c.if-not-branch.true c.in_ok-insert.ensures.added in
     let notes = notes_again c.requires.led c.args.at c.in-Execute.region c.in-Execute.id event c.args.seen.now.keys c.insert.new.self.keys c.requires.seen c.in_ok-insert.ensures.keys there in
     record { seen = notes.seen; ran = none_more notes.order }
 
-pub returns-in_ok-ran : goal.returns-in_ok-ran
-returns-in_ok-ran g c =
+pub returns : goal.returns
+returns g c =
     let event = event_at c.args.self.now c.requires.events c.args.at c.index-events-at.result (Execute c.in-Execute.region c.in-Execute.id) c.requires.at c.index-events-at.is c.in-Execute.is in
-    let absent = absent_of c.in_ok-insert.field-0 (is_among c.args.seen.now.keys c.in-Execute.id) c.if-branch.false c.in_ok-insert.ensures.added in
+    let absent = absent_of c.in_ok-insert.field-0 (is_among c.args.seen.now.keys c.in-Execute.id) c.if-not-branch.false c.in_ok-insert.ensures.added in
     let notes = notes_new c.requires.led c.args.at c.in-Execute.region c.in-Execute.id event c.args.seen.now.keys c.insert.new.self.keys c.requires.seen c.in_ok-insert.ensures.keys absent in
     record { seen = notes.seen; ran = notes.order c.in_ok-ran.field-0 c.in_ok-ran.ensures }

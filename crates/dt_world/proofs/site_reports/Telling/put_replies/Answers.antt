@@ -1,0 +1,16 @@
+use Rattle.std.proofs.Common.{◌≡◌, None, append-nil, length, replicate, sym, ap, subst, ◌∙◌}
+use Rattle.dt_session.specs.World.{opening_world}
+use Rattle.dt_world.specs.SessionReplay.{replay_of}
+use Rattle.dt_world.specs.Telling.{TellingView}
+use Rattle.dt_world.proofs.Reports.{course_begins}
+use Rattle.dt_world.proofs.site_reports.Telling.put_replies.Goals as goal
+
+pub loop-at-init : goal.loop-at-init
+loop-at-init g c = record {
+  replay =
+      let many : c.len-sessions.result ≡ length c.self.inside.workload.now.sessions = c.len-sessions.ensures in
+      let opened : c.in_ok-replay.replay ≡ replay_of (opening_world c.self.inside.cluster.now c.self.inside.workload.now) = c.in_ok-replay.ensures
+      ∙ ap (λ n. record { waits = replicate n None; submitted = replicate c.self.inside.cluster.now.regions 0 }) many ∙ course_begins c.self.inside.cluster.now c.self.inside.workload.now in
+      subst (λ (v : TellingView). c.in_ok-replay.replay ≡ replay_of (opening_world v.cluster v.workload)) c.self.view_is opened;
+  lines = sym (append-nil c.args.out.now.items);
+}
