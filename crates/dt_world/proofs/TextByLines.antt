@@ -2,7 +2,7 @@
 -- sections that are appended one after another are the whole text.
 use Rattle.std.proofs.Common.{◌≡◌, ℕ, List, [], ◌∷◌, ◌++◌, codes, None, Some, sym, ap, ◌∙◌, append_assoc, append-nil}
 use Rattle.std.specs.Prelude.{flat_map, option_to_list}
-use Rattle.std.proofs.lemmas.List.{flat_map-append}
+use Rattle.std.proofs.lemmas.List.Concat.{flat_map-append}
 use Rattle.dt_events.specs.declared.Event.{Event}
 use Rattle.dt_table.specs.declared.Shown.{Shown}
 use Rattle.dt_report.specs.Report.{events_text, line_of, order_text, replies_text, reply_line, report_text, tables_text}
@@ -13,7 +13,7 @@ use Rattle.dt_report.specs.declared.Reply.{Reply}
 pub none_more : {A : Type 0} {before after : List A} → before ≡ after → after ≡ before ++ option_to_list None
 none_more {before = before} same = sym (append-nil before ∙ same)
 
-module _ {A : Type 0} (line : A → List ℕ) {start so_far : List ℕ} {before after : List A} (written : so_far ≡ start ++ flat_map line before) where
+module _ {A : Type 0} (line : A → List ℕ) (start : List ℕ) {so_far : List ℕ} (before : List A) {after : List A} (written : so_far ≡ start ++ flat_map line before) where
   -- no line more
   pub no_line : after ≡ before ++ option_to_list None → so_far ≡ start ++ flat_map line after
   no_line none = written ∙ ap (λ l. start ++ flat_map line l) (sym (none ∙ append-nil before))
@@ -26,8 +26,8 @@ module _ {A : Type 0} (line : A → List ℕ) {start so_far : List ℕ} {before 
       ∙ ap (λ t. start ++ t) (sym (flat_map-append line before (item ∷ []))) ∙ ap (λ l. start ++ flat_map line l) (sym one)
 
 -- the lines after the first one of a section are the section
-pub section_is : {old begun out : List ℕ} (head lines : List ℕ) → begun ≡ old ++ (head ++ []) → out ≡ begun ++ lines → out ≡ old ++ (head ++ lines)
-section_is {old = old} head lines begins ends =
+pub section_is : (old : List ℕ) {begun out : List ℕ} (head lines : List ℕ) → begun ≡ old ++ (head ++ []) → out ≡ begun ++ lines → out ≡ old ++ (head ++ lines)
+section_is old head lines begins ends =
     ends ∙ ap (λ t. t ++ lines) (begins ∙ ap (λ t. old ++ t) (append-nil head)) ∙ append_assoc old head lines
 
 -- the sections, one after another

@@ -2,7 +2,7 @@
 //!
 //! Outcomes, whose an attempt is, and rows stand in the sites, so nothing is executed again. The events are gone through for
 //! the order of first executions, and to follow what each session waits for, which sites do not keep.
-ghost use Rattle.std.specs.Prelude.{◌≡◌, ◌+◌, ◌<◌, ◌++◌, flat_map, length, map, option_to_list, position, take, Some, IfOk, OnOk};
+ghost use Rattle.std.specs.Prelude.{◌≡◌, ◌+◌, ◌<◌, ◌++◌, ℕ, List, flat_map, length, map, option_to_list, position, take, Some, IfOk, OnOk};
 ghost use Rattle.dt_lists.specs.Lists.{Distinct};
 ghost use Rattle.dt_table.specs.Table.{shown};
 ghost use Rattle.dt_workload.specs.Valid.{session_names};
@@ -253,11 +253,34 @@ impl<'a, 'b, S: Scheduler + Drop> Telling<'a, 'b, S> {
         let sessions = self.workload.sessions.len();
         let mut replay = SessionReplay::new(alloc, sessions, self.cluster.regions)?;
         for at in 0..self.events.len() {
-            if let Some(reply) = self.follow(alloc, &names, &mut replay, self.events, at)? {
-                put_reply(alloc, out, &reply)?;
-            }
+            self.put_followed(alloc, out, &names, &mut replay, self.events, at)?;
         }
         Ok(())
+    }
+
+    /// Follows what an event does to sessions, and appends the line of the reply that it gives, if it is an answer.
+    fn put_followed(
+        &self,
+        alloc: Global,
+        out: &mut Vec<u8>,
+        names: &IndexSet<Name>,
+        replay: &mut SessionReplay,
+        events: &[Event],
+        at: usize,
+    ) -> Result<(), NoMemory>
+        requires led { LedTo self.now }
+        requires events { events.now ≡ self.now.events }
+        requires at { at < length events.now }
+        requires names { names.now.keys ≡ session_names self.now.workload.sessions }
+        requires replay { replay.old ≡ replay_at self.now at }
+        ensures replay { OnOk result (replay.new ≡ replay_at self.now (at + 1)) }
+        ensures lines { OnOk result ((start : List ℕ) → out.old.items ≡ start ++ flat_map reply_line (replies_at self.now at)
+            → out.new.items ≡ start ++ flat_map reply_line (replies_at self.now (at + 1))) }
+    {
+        let Some(reply) = self.follow(alloc, names, replay, events, at)? else {
+            return Ok(());
+        };
+        put_reply(alloc, out, &reply)
     }
 
     /// Follows what an event does to sessions. The reply that it gives, if it is an answer.

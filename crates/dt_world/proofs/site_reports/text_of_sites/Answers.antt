@@ -10,5 +10,5 @@ pub returns : goal.returns
 returns g c =
     let tables = ap all_shown c.as_slice.ensures.value ∙ c.in_ok-tables.ensures in
     text_is (replies_of c.args.cluster c.args.workload c.args.events.now) (rans_of c.args.cluster c.args.workload c.args.events.now) _ c.args.events.now
-    c.in_ok-begin_text.ensures c.in_ok-put_replies_and_order.ensures c.in_ok-put_all_shown.ensures c.in_ok-put_events.ensures
+    c.in_ok-text.ensures c.in_ok-put_replies_and_order.ensures c.in_ok-put_all_shown.ensures c.in_ok-put_events.ensures
     ∙ ap report_text (parts_told c.args.sites.now c.requires refl refl tables refl)
