@@ -10,15 +10,15 @@ pub returns-in_default : goal.returns-in_default
 returns-in_default g c =
     let before = replies_at c.args.self.now c.args.at in
     record {
-      replay = c.in_ok-follow.ensures.replay;
-      lines = λ start written. no_line reply_line start before written (c.in_ok-follow.ensures.reply ∙ ap (λ o. before ++ option_to_list o) c.in_default.is);
+      replay = c.in_ok-reply.ensures.replay;
+      lines = λ start written. no_line reply_line start before written (c.in_ok-reply.ensures.reply ∙ ap (λ o. before ++ option_to_list o) c.in_default.is);
     }
 
 pub returns : goal.returns
 returns g c =
     let before = replies_at c.args.self.now c.args.at in
     record {
-      replay = on_ok _ c.put_reply.result c.in_ok-follow.ensures.replay;
+      replay = on_ok _ c.put_reply.result c.in_ok-reply.ensures.replay;
       lines = on_ok_map _ _ c.put_reply.result (λ added start written. one_line reply_line start before written c.in-Some.reply
-          (c.in_ok-follow.ensures.reply ∙ ap (λ o. before ++ option_to_list o) c.in-Some.is) added) c.put_reply.ensures;
+          (c.in_ok-reply.ensures.reply ∙ ap (λ o. before ++ option_to_list o) c.in-Some.is) added) c.put_reply.ensures;
     }
