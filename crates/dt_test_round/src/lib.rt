@@ -22,3 +22,5 @@ mod requests;
 mod rounds;
 #[cfg(test)]
 mod steps;
+#[cfg(test)]
+mod twin;
