@@ -1,8 +1,9 @@
 //! A region under its lock that has a twin: an equal region, of the same round. Both come to be by the same calls. What was worked
 //! for the twin is committed too late here. The regions are left to the end of the process: that they may be dropped would be
 //! proved again in each function that owns one.
-ghost use Rattle.std.specs.Prelude.{◌≡◌, ◌+◌, ◌<◌, [], IfOk, OnOk};
+ghost use Rattle.std.specs.Prelude.{◌≡◌, ◌+◌, ◌<◌, List, [], IfOk, OnOk};
 ghost use Rattle.dt_access.specs.Orders.{HasDistinctKeys};
+ghost use Rattle.dt_proc.specs.Tree.{ProcTree};
 ghost use Rattle.dt_table.specs.Table.{opening};
 ghost use Rattle.dt_region.specs.Rules.{opening_state};
 ghost use Rattle.dt_round.specs.Rounds.{CanRound};
@@ -47,7 +48,8 @@ fn rows(alloc: Global) -> Result<[(Key, Value); 2], Fail>
 /// Region 0 of two that has done nothing, with these rows.
 fn begun<S: Scheduler>(alloc: Global, rows: &[(Key, Value)]) -> Result<Region<S>, Fail>
     requires { HasDistinctKeys rows.now }
-    ensures { IfOk result (λ region. region ≡ record { state = opening_state 0 2 (opening 1 2 [] rows.now); events = []; heard = 0; room = 0 }) }
+    ensures opening { IfOk result (λ region. region ≡ record { state = opening_state 0 2 (opening 1 2 [] rows.now); events = []; heard = 0; room = 0 }) }
+    ensures fed { (procs : List ProcTree) → IfOk result (WasFed procs 0) }
 {
     let table = Table::new(alloc, 1, 2, &[], rows)?;
     Ok(Region::new(alloc, 0, 2, table)?)
@@ -101,7 +103,10 @@ fn place<S: Scheduler>(
     }
     let txn = next(alloc, region, procs, row)?;
     let number = region.taken(by);
-    if !twin.append(alloc, by, number, &txn)? || !region.append(alloc, by, number, &txn)? {
+    if !twin.append(alloc, by, number, &txn)? {
+        return Err(Fail::from("the request is the next one"));
+    }
+    if !region.append(alloc, by, number, &txn)? {
         return Err(Fail::from("the request is the next one"));
     }
     Ok(())
@@ -116,13 +121,14 @@ fn feed<S: Scheduler>(
 ) -> Result<(), Fail>
     requires fed { WasFed procs.now 0 region.old }
     requires equal { twin.old ≡ region.old }
-    ensures fed { OnOk result (WasFed procs.now 4 region.new) }
+    ensures can { OnOk result (CanRound procs.now region.new) }
     ensures equal { OnOk result (twin.new ≡ region.new) }
 {
     submit(alloc, region, twin, procs, 0, &(b"x", PUT_B))?;
     submit(alloc, region, twin, procs, 1, &(b"y", PUT_D))?;
     place(alloc, region, twin, procs, 2, &(0, 1, 0, PUT_B))?;
-    place(alloc, region, twin, procs, 3, &(0, 2, 0, PUT_D))
+    place(alloc, region, twin, procs, 3, &(0, 2, 0, PUT_D))?;
+    Ok(())
 }
 
 /// Two equal regions to which all this came.

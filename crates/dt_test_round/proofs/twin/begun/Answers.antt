@@ -1,0 +1,10 @@
+use Rattle.std.proofs.Common.{sym, subst}
+use Rattle.dt_region.specs.Conditions.{IsTableFor}
+use Rattle.dt_test_round.proofs.Opening.{fed_none, rows_fit}
+use Rattle.dt_test_round.proofs.twin.begun.Goals as goal
+
+pub new-requires-2-clause-table : goal.new-requires-2-clause-table
+new-requires-2-clause-table g c = subst (IsTableFor 2) (sym c.in_ok-table.ensures) (rows_fit 2 _)
+
+pub returns-clause-fed : goal.returns-clause-fed
+returns-clause-fed g c procs = fed_none procs 0 2 _ c.in_ok-new.field-0 _ c.in_ok-table.ensures c.in_ok-new.ensures.opening
