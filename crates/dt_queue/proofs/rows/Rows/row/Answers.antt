@@ -1,4 +1,3 @@
-use Rattle.std.proofs.Common.{Some, ap, ◌∙◌}
 use Rattle.dt_queue.proofs.RowLists.{named_at, unnamed}
 use Rattle.dt_queue.proofs.rows.Rows.row.Goals as goal
 
