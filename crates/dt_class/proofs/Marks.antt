@@ -1,7 +1,7 @@
 -- Marks and the order in which vertices were found: one more vertex, how many there are, and the marked ones in
 -- ascending order.
 use Rattle.std.proofs.Common.{◌≡◌, ℕ, zero, suc, ◌+◌, ◌<◌, ◌≤◌, ◌↔◌, ◌∙◌, Bool, true, false, List, [], ◌∷◌}
-use Rattle.std.proofs.Common.{◌++◌, length, get_or, set, refl, sym, ap, subst, inl, inr, arith, length-set, true≢false}
+use Rattle.std.proofs.Common.{◌++◌, length, get_or, set, sym, subst, inl, inr, arith, length-set, true≢false}
 use Rattle.std.proofs.lemmas.List.{get_or-set_same, get_or-set_other}
 use Rattle.dt_lists.specs.Lists.{EachThen, Either, Has}
 use Rattle.dt_lists.proofs.Callers.{all_put, distinct_push, each_append, either_nat, few_below, has_more, has_last, has_longer, front_append}

@@ -13,7 +13,7 @@ use Rattle.rtrb.specs.contracts.consumer.Consumer as consumer
 use Rattle.rtrb.specs.contracts.producer.Producer as producer
 use Rattle.rtrb.proofs.consumer.Consumer.TheSendSync as consumer_send
 use Rattle.rtrb.proofs.producer.Producer.TheSendSync as producer_send
-use Rattle.dt_pool.specs.declared.named.Named as Named
+use Rattle.dt_pool.specs.declared.lending.Lending as Lending
 use Rattle.dt_pool.specs.contracts.helper.Bells as Bells
 use Rattle.dt_pool.specs.contracts.helper.Server as Server
 use Rattle.dt_pool.specs.contracts.lent.Lent as Lent
@@ -21,18 +21,18 @@ use Rattle.dt_pool.specs.contracts.lent.Lent.TheInside as lent
 use Rattle.dt_pool.specs.contracts.lent.Worked as Worked
 use Rattle.dt_pool.specs.contracts.lent.Worked.TheInside as worked
 
-pub lent_inside_send : (X N : RattleType) (g : Named.Ghosts N.Denot X.Denot) → IsSend X → IsSend N → IsSend (lent.the_row X N g)
+pub lent_inside_send : (X N : RattleType) (g : Lending.Ghosts N.Denot X.Denot) → IsSend X → IsSend N → IsSend (lent.the_row X N g)
 lent_inside_send X N g x n = recorded_send (lent.the_field X N g).row _ _ (lent.the_type X N g).to_one
     (struct_send (shape (lent.the_type X N g)) (x, (search (sendable, crosses, consumer_send.the_field_send) depth 20 parts 0, (search sendable depth 20, (search (sendable, n) depth 20, tt)))))
 
-pub worked_inside_send : (X N : RattleType) (g : Named.Ghosts N.Denot X.Denot) → IsSend X → IsSend N → IsSend (worked.the_row X N g)
+pub worked_inside_send : (X N : RattleType) (g : Lending.Ghosts N.Denot X.Denot) → IsSend X → IsSend N → IsSend (worked.the_row X N g)
 worked_inside_send X N g x n = recorded_send (worked.the_field X N g).row _ _ (worked.the_type X N g).to_one
     (struct_send (shape (worked.the_type X N g)) (x, (search (sendable, crosses, consumer_send.the_field_send) depth 20 parts 0, (search sendable depth 20, (search (sendable, n) depth 20, tt)))))
 
-pub lent_send : (X N : RattleType) (g : Named.Ghosts N.Denot X.Denot) → IsSend X → IsSend N → IsSend (Lent.the_row X N g)
+pub lent_send : (X N : RattleType) (g : Lending.Ghosts N.Denot X.Denot) → IsSend X → IsSend N → IsSend (Lent.the_row X N g)
 lent_send X N g x n = view_send _ _ _ _ _ (lent_inside_send X N g x n)
 
-pub worked_send : (X N : RattleType) (g : Named.Ghosts N.Denot X.Denot) → IsSend X → IsSend N → IsSend (Worked.the_row X N g)
+pub worked_send : (X N : RattleType) (g : Lending.Ghosts N.Denot X.Denot) → IsSend X → IsSend N → IsSend (Worked.the_row X N g)
 worked_send X N g x n = view_send _ _ _ _ _ (worked_inside_send X N g x n)
 
 option_send : (R : RattleType) → IsSend R → IsSend (Option.the_row R)
@@ -54,6 +54,6 @@ shared_bells_send : IsSend (Arc.the_row Bells.the_row Heap.the_row ghosts)
 shared_bells_send = Arc-send _ bells_send bells_sync
 
 -- a helper's own side may go to its thread
-pub server_send : (X N : RattleType) (g : Named.Ghosts N.Denot X.Denot) → IsSend X → IsSend N → IsSend (Server.the_row X N g)
+pub server_send : (X N : RattleType) (g : Lending.Ghosts N.Denot X.Denot) → IsSend X → IsSend N → IsSend (Server.the_row X N g)
 server_send X N g x n = recorded_send (Server.the_field X N g).row _ _ (Server.the_type X N g).to_one
     (struct_send (shape (Server.the_type X N g)) (inlet_send _ (option_send _ (lent_send X N g x n)), (outlet_send _ (worked_send X N g x n), (shared_bells_send, tt))))

@@ -1,9 +1,9 @@
 ghost use Rattle.std.specs.Prelude.{◌≡◌, Some, slice_get};
 ghost use Rattle.dt_pool.specs.Links.{name_of_outlet};
 
+use crate::lending::Lending;
 use crate::lent::{Lent, Worked};
 use crate::link::{Link, compare, remember};
-use crate::named::Named;
 use crate::wait::{next, stuck};
 use rtrb::{Consumer, Producer, RingBuffer};
 use std::alloc::{AllocError, Global};
@@ -22,7 +22,7 @@ struct Bells {
 /// The lender's side of a helper, which works in a thread of its own ([`Server`]) what is lent to it, one item at a time.
 ///
 /// Contracts see the item that was last lent to it, as it was then.
-pub struct Helper<X, N: Named<X>> {
+pub struct Helper<X, N: Lending<X>> {
     asks: Producer<Snapshot<X>>,
     /// The other end of that ring, while nothing is lent.
     was: Option<Consumer<Snapshot<X>>>,
@@ -32,7 +32,7 @@ pub struct Helper<X, N: Named<X>> {
     bells: Arc<Bells>,
 }
 
-impl<X, N: Named<X>> Model for Helper<X, N> {
+impl<X, N: Lending<X>> Model for Helper<X, N> {
     ghost use Rattle.std.specs.Prelude.{◌≡◌, IfSome, Option, Some, slice_get};
     ghost use Rattle.rtrb.specs.Ring.{IsPair, sent};
     ghost use Rattle.dt_pool.specs.Links.{last_item, name_of_outlet};
@@ -44,7 +44,7 @@ impl<X, N: Named<X>> Model for Helper<X, N> {
     ghost invariant = { λ h. (slice_get N.links h.number ≡ Some (name_of_outlet h.asks)) × IfSome h.was (IsPair h.asks) };
 }
 
-impl<X: Drop, N: Named<X>> Helper<X, N> {
+impl<X: Drop, N: Lending<X>> Helper<X, N> {
     /// Lends it an item. It waits forever where the last one was not taken back.
     pub fn lend<R: Wait>(&mut self, rt: &R, item: X)
         requires { N.can item }
@@ -83,7 +83,7 @@ impl<X: Drop, N: Named<X>> Helper<X, N> {
     }
 }
 
-impl<X: Drop, N: Named<X>> Drop for Helper<X, N> {
+impl<X: Drop, N: Lending<X>> Drop for Helper<X, N> {
     fn drop(self) {
         let Self {
             asks: _asks,
@@ -101,13 +101,13 @@ impl<X: Drop, N: Named<X>> Drop for Helper<X, N> {
 
 /// A helper's own side, which goes to its thread.
 #[derive(Drop)]
-pub struct Server<X, N: Named<X>> {
+pub struct Server<X, N: Lending<X>> {
     jobs: Consumer<Option<Lent<X, N>>>,
     done: Producer<Worked<X, N>>,
     bells: Arc<Bells>,
 }
 
-impl<X: Drop, N: Named<X>> Server<X, N> {
+impl<X: Drop, N: Lending<X>> Server<X, N> {
     /// Works what is lent to it, until the lender's side is dropped.
     pub fn serve<F: Fn(&mut X), R: Wait>(self, rt: &R, work: &F)
         requires can { (p : _) → N.can p.now → F.pre work.now p }
@@ -131,7 +131,7 @@ impl<X: Drop, N: Named<X>> Server<X, N> {
 }
 
 /// The two sides of a new helper, which is told by its number and its link.
-pub fn hire<X: Drop, N: Named<X>>(
+pub fn hire<X: Drop, N: Lending<X>>(
     alloc: Global,
     link: Link<X>,
     number: usize,

@@ -2,21 +2,21 @@ ghost use Rattle.std.specs.Prelude.{◌≡◌, Some, slice_get};
 ghost use Rattle.rtrb.specs.Ring.{received};
 ghost use Rattle.dt_pool.specs.Links.{last_item, name_of_inlet};
 
-use crate::named::Named;
+use crate::lending::Lending;
 use rtrb::Consumer;
 use std::marker::{Model, PhantomData};
 use std::snapshot::Snapshot;
 
 /// An item that is lent to a worker, with the end of a ring that remembers what it was.
 #[derive(Drop)]
-pub struct Lent<X, N: Named<X>> {
+pub struct Lent<X, N: Lending<X>> {
     pub(crate) item: X,
     pub(crate) was: Consumer<Snapshot<X>>,
     pub(crate) number: usize,
     pub(crate) of: PhantomData<N>,
 }
 
-impl<X, N: Named<X>> Model for Lent<X, N> {
+impl<X, N: Lending<X>> Model for Lent<X, N> {
     ghost use Rattle.std.specs.Prelude.{◌≡◌, Some, slice_get};
     ghost use Rattle.rtrb.specs.Ring.{received};
     ghost use Rattle.dt_pool.specs.Links.{last_item, name_of_inlet};
@@ -30,14 +30,14 @@ impl<X, N: Named<X>> Model for Lent<X, N> {
 
 /// An item that a worker gives back, with the end of a ring that remembers what it was.
 #[derive(Drop)]
-pub struct Worked<X, N: Named<X>> {
+pub struct Worked<X, N: Lending<X>> {
     pub(crate) item: X,
     pub(crate) was: Consumer<Snapshot<X>>,
     pub(crate) number: usize,
     pub(crate) of: PhantomData<N>,
 }
 
-impl<X, N: Named<X>> Model for Worked<X, N> {
+impl<X, N: Lending<X>> Model for Worked<X, N> {
     ghost use Rattle.std.specs.Prelude.{◌≡◌, Some, slice_get};
     ghost use Rattle.rtrb.specs.Ring.{received};
     ghost use Rattle.dt_pool.specs.Links.{last_item, name_of_inlet};
@@ -49,7 +49,7 @@ impl<X, N: Named<X>> Model for Worked<X, N> {
     ghost invariant = { λ l. (slice_get N.links l.number ≡ Some (name_of_inlet l.was)) × ((old : _) → last_item (received l.was) ≡ Some old → N.goes old l.item) };
 }
 
-impl<X, N: Named<X>> Lent<X, N> {
+impl<X, N: Lending<X>> Lent<X, N> {
     /// An item that may be lent, and that its ring remembers.
     pub(crate) fn new(item: X, was: Consumer<Snapshot<X>>, number: usize) -> Self
         requires link { slice_get N.links number ≡ Some (name_of_inlet was) }

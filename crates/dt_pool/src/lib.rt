@@ -8,13 +8,13 @@
 #![tactic(auto)]
 
 mod helper;
+mod lending;
 mod lent;
 mod link;
 mod many;
-mod named;
 mod wait;
 
 pub use helper::{Helper, Server, hire};
+pub use lending::Lending;
 pub use link::Link;
 pub use many::{lend_last, links, take_back};
-pub use named::Named;

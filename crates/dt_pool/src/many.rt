@@ -1,8 +1,8 @@
 ghost use Rattle.std.specs.Prelude.{◌≡◌, ◌<◌, ◌≤◌, ◌+◌, ℕ, All, Some, length, slice_get, slice_index_or, vec_capacity, vec_len};
 
 use crate::helper::Helper;
+use crate::lending::Lending;
 use crate::link::Link;
-use crate::named::Named;
 use std::alloc::Global;
 use std::sync::Wait;
 
@@ -23,7 +23,7 @@ pub fn links<X>(alloc: Global, most: usize) -> Vec<Link<X>>
 }
 
 /// Lends the last items of a list, one to each helper, in order. The list keeps the room that they leave.
-pub fn lend_last<X: Drop, N: Named<X>, R: Wait>(
+pub fn lend_last<X: Drop, N: Lending<X>, R: Wait>(
     rt: &R,
     items: &mut Vec<X>,
     helpers: &mut [Helper<X, N>],
@@ -47,7 +47,7 @@ pub fn lend_last<X: Drop, N: Named<X>, R: Wait>(
 }
 
 /// Takes back what was lent to each helper, and puts it behind the list, which has room for it.
-pub fn take_back<X: Drop, N: Named<X>, R: Wait>(
+pub fn take_back<X: Drop, N: Lending<X>, R: Wait>(
     rt: &R,
     items: &mut Vec<X>,
     helpers: &mut [Helper<X, N>],

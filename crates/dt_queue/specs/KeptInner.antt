@@ -116,6 +116,7 @@ IsNearOf Read k row low high m = IsLastIn (lane k Write row) low high m
 IsNearOf Write k row low high m = IsNearInRow (lane k Read row) (lane k Write row) low high m
 IsNearOf Whole k row low high m = AnyIn (λ r. IsNearInRow (lane k Read r) (lane k Write r) low high m) (rows_at k.in_use (granule_at k.rows row))
 
+-- and this for the cell's own mode, row and number
 abbrev pub IsNearInMode : Kept → Cell → ℕ → Mark → Type 0
 IsNearInMode k x low m = IsNearOf x.mode k x.row low x.number m
 
@@ -125,6 +126,7 @@ IsNextOfMode Read k row low high m = IsFirstIn (lane k Write row) low high m
 IsNextOfMode Write k row low high m = IsNextInRow (lane k Read row) (lane k Write row) low high m
 IsNextOfMode Whole k row low high m = AnyIn (λ r. IsNextInRow (lane k Read r) (lane k Write r) low high m) (rows_at k.in_use (granule_at k.rows row))
 
+-- and this for the cell's own mode, row and number
 abbrev pub IsNextInMode : Kept → Cell → ℕ → Mark → Type 0
 IsNextInMode k x high m = IsNextOfMode x.mode k x.row x.number high m
 

@@ -108,10 +108,10 @@ impl Kept {
     }
 
     /// The marks of the neighbours of an entry, in the order of their pushes.
-    pub fn near(&self, alloc: Global, cell: Cell) -> Result<Marks, NoMemory>
+    pub fn near(&self, alloc: Global, cell: &Cell) -> Result<Marks, NoMemory>
         requires kept { AreQueuesKept self.now }
-        requires row_in { cell.row < length self.now.rows.names.keys }
-        ensures { IfOk result (λ marks. AreMarks (IsNearMark self.now cell) marks.items) }
+        requires row_in { cell.now.row < length self.now.rows.names.keys }
+        ensures { IfOk result (λ marks. AreMarks (IsNearMark self.now cell.now) marks.items) }
     {
         let granule = self.rows.granule_of(cell.row);
         let whole = last_between(self.wholes.as_slice(), granule, 0, cell.number);
@@ -124,8 +124,8 @@ impl Kept {
 
     /// Whether it is seen at once that an entry has one neighbour at most: it reads a row, or it writes one that nothing else waits
     /// to read.
-    pub fn has_one_near(&self, cell: Cell) -> bool
-        ensures { IsTrue result → HasOneNear self.now cell }
+    pub fn has_one_near(&self, cell: &Cell) -> bool
+        ensures { IsTrue result → HasOneNear self.now cell.now }
     {
         match cell.mode {
             Mode::Read => true,
@@ -135,11 +135,11 @@ impl Kept {
     }
 
     /// The mark of the neighbour of such an entry, if it has one. Takes no memory.
-    pub fn near_one(&self, cell: Cell) -> Option<Mark>
+    pub fn near_one(&self, cell: &Cell) -> Option<Mark>
         requires kept { AreQueuesKept self.now }
-        requires row_in { cell.row < length self.now.rows.names.keys }
-        requires one { HasOneNear self.now cell }
-        ensures { AreMarks (IsNearMark self.now cell) (option_to_list result) }
+        requires row_in { cell.now.row < length self.now.rows.names.keys }
+        requires one { HasOneNear self.now cell.now }
+        ensures { AreMarks (IsNearMark self.now cell.now) (option_to_list result) }
     {
         let granule = self.rows.granule_of(cell.row);
         let whole = last_between(self.wholes.as_slice(), granule, 0, cell.number);
@@ -149,10 +149,10 @@ impl Kept {
     }
 
     /// The mark of the first follower of an entry after a number.
-    pub fn next(&self, cell: Cell, after: u64) -> Option<Mark>
+    pub fn next(&self, cell: &Cell, after: u64) -> Option<Mark>
         requires kept { AreQueuesKept self.now }
-        requires row_in { cell.row < length self.now.rows.names.keys }
-        ensures { IsFirstAfter (IsNextMark self.now cell) after result }
+        requires row_in { cell.now.row < length self.now.rows.names.keys }
+        ensures { IsFirstAfter (IsNextMark self.now cell.now) after result }
     {
         let granule = self.rows.granule_of(cell.row);
         let whole = first_between(self.wholes.as_slice(), granule, cell.number, u64::MAX);
@@ -214,10 +214,10 @@ impl Kept {
     }
 
     /// Of the marks of reads and writes above a number those of neighbours of an entry.
-    fn near_in_rows(&self, alloc: Global, cell: Cell, low: u64) -> Result<Marks, NoMemory>
+    fn near_in_rows(&self, alloc: Global, cell: &Cell, low: u64) -> Result<Marks, NoMemory>
         requires kept { AreQueuesKept self.now }
-        requires row_in { cell.row < length self.now.rows.names.keys }
-        ensures { IfOk result (λ marks. AreMarks (IsNearInMode self.now cell low) marks.items) }
+        requires row_in { cell.now.row < length self.now.rows.names.keys }
+        ensures { IfOk result (λ marks. AreMarks (IsNearInMode self.now cell.now low) marks.items) }
     {
         let reads = self.reads.as_slice();
         let writes = self.writes.as_slice();
@@ -232,10 +232,10 @@ impl Kept {
     }
 
     /// What is known of the followers of an entry that read or write rows, below a number.
-    fn next_in_rows(&self, cell: Cell, high: u64, after: u64) -> Next
+    fn next_in_rows(&self, cell: &Cell, high: u64, after: u64) -> Next
         requires kept { AreQueuesKept self.now }
-        requires row_in { cell.row < length self.now.rows.names.keys }
-        ensures { IsKnownNext (IsNextInMode self.now cell high) after result }
+        requires row_in { cell.now.row < length self.now.rows.names.keys }
+        ensures { IsKnownNext (IsNextInMode self.now cell.now high) after result }
     {
         let reads = self.reads.as_slice();
         let writes = self.writes.as_slice();

@@ -46,6 +46,7 @@ impl Lane {
     }
 
     /// Adds a mark at the back; after `NoMemory` the lane is as before.
+    #[inline(always)]
     pub fn push(&mut self, mark: Mark) -> Result<(), NoMemory>
         requires { AllIn (λ m. m.number < mark.number) self.old }
         ensures added { OnOk result (self.new ≡ self.old ++ mark ∷ []) }

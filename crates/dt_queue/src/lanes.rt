@@ -20,6 +20,7 @@ pub fn is_empty(lanes: &[Lane], place: usize) -> bool
 }
 
 /// Adds a mark at the back of the lane at a place; after `NoMemory` each lane has the marks that it had.
+#[inline(always)]
 pub fn push_mark(
     alloc: Global,
     lanes: &mut Vec<Lane>,

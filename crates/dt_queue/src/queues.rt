@@ -66,7 +66,7 @@ impl Queues {
         requires { IsQueued self.now slot }
         ensures { IfOk result (λ found. found.items ≡ map (λ w. w.vertex) (neighbours self.now slot)) }
     {
-        let marks = self.kept.near(alloc, self.kept.cells[slot])?;
+        let marks = self.kept.near(alloc, &self.kept.cells[slot])?;
         vertices(alloc, marks.as_slice())
     }
 
@@ -75,7 +75,7 @@ impl Queues {
         requires { IsQueued self.now slot }
         ensures { IfOk result (λ count. count ≡ count_by (λ n. not (n == vertex)) (map (λ w. w.vertex) (neighbours self.now slot))) }
     {
-        let cell = self.kept.cells[slot];
+        let cell = &self.kept.cells[slot];
         if self.kept.has_one_near(cell) {
             return Ok(other(self.kept.near_one(cell), vertex));
         }
@@ -90,9 +90,9 @@ impl Queues {
         requires place { IsQueued self.now place }
         ensures { result ≡ slice_get (map follower_of (followers_after self.now slot place)) 0 }
     {
-        let entry = self.kept.cells[slot];
-        let last = self.kept.cells[place];
-        if last.hides_from(&entry) {
+        let entry = &self.kept.cells[slot];
+        let last = &self.kept.cells[place];
+        if last.hides_from(entry) {
             return None;
         }
         let mark = self.kept.next(entry, last.number)?;

@@ -1,6 +1,7 @@
 ghost use Rattle.std.specs.Prelude.{◌≡◌, ◌<◌, [], slice_get, vec_len, Some, IfOk};
 ghost use Rattle.dt_lists.specs.Lists.{Has};
 
+use crate::used::Used;
 use dt_access::granule;
 use dt_text::{Key, NoMemory};
 use indexmap::IndexSet;
@@ -37,10 +38,9 @@ impl Rows {
         ensures kept { KeepsRows self.old self.new }
         ensures found { IfOk result (λ row. slice_get self.new.names.keys row ≡ Some (home, key.now)) }
     {
-        let name = (home, key.copy(alloc)?);
-        match self.names.get_index_of(&name) {
+        match self.names.get_index_of(Used { home, key }) {
             Some(row) => Ok(row),
-            None => self.add_row(alloc, name),
+            None => self.add_row(alloc, (home, key.copy(alloc)?)),
         }
     }
 

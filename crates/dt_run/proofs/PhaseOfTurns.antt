@@ -6,7 +6,6 @@ use Rattle.dt_lists.specs.Lists.{AllIn}
 use Rattle.dt_cluster.specs.declared.Cluster.{Cluster}
 use Rattle.dt_workload.specs.declared.Workload.{Workload}
 use Rattle.dt_run.specs.LinksInner.{BesideSoFar}
-use Rattle.dt_run.specs.NodesView.{NodesView}
 use Rattle.dt_run.specs.Phase.{EndsInStep, IsPhase}
 use Rattle.dt_run.specs.SeatsInner.{EndsAreApart, AreLinkedBy, AreSeated, EachGoes, SeatCan, SeatTurned, SeatView, no_seat, nodes_view, seat_at}
 use Rattle.dt_run.proofs.NodesAfterPhase.{phase_seated}

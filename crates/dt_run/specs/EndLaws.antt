@@ -26,6 +26,7 @@ AreAllTold v n = (region : ℕ) → region < v.cluster.regions → AreTold v.clu
 abbrev pub EachPhaseIsCounted : Type 0
 EachPhaseIsCounted = (before after : NodesView) (n : AreNodes before) → before.broken ≡ false → IsPhase before after → EndsInStep before after → PhaseIsCounted before after
 
+-- after each phase, a run that was to come to an end still is
 abbrev pub EachPhaseLeadsToAnEnd : Type 0
 EachPhaseLeadsToAnEnd =
     (before after : NodesView) (n : AreNodes before) → before.broken ≡ false → AreAllTold before n → IsPhase before after → EndsInStep before after → AreNodes after

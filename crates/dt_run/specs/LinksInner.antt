@@ -14,6 +14,7 @@ pub record LinkGoes (out : RingOutView) (inlet : RingInView) (out' : RingOutView
 abbrev pub out_at : List SeatView → ℕ → ℕ → RingOutView → RingOutView
 out_at seats source target d = get_or (seat_at seats source).outs (link_to source target) d
 
+-- and its other end
 abbrev pub in_at : List SeatView → ℕ → ℕ → RingInView → RingInView
 in_at seats source target e = get_or (seat_at seats target).ins (link_to target source) e
 

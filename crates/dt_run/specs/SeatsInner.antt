@@ -45,10 +45,11 @@ new_seat node = record { node = node; ins = []; outs = []; marks = []; failed = 
 abbrev pub AreNew : List SeatView → Type 0
 AreNew seats = AllIn (λ s. s ≡ new_seat s.node) seats
 
--- what is seen of an outlet and what waits at an inlet
+-- what is seen of an outlet
 abbrev pub seen_out : RingOutView → OutletView
 seen_out out = record { put = out.put; free = out.free }
 
+-- what waits at an inlet, in order
 abbrev pub waits_in : RingInView → List Packet
 waits_in inlet = inlet.waits
 

@@ -12,7 +12,7 @@ use crate::seat::Seat;
 use crate::turns::turn_with;
 use dt_cluster::Cluster;
 use dt_lock::Gate;
-use dt_pool::{Helper, Named};
+use dt_pool::{Helper, Lending};
 use dt_sched::Scheduler;
 use dt_text::NoMemory;
 use dt_workload::Workload;
@@ -58,7 +58,7 @@ impl<S: Scheduler + Drop> Course<S> {
 
 impl<S: Scheduler + Drop + Send> Course<S> {
     /// Makes one phase. Helpers that there are make as many of its turns; without any it starts threads of its own.
-    pub fn phase<R: Threads + Wait + Sync, G: Gate, N: Named<Seat<S>>>(
+    pub fn phase<R: Threads + Wait + Sync, G: Gate, N: Lending<Seat<S>>>(
         &mut self,
         rt: &R,
         alloc: Global,

@@ -15,7 +15,7 @@ use crate::nodes::Nodes;
 use crate::seat::Seat;
 use crate::turns::turn_seat;
 use dt_lock::Gate;
-use dt_pool::{Helper, Link, Named, Server, hire, links};
+use dt_pool::{Helper, Lending, Link, Server, hire, links};
 use dt_proc::Procs;
 use dt_report::Report;
 use dt_sched::Scheduler;
@@ -90,7 +90,7 @@ fn with_links<
     R: Threads + Wait + Sync,
     S: Scheduler + Drop + Send,
     G: Gate,
-    N: Named<Seat<S>> + Send,
+    N: Lending<Seat<S>> + Send,
 >(
     rt: &R,
     alloc: Global,
@@ -144,7 +144,7 @@ fn with_links<
 }
 
 /// Makes the turns of the seats that are lent to a helper.
-fn help<R: Threads + Wait + Sync, S: Scheduler + Drop + Send, G: Gate, N: Named<Seat<S>>>(
+fn help<R: Threads + Wait + Sync, S: Scheduler + Drop + Send, G: Gate, N: Lending<Seat<S>>>(
     rt: &R,
     alloc: Global,
     theirs: Server<Seat<S>, N>,
@@ -166,7 +166,7 @@ fn help<R: Threads + Wait + Sync, S: Scheduler + Drop + Send, G: Gate, N: Named<
 }
 
 /// Makes phases until all is done, with these helpers. It fails only in a phase.
-fn make_phases<R: Threads + Wait + Sync, S: Scheduler + Drop + Send, G: Gate, N: Named<Seat<S>>>(
+fn make_phases<R: Threads + Wait + Sync, S: Scheduler + Drop + Send, G: Gate, N: Lending<Seat<S>>>(
     rt: &R,
     alloc: Global,
     setting: &Setting,

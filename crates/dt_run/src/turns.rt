@@ -7,7 +7,7 @@ ghost use Rattle.dt_run.specs.HelpersInner.{LendsTurns};
 
 use crate::seat::Seat;
 use dt_lock::{By, Gate, round};
-use dt_pool::{Helper, Named, lend_last, take_back};
+use dt_pool::{Helper, Lending, lend_last, take_back};
 use dt_proc::Procs;
 use dt_region::Region;
 use dt_sched::Scheduler;
@@ -19,7 +19,12 @@ use std::thread::Threads;
 
 /// One turn at every seat. Where there are helpers, each makes the turn of one of the last seats; else the turns are made in n
 /// threads, where they can be made.
-pub fn turn_with<S: Scheduler + Drop + Send, R: Threads + Wait + Sync, G: Gate, N: Named<Seat<S>>>(
+pub fn turn_with<
+    S: Scheduler + Drop + Send,
+    R: Threads + Wait + Sync,
+    G: Gate,
+    N: Lending<Seat<S>>,
+>(
     rt: &R,
     alloc: Global,
     seats: &mut Vec<Seat<S>>,

@@ -2,6 +2,7 @@
 -- as little room as a number. Read next: SubsetInner.antt of dt_graph, where places are kept so.
 use Rattle.std.specs.Prelude.{ℕ, zero, suc, Option, None, Some}
 
+-- the place that a number stands for: none for 0
 abbrev pub place_before : ℕ → Option ℕ
 place_before zero = None
 place_before (suc place) = Some place

@@ -9,5 +9,5 @@ invariant-loop-place g l = record {
   len : vec_len l.items ≡ vec_len l.fn.items + l.place;
   room : vec_capacity l.fn.items ≤ vec_capacity l.items;
   front : (k : ℕ) (d : g.row.X.Denot) → k < vec_len l.fn.items → slice_index_or l.items.items k d ≡ slice_index_or l.fn.items.items k d;
-  back : (k : ℕ) (d old : g.row.X.Denot) → k < l.place → slice_get l.fn.helpers k ≡ Some (Some old) → g.N.Named.goes old (slice_index_or l.items.items (vec_len l.fn.items + k) d);
+  back : (k : ℕ) (d old : g.row.X.Denot) → k < l.place → slice_get l.fn.helpers k ≡ Some (Some old) → g.N.Lending.goes old (slice_index_or l.items.items (vec_len l.fn.items + k) d);
 }

@@ -14,7 +14,7 @@ granule_of-granule-requires c = let k = c.args.self.now in omega (arith, c.requi
 pub returns-then-is_empty : goal.returns-then-is_empty
 returns-then-is_empty c =
     let k = c.args.self.now in
-    let x = c.args.cell in
+    let x = c.args.cell.now in
     let o = c.last_between-whole.result in
     let last : IsLastBetween 0 x.number (lane k Whole (granule_at k.rows x.row)) o = rw (c.as_slice.ensures.value, c.granule_of-granule.ensures) at c.last_between-whole.ensures in
     let none = empty_of c.in_ok-marks.marks.items _ c.is_empty.result refl c.is_empty.ensures c.if-is_empty.true in
@@ -24,7 +24,7 @@ returns-then-is_empty c =
 pub returns : goal.returns
 returns c =
     let k = c.args.self.now in
-    let x = c.args.cell in
+    let x = c.args.cell.now in
     let o = c.last_between-whole.result in
     let last : IsLastBetween 0 x.number (lane k Whole (granule_at k.rows x.row)) o = rw (c.as_slice.ensures.value, c.granule_of-granule.ensures) at c.last_between-whole.ensures in
     let some = some_of c.in_ok-marks.marks.items _ c.is_empty.result refl c.is_empty.ensures c.if-is_empty.false in

@@ -7,7 +7,7 @@ pub granule_of-requires : goal.granule_of-requires
 granule_of-requires c = let k = c.args.self.now in omega (arith, c.requires.row_in, c.requires.kept.linked.each_row, k.rows.granule_of.ok.0)
 
 pub near_write-requires : goal.near_write-requires
-near_write-requires c = rw c.as_slice-writes.ensures.value (c.requires.kept.lanes Write c.args.cell.row).numbered
+near_write-requires c = rw c.as_slice-writes.ensures.value (c.requires.kept.lanes Write c.args.cell.now.row).numbered
 
 pub near_row-requires : goal.near_row-requires
 near_row-requires c = rw (c.as_slice-reads.ensures.value, c.as_slice-writes.ensures.value) (apart_lanes c.args.self.now c.requires.kept)

@@ -13,7 +13,7 @@ granule_of-granule-requires c = let k = c.args.self.now in omega (arith, c.requi
 pub returns : goal.returns
 returns c =
     let k = c.args.self.now in
-    let x = c.args.cell in
+    let x = c.args.cell.now in
     let o = c.last_between-whole.result in
     let w = c.last_between-write.result in
     let last : IsLastBetween 0 x.number (lane k Whole (granule_at k.rows x.row)) o = rw (c.as_slice.ensures.value, c.granule_of-granule.ensures) at c.last_between-whole.ensures in

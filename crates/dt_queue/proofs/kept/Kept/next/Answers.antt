@@ -13,7 +13,7 @@ granule_of-granule-requires c = let k = c.args.self.now in omega (arith, c.requi
 pub returns-then-any : goal.returns-then-any
 returns-then-any c =
     let k = c.args.self.now in
-    let x = c.args.cell in
+    let x = c.args.cell.now in
     let o = c.first_between-whole.result in
     let within : k.next_number ≤ 18446744073709551615 = omega (arith, c.requires.kept.last) in
     let first : IsFirstBetween x.number 18446744073709551615 (lane k Whole (granule_at k.rows x.row)) o = rw (c.as_slice.ensures.value, c.granule_of-granule.ensures) at c.first_between-whole.ensures in
@@ -23,7 +23,7 @@ returns-then-any c =
 pub returns : goal.returns
 returns c =
     let k = c.args.self.now in
-    let x = c.args.cell in
+    let x = c.args.cell.now in
     let o = c.first_between-whole.result in
     let within : k.next_number ≤ 18446744073709551615 = omega (arith, c.requires.kept.last) in
     let first : IsFirstBetween x.number 18446744073709551615 (lane k Whole (granule_at k.rows x.row)) o = rw (c.as_slice.ensures.value, c.granule_of-granule.ensures) at c.first_between-whole.ensures in

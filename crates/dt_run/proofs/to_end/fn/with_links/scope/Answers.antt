@@ -30,11 +30,11 @@ pub loop-link-preserved-else-is_err-2 : goal.loop-link-preserved-else-is_err-2
 loop-link-preserved-else-is_err-2 g c =
     let one : vec_len c.pop.new.self + 1 ≡ vec_len c.loop-link.links = c.in-Some.ensures.cases in
     let last : vec_len c.loop-link.links - 1 ≡ vec_len c.pop.new.self = omega (arith, one) in
-    still_there g.N.Named.links c.loop-link.links.items c.pop.new.self.items (vec_len c.loop-link.links) (vec_len c.pop.new.self)
+    still_there g.N.Lending.links c.loop-link.links.items c.pop.new.self.items (vec_len c.loop-link.links) (vec_len c.pop.new.self)
     (subst (λ n. c.pop.new.self.items ≡ take n c.loop-link.links.items) last c.pop.ensures.rest) one c.loop-link.invariant
 
 pub hire-requires : goal.hire-requires
 hire-requires g c =
     let one : vec_len c.pop.new.self + 1 ≡ vec_len c.loop-link.links = c.in-Some.ensures.cases in
-    taken_there g.N.Named.links c.loop-link.links.items c.pop.new.self.items c.in-Some.link (vec_len c.loop-link.links) (vec_len c.pop.new.self) c.len.result
+    taken_there g.N.Lending.links c.loop-link.links.items c.pop.new.self.items c.in-Some.link (vec_len c.loop-link.links) (vec_len c.pop.new.self) c.len.result
     c.in-Some.ensures.items c.pop.new.self.ok.0 c.len.ensures one c.loop-link.invariant
