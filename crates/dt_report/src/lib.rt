@@ -16,5 +16,5 @@ mod words;
 
 pub use laws::texts_tell_events;
 pub use lines::{put_ran, put_reply};
-pub use printed::{begin_order, begin_text, print, print_shown, put_all_shown, put_events};
+pub use printed::{begin_order, begin_text, print, put_all_shown, put_events};
 pub use report::{EventList, Ran, Rans, Replies, Reply, Report, Tables};

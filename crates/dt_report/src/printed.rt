@@ -41,26 +41,6 @@ pub fn begin_text(alloc: Global, events: usize) -> Result<Vec<u8>, NoMemory>
     Ok(text)
 }
 
-/// The text of the report with these replies, this order, what these tables show, and these events. One row is written at a time, so
-/// that no list is made of what the tables show. The only error is running out of memory.
-pub fn print_shown(
-    alloc: Global,
-    replies: &[Reply],
-    order: &[Ran],
-    tables: &[&Table],
-    events: &[Event],
-) -> Result<Vec<u8>, NoMemory>
-    ensures { IfOk result (λ text. text.items ≡ report_text (record { replies = replies.now; order = order.now; tables = all_shown tables.now; events = events.now })) }
-{
-    let room = events.len().saturating_mul(BYTES_OF_AN_EVENT);
-    let mut text = Vec::with_capacity(alloc, room)?;
-    put_replies(alloc, &mut text, replies)?;
-    put_order(alloc, &mut text, order)?;
-    put_all_shown(alloc, &mut text, tables)?;
-    put_events(alloc, &mut text, events)?;
-    Ok(text)
-}
-
 /// Appends the section of the answers.
 fn put_replies(alloc: Global, out: &mut Vec<u8>, replies: &[Reply]) -> Result<(), NoMemory>
     ensures { OnOk result (out.new.items ≡ out.old.items ++ replies_text replies.now) }

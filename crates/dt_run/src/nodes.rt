@@ -126,8 +126,8 @@ impl<S: Scheduler + Drop> Nodes<S> {
         )
     }
 
-    /// The text of that report. The nodes are taken over, so that what the text does not need is freed before it is made, since
-    /// it may be long; and what tables show is written row by row, without a list of it.
+    /// The text of that report. The nodes are taken over, so that what the text no longer needs is freed while it is made, since
+    /// it may be long; and it is written line by line, without a list of its replies, attempts or rows.
     pub fn text(self, alloc: Global) -> Result<Vec<u8>, NoMemory>
         requires phases { 1 ≤ length (marks_at self 0) }
         requires sound { self.broken ≡ false }

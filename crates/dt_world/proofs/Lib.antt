@@ -12,6 +12,7 @@ pub mod GrowingNodes
 pub mod Executions
 pub mod Replay
 pub mod Reports
+pub mod TextByLines
 pub mod NothingLeftOut
 pub mod ReportLookups
 pub mod Callers

@@ -65,7 +65,7 @@ event_at told {held} same at r e lt is this = subst (λ l. slice_get l at ≡ So
 -- what an execution adds to the order, where its attempt was not executed before: these are the ids then
 pub record NotesNew (told : TellingView) (at region : ℕ) (id : TxnId) (new : List TxnId) : Type 0 where
   pub seen : new ≡ order_of (take (at + 1) told.events)
-  pub order : (r : Ran) → ran_at (world_told told) region id ≡ Some r → rans_at told at ++ r ∷ [] ≡ rans_at told (at + 1)
+  pub order : (r : Ran) → ran_at (world_told told) region id ≡ Some r → rans_at told (at + 1) ≡ rans_at told at ++ r ∷ []
 
 -- and where it was
 pub record NotesAgain (told : TellingView) (at : ℕ) (new : List TxnId) : Type 0 where
@@ -91,7 +91,7 @@ pub record FollowsAnswer (told : TellingView) (at region place : ℕ) (course : 
 pub record FollowsReply (told : TellingView) (at region : ℕ) (name : Bytes) (id : TxnId) : Type 0 where
   pub own : id.region ≡ region
   pub executed : IsExecutedAt (world_told told) region id
-  pub replies : (reply : Reply) → IsReply (world_told told) region name id reply → replies_at told at ++ reply ∷ [] ≡ replies_at told (at + 1)
+  pub replies : (reply : Reply) → IsReply (world_told told) region name id reply → replies_at told (at + 1) ≡ replies_at told at ++ reply ∷ []
 
 module _ {told : TellingView} (led : LedTo told) where
   -- the tables that sites keep are those of the report
@@ -126,9 +126,8 @@ module _ {told : TellingView} (led : LedTo told) where
       rans_again there = ap (filter_map (ran_of told.cluster told.workload told.events)) (sym (order_again told.cluster led.valid told.workload led.fits told.events led.legal at region id item
           (subst (λ l. is_among l id ≡ true) before there)))
 
-      rans_new : is_among keys id ≡ false → (r : Ran) → ran_at (world_told told) region id ≡ Some r → rans_at told at ++ r ∷ [] ≡ rans_at told (at + 1)
-      rans_new absent r is = sym (rans_more told.cluster led.valid told.workload led.fits told.events led.legal at region id r item
-          (subst (λ l. is_among l id ≡ false) before absent) is)
+      rans_new : is_among keys id ≡ false → (r : Ran) → ran_at (world_told told) region id ≡ Some r → rans_at told (at + 1) ≡ rans_at told at ++ r ∷ []
+      rans_new absent r is = rans_more told.cluster led.valid told.workload led.fits told.events led.legal at region id r item (subst (λ l. is_among l id ≡ false) before absent) is
 
       pub notes_new : is_among keys id ≡ false → NotesNew told at region id new
       notes_new absent = record { seen = seen_new absent; order = rans_new absent }
@@ -250,15 +249,15 @@ module _ {told : TellingView} (led : LedTo told) where
         reply_executed = subst (λ w. IsExecutedAt w region id) (sym the_end)
             (answer_executed told.cluster led.valid told.workload led.fits (take at told.events) (drop (at + 1) told.events) region name (legal_split at (Answer region name) item) place found id waits_then)
 
-        reply_added : (reply : Reply) → IsReply (world_told told) region name id reply → replies_at told at ++ reply ∷ [] ≡ replies_at told (at + 1)
+        reply_added : (reply : Reply) → IsReply (world_told told) region name id reply → replies_at told (at + 1) ≡ replies_at told at ++ reply ∷ []
         reply_added reply r =
             let added : replies_from told.cluster told.workload (take at told.events ++ Answer region name ∷ drop (at + 1) told.events) (opening_world told.cluster told.workload) (take at told.events ++ Answer region name ∷ [])
             ≡ replies_from
             told.cluster told.workload (take at told.events ++ Answer region name ∷ drop (at + 1) told.events) (opening_world told.cluster told.workload) (take at told.events) ++ reply ∷ [] =
             answer_replies told.cluster led.valid told.workload led.fits (take at told.events) (drop (at + 1) told.events) region name (legal_split at (Answer region name) item) place found id waits_then reply
             (subst (λ w. IsReply w region name id reply) the_end r) in
-            sym (subst₂ (λ (all now : List Event). replies_from told.cluster told.workload all (opening_world told.cluster told.workload) now ≡ replies_from told.cluster told.workload all (opening_world told.cluster told.workload)
-            (take at told.events) ++ reply ∷ []) (sym (split_at told.events at (Answer region name) item).0) (sym (split_at told.events at (Answer region name) item).1) added)
+            subst₂ (λ (all now : List Event). replies_from told.cluster told.workload all (opening_world told.cluster told.workload) now ≡ replies_from told.cluster told.workload all (opening_world told.cluster told.workload)
+            (take at told.events) ++ reply ∷ []) (sym (split_at told.events at (Answer region name) item).0) (sym (split_at told.events at (Answer region name) item).1) added
 
         pub follows_reply : FollowsReply told at region name id
         follows_reply = record { own = reply_own; executed = reply_executed; replies = reply_added }

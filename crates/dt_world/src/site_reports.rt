@@ -2,14 +2,14 @@
 //!
 //! Outcomes, whose an attempt is, and rows stand in the sites, so nothing is executed again. The events are gone through for
 //! the order of first executions, and to follow what each session waits for, which sites do not keep.
-ghost use Rattle.std.specs.Prelude.{◌≡◌, ◌+◌, ◌<◌, length, map, position, take, Some, IfOk, OnOk};
+ghost use Rattle.std.specs.Prelude.{◌≡◌, ◌+◌, ◌<◌, ◌++◌, ℕ, List, flat_map, length, map, option_to_list, position, take, Some, IfOk, OnOk};
 ghost use Rattle.dt_lists.specs.Lists.{Distinct};
 ghost use Rattle.dt_table.specs.Table.{shown};
 ghost use Rattle.dt_workload.specs.Valid.{session_names};
 ghost use Rattle.dt_session.specs.World.{is_session};
 ghost use Rattle.dt_session.specs.Run.{order_of};
 ghost use Rattle.dt_agreement.specs.Invariant.{IsExecutedAt};
-ghost use Rattle.dt_report.specs.Report.{report_text};
+ghost use Rattle.dt_report.specs.Report.{order_text, reply_line, report_text};
 ghost use Rattle.dt_report.specs.ShownTables.{all_shown};
 ghost use Rattle.dt_world.specs.SessionReplay.{IsReply, ran_at, rans_at, replay_at, replies_at};
 ghost use Rattle.dt_world.specs.Telling.{AreSitesAfter, LedTo, world_told};
@@ -19,7 +19,10 @@ use crate::session_replay::SessionReplay;
 use dt_access::TxnId;
 use dt_cluster::Cluster;
 use dt_events::Event;
-use dt_report::{EventList, Ran, Rans, Replies, Reply, Report, Tables, print_shown};
+use dt_report::{
+    EventList, Ran, Rans, Replies, Reply, Report, Tables, begin_order, begin_text, put_all_shown,
+    put_events, put_ran, put_reply,
+};
 use dt_sched::Scheduler;
 use dt_site::Site;
 use dt_table::Table;
@@ -79,8 +82,9 @@ pub fn report_of_sites<S: Scheduler + Drop>(
     })
 }
 
-/// The text of the report of events, read off the sites of all regions, each as it is after them. What a table shows is written
-/// row by row, so no list is made of it; and the cluster and the workload are freed before, since the text is long.
+/// The text of the report of events, read off the sites of all regions, each as it is after them. Replies, attempts and rows are
+/// written one by one as they are found, so no list is made of them; and the cluster and the workload are freed as soon as the
+/// replies and the attempts are written, since the text is long.
 pub fn text_of_sites<S: Scheduler + Drop>(
     alloc: Global,
     cluster: Cluster,
@@ -91,17 +95,38 @@ pub fn text_of_sites<S: Scheduler + Drop>(
     requires { AreSitesAfter cluster workload events.now (map (λ site. site.now) sites.now) }
     ensures { IfOk result (λ text. text.items ≡ report_text (report_of cluster workload events.now)) }
 {
-    let (replies, order) = replies_and_order(alloc, &cluster, &workload, &*sites, &*events)?;
+    let mut text = begin_text(alloc, events.len())?;
+    put_replies_and_order(alloc, &mut text, &cluster, &workload, &*sites, &*events)?;
     drop(cluster);
     drop(workload);
     let tables = tables_lent(alloc, sites)?;
-    print_shown(
-        alloc,
-        replies.as_slice(),
-        order.as_slice(),
-        tables.as_slice(),
+    put_all_shown(alloc, &mut text, tables.as_slice())?;
+    put_events(alloc, &mut text, events)?;
+    Ok(text)
+}
+
+/// Appends the lines of the replies that the events give, and the section of the executed attempts in the serial order.
+fn put_replies_and_order<'a, 'b, S: Scheduler + Drop>(
+    alloc: Global,
+    out: &mut Vec<u8>,
+    cluster: &'a Cluster,
+    workload: &'a Workload,
+    sites: &'a [&'b Site<S>],
+    events: &'a [Event],
+) -> Result<(), NoMemory>
+    requires { AreSitesAfter cluster.now workload.now events.now (map (λ site. site.now) sites.now) }
+    ensures { OnOk result (out.new.items ≡ (out.old.items
+        ++ flat_map reply_line (replies_of cluster.now workload.now events.now))
+        ++ order_text (rans_of cluster.now workload.now events.now)) }
+{
+    let telling = Telling {
+        cluster,
+        workload,
+        sites,
         events,
-    )
+    };
+    telling.put_replies(alloc, out)?;
+    telling.put_order(alloc, out)
 }
 
 /// The replies that the events give, and the executed attempts in the serial order.
@@ -134,35 +159,50 @@ impl<'a, 'b, S: Scheduler + Drop> Telling<'a, 'b, S> {
         let mut seen = IndexSet::new(alloc);
         let mut order = Rans::new(alloc);
         for at in 0..self.events.len() {
-            self.note(alloc, &mut seen, &mut order, self.events, at)?;
+            if let Some(ran) = self.note(alloc, &mut seen, self.events, at)? {
+                order.push(ran)?;
+            }
         }
         Ok(order)
     }
 
-    /// Notes what an event executes, if it is the first to do so.
+    /// Appends the section of the executed attempts, in the order of their first executions.
+    fn put_order(&self, alloc: Global, out: &mut Vec<u8>) -> Result<(), NoMemory>
+        requires { LedTo self.now }
+        ensures { OnOk result (out.new.items ≡ out.old.items ++ order_text (rans_of self.now.cluster self.now.workload self.now.events)) }
+    {
+        begin_order(out)?;
+        let mut seen = IndexSet::new(alloc);
+        for at in 0..self.events.len() {
+            if let Some(ran) = self.note(alloc, &mut seen, self.events, at)? {
+                put_ran(alloc, out, &ran)?;
+            }
+        }
+        Ok(())
+    }
+
+    /// The attempt that an event executes, if it is the first to do so, which is noted.
     fn note(
         &self,
         alloc: Global,
         seen: &mut IndexSet<TxnId>,
-        order: &mut Rans,
         events: &[Event],
         at: usize,
-    ) -> Result<(), NoMemory>
+    ) -> Result<Option<Ran>, NoMemory>
         requires led { LedTo self.now }
         requires events { events.now ≡ self.now.events }
         requires at { at < length events.now }
         requires seen { seen.old.keys ≡ order_of (take at self.now.events) }
-        requires order { order.old ≡ rans_at self.now at }
         ensures seen { OnOk result (seen.new.keys ≡ order_of (take (at + 1) self.now.events)) }
-        ensures order { OnOk result (order.new ≡ rans_at self.now (at + 1)) }
+        ensures ran { IfOk result (λ ran. rans_at self.now (at + 1) ≡ rans_at self.now at ++ option_to_list ran) }
     {
         let Event::Execute { region, id } = &events[at] else {
-            return Ok(());
+            return Ok(None);
         };
-        if seen.insert(*id)? {
-            order.push(self.ran(alloc, *region, *id)?)?;
+        if !seen.insert(*id)? {
+            return Ok(None);
         }
-        Ok(())
+        Ok(Some(self.ran(alloc, *region, *id)?))
     }
 
     /// An attempt that a region has executed, with its outcome.
@@ -197,18 +237,34 @@ impl<'a, 'b, S: Scheduler + Drop> Telling<'a, 'b, S> {
         let mut replay = SessionReplay::new(alloc, sessions, self.cluster.regions)?;
         let mut replies = Replies::new(alloc);
         for at in 0..self.events.len() {
-            self.follow(alloc, &names, &mut replay, &mut replies, self.events, at)?;
+            if let Some(reply) = self.follow(alloc, &names, &mut replay, self.events, at)? {
+                replies.push(reply)?;
+            }
         }
         Ok(replies)
     }
 
-    /// Follows what an event does to sessions, and adds the reply that it gives, if it is an answer.
-    fn follow(
+    /// Appends the lines of the answers that the events give, in their order.
+    fn put_replies(&self, alloc: Global, out: &mut Vec<u8>) -> Result<(), NoMemory>
+        requires { LedTo self.now }
+        ensures { OnOk result (out.new.items ≡ out.old.items ++ flat_map reply_line (replies_of self.now.cluster self.now.workload self.now.events)) }
+    {
+        let names = names_of(alloc, self.workload)?;
+        let sessions = self.workload.sessions.len();
+        let mut replay = SessionReplay::new(alloc, sessions, self.cluster.regions)?;
+        for at in 0..self.events.len() {
+            self.put_followed(alloc, out, &names, &mut replay, self.events, at)?;
+        }
+        Ok(())
+    }
+
+    /// Follows what an event does to sessions, and appends the line of the reply that it gives, if it is an answer.
+    fn put_followed(
         &self,
         alloc: Global,
+        out: &mut Vec<u8>,
         names: &IndexSet<Name>,
         replay: &mut SessionReplay,
-        replies: &mut Replies,
         events: &[Event],
         at: usize,
     ) -> Result<(), NoMemory>
@@ -217,9 +273,32 @@ impl<'a, 'b, S: Scheduler + Drop> Telling<'a, 'b, S> {
         requires at { at < length events.now }
         requires names { names.now.keys ≡ session_names self.now.workload.sessions }
         requires replay { replay.old ≡ replay_at self.now at }
-        requires replies { replies.old ≡ replies_at self.now at }
         ensures replay { OnOk result (replay.new ≡ replay_at self.now (at + 1)) }
-        ensures replies { OnOk result (replies.new ≡ replies_at self.now (at + 1)) }
+        ensures lines { OnOk result ((start : List ℕ) → out.old.items ≡ start ++ flat_map reply_line (replies_at self.now at)
+            → out.new.items ≡ start ++ flat_map reply_line (replies_at self.now (at + 1))) }
+    {
+        let Some(reply) = self.follow(alloc, names, replay, events, at)? else {
+            return Ok(());
+        };
+        put_reply(alloc, out, &reply)
+    }
+
+    /// Follows what an event does to sessions. The reply that it gives, if it is an answer.
+    fn follow(
+        &self,
+        alloc: Global,
+        names: &IndexSet<Name>,
+        replay: &mut SessionReplay,
+        events: &[Event],
+        at: usize,
+    ) -> Result<Option<Reply>, NoMemory>
+        requires led { LedTo self.now }
+        requires events { events.now ≡ self.now.events }
+        requires at { at < length events.now }
+        requires names { names.now.keys ≡ session_names self.now.workload.sessions }
+        requires replay { replay.old ≡ replay_at self.now at }
+        ensures replay { OnOk result (replay.new ≡ replay_at self.now (at + 1)) }
+        ensures reply { IfOk result (λ reply. replies_at self.now (at + 1) ≡ replies_at self.now at ++ option_to_list reply) }
     {
         match &events[at] {
             Event::Submit { region, session } => {
@@ -227,7 +306,7 @@ impl<'a, 'b, S: Scheduler + Drop> Telling<'a, 'b, S> {
                     unreachable!()
                 };
                 replay.submit(place, *region);
-                Ok(())
+                Ok(None)
             }
             Event::Answer { region, session } => {
                 let Some(place) = self.find(names, *region, session) else {
@@ -238,9 +317,9 @@ impl<'a, 'b, S: Scheduler + Drop> Telling<'a, 'b, S> {
                 };
                 let reply = self.reply(alloc, *region, session, id)?;
                 replay.answer(place);
-                replies.push(reply)
+                Ok(Some(reply))
             }
-            _ => Ok(()),
+            _ => Ok(None),
         }
     }
 

@@ -376,8 +376,8 @@ impl<S: Scheduler + Drop> World<S> {
     }
 
     /// The text of the report of the events that led to this world, from its opening on, and the sites of the world's regions,
-    /// which the caller may drop or leave to the end of the program. What the text does not need is freed before it is made, since
-    /// the text is long.
+    /// which the caller may drop or leave to the end of the program. What the text does not need is freed before it is made, and
+    /// what it no longer needs meanwhile, since the text is long.
     pub fn text(self, alloc: Global, events: &[Event]) -> Result<(Vec<u8>, Vec<Site<S>>), NoMemory>
         requires legal { AreLegal self.cluster self.workload events.now }
         requires reached { self.state ≡ world_after self.cluster self.workload events.now }

@@ -1,8 +1,8 @@
-use Rattle.std.proofs.Common.{◌≡◌, ◌+◌, [], ◌∷◌, ◌++◌, refl, sym, ap, ◌∙◌, inl, inr}
-use Rattle.std.proofs.lemmas.Result.{on_ok_weaker}
+use Rattle.std.proofs.Common.{◌≡◌, ◌+◌, refl, sym, ◌∙◌, inl, inr}
 use Rattle.dt_events.specs.declared.Event.TheVariants.{Submit, Answer}
 use Rattle.dt_world.specs.SessionReplay.{replay_at, replies_at}
 use Rattle.dt_world.proofs.Reports.{follows_answer, follows_reply, follows_submission, event_at, plain_event, session_listed}
+use Rattle.dt_world.proofs.TextByLines.{none_more}
 use Rattle.dt_world.proofs.site_reports.Telling.follow.Goals as goal
 
 pub unreachable-requires : goal.unreachable-requires
@@ -71,25 +71,24 @@ returns-in-Some-clause-replay g c =
     let follows = follows_submission c.requires.led c.args.at c.in-Submit.region c.in-Submit.session event c.in-Some.place (sym c.find.ensures ∙ c.in-Some.is) c.args.replay.now c.requires.replay in
     c.submit.ensures ∙ follows.replay
 
-pub returns-in-Some-clause-replies : goal.returns-in-Some-clause-replies
-returns-in-Some-clause-replies g c =
+pub returns-in-Some-clause-reply : goal.returns-in-Some-clause-reply
+returns-in-Some-clause-reply g c =
     let event = event_at c.args.self.now c.requires.events c.args.at c.index-events-at.result (Submit c.in-Submit.region c.in-Submit.session) c.requires.at c.index-events-at.is c.in-Submit.is in
     let follows = follows_submission c.requires.led c.args.at c.in-Submit.region c.in-Submit.session event c.in-Some.place (sym c.find.ensures ∙ c.in-Some.is) c.args.replay.now c.requires.replay in
-    c.requires.replies ∙ follows.replies
+    none_more follows.replies
 
 pub returns-in_ok-reply-in-Answer-clause-replay : goal.returns-in_ok-reply-in-Answer-clause-replay
 returns-in_ok-reply-in-Answer-clause-replay g c =
     let event = event_at c.args.self.now c.requires.events c.args.at c.index-events-at.result (Answer c.in-Answer.region c.in-Answer.session) c.requires.at c.index-events-at.is c.in-Answer.is in
     let follows = follows_answer c.requires.led c.args.at c.in-Answer.region c.in-Answer.session event c.in-Some-find.place (sym c.find-in-Answer.ensures ∙ c.in-Some-find.is) c.args.replay.now c.requires.replay in
-    on_ok_weaker c.push.result (λ pushed. c.answer.ensures ∙ follows.replay) c.push.ensures.added
+    c.answer.ensures ∙ follows.replay
 
-pub returns-in_ok-reply-in-Answer-clause-replies : goal.returns-in_ok-reply-in-Answer-clause-replies
-returns-in_ok-reply-in-Answer-clause-replies g c =
+pub returns-in_ok-reply-in-Answer-clause-reply : goal.returns-in_ok-reply-in-Answer-clause-reply
+returns-in_ok-reply-in-Answer-clause-reply g c =
     let event = event_at c.args.self.now c.requires.events c.args.at c.index-events-at.result (Answer c.in-Answer.region c.in-Answer.session) c.requires.at c.index-events-at.is c.in-Answer.is in
     let reply = follows_reply c.requires.led c.args.at c.in-Answer.region c.in-Answer.session event c.in-Some-find.place (sym c.find-in-Answer.ensures ∙ c.in-Some-find.is) c.args.replay.now c.requires.replay
     c.in-Some-waits.id (sym c.waits.ensures ∙ c.in-Some-waits.is) in
-    on_ok_weaker c.push.result
-    (λ e. e ∙ ap (λ l. l ++ c.in_ok-reply-in-Answer.reply ∷ []) c.requires.replies ∙ reply.replies c.in_ok-reply-in-Answer.reply c.in_ok-reply-in-Answer.ensures) c.push.ensures.added
+    reply.replies c.in_ok-reply-in-Answer.reply c.in_ok-reply-in-Answer.ensures
 
 pub returns-in_default : goal.returns-in_default
 returns-in_default g c =
@@ -97,4 +96,4 @@ returns-in_default g c =
     let plain : (replay_at c.args.self.now c.args.at ≡ replay_at c.args.self.now (c.args.at + 1))
     × (replies_at c.args.self.now c.args.at ≡ replies_at c.args.self.now (c.args.at + 1)) =
     plain_event c.requires.led c.args.at c.index-events-at.result event (λ r n. c.in_default.not-Submit r n) (λ r n. c.in_default.not-Answer r n) in
-    record { replay = c.requires.replay ∙ plain.0; replies = c.requires.replies ∙ plain.1 }
+    record { replay = c.requires.replay ∙ plain.0; reply = none_more plain.1 }
