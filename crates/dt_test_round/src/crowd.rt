@@ -1,7 +1,7 @@
 //! That as many workers are at work at once as there may be, and never one more.
 
 use crate::feeding::Row;
-use crate::rounds::{Telling, parts, told_of};
+use crate::rounds::{GET, Telling, parts, told_of};
 use crate::wrong;
 use dt_access::TxnId;
 use dt_graph::QueueSched;
@@ -84,29 +84,39 @@ impl Gate for Crowd {
     }
 }
 
-/// Calls of which none waits for another.
-const PUTS: &[Row<'static>] = &[
-    (0, 1, 0, (b"put", &[b"d0", b"1"])),
-    (0, 2, 0, (b"put", &[b"d1", b"1"])),
-    (0, 3, 0, (b"put", &[b"d2", b"1"])),
-    (0, 4, 0, (b"put", &[b"d3", b"1"])),
-    (0, 5, 0, (b"put", &[b"d4", b"1"])),
-    (0, 6, 0, (b"put", &[b"d5", b"1"])),
-    (0, 7, 0, (b"put", &[b"d6", b"1"])),
-    (0, 8, 0, (b"put", &[b"d7", b"1"])),
-    (0, 9, 0, (b"put", &[b"d8", b"1"])),
-    (0, 10, 0, (b"put", &[b"d9", b"1"])),
-    (0, 11, 0, (b"put", &[b"da", b"1"])),
-    (0, 12, 0, (b"put", &[b"db", b"1"])),
-    (0, 13, 0, (b"put", &[b"dc", b"1"])),
-    (0, 14, 0, (b"put", &[b"dd", b"1"])),
-    (0, 15, 0, (b"put", &[b"de", b"1"])),
-    (0, 16, 0, (b"put", &[b"df", b"1"])),
-    (0, 17, 0, (b"put", &[b"dg", b"1"])),
-];
+/// So many calls of which none waits for another, since each reads a row that none writes.
+fn reads(alloc: Global, calls: u32) -> Result<Vec<Row<'static>>, Fail> {
+    let mut rows = Vec::new(alloc);
+    for seq in 1..=calls {
+        rows.push((0, seq, 0, GET))?;
+    }
+    Ok(rows)
+}
 
-/// How many workers there may be, and how many of these calls: more than workers, so that one of them goes on to a second call.
+/// How many workers there may be, and how many calls: more than workers, so that one of them goes on to a second call.
 const CROWDS: &[(u32, u32)] = &[(1, 2), (2, 3), (16, 17)];
+
+/// So many calls come to a region, which makes a round by so many workers that pass this gate.
+fn go_through<R: Threads + Wait + Sync>(
+    rt: &R,
+    alloc: Global,
+    procs: &Procs,
+    workers: u32,
+    calls: u32,
+    gate: &Crowd,
+) -> Result<(), Fail> {
+    let rows = reads(alloc, calls)?;
+    let _told = told_of::<R, QueueSched, Crowd>(
+        rt,
+        alloc,
+        procs,
+        parts(rows.as_slice()),
+        Some(workers),
+        gate,
+        Telling::Events,
+    )?;
+    Ok(())
+}
 
 /// Whether as many workers as there may be meet, never one more, and each of these calls passes.
 fn meet<R: Threads + Wait + Sync>(
@@ -116,19 +126,8 @@ fn meet<R: Threads + Wait + Sync>(
     workers: u32,
     calls: u32,
 ) -> Result<bool, Fail> {
-    let Some(rows) = PUTS.get(..calls as usize) else {
-        return Ok(false);
-    };
     let gate = Crowd::new(workers);
-    let _told = told_of::<R, QueueSched, Crowd>(
-        rt,
-        alloc,
-        procs,
-        parts(rows),
-        Some(workers),
-        &gate,
-        Telling::Events,
-    )?;
+    go_through(rt, alloc, procs, workers, calls, &gate)?;
     Ok(gate.has_seen(calls))
 }
 
