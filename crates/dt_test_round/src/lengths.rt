@@ -6,7 +6,7 @@ use crate::rounds::{Telling, parts, told_of};
 use crate::wrong;
 use dt_access::TxnId;
 use dt_graph::QueueSched;
-use dt_lock::Gate;
+use dt_lock::{Gate, NoGate};
 use dt_proc::Procs;
 use std::alloc::Global;
 use std::mem::forget;
@@ -119,5 +119,6 @@ fn check<R: Threads + Wait + Sync>(rt: &R, alloc: Global) -> Result<(), Fail> {
 
 #[test]
 fn long_calls_get_workers(rt: HostRuntime) -> Result<(), Fail> {
+    assert!(rt; !NoGate.holds());
     check(&rt, rt.alloc())
 }

@@ -16,6 +16,8 @@ mod backlog;
 #[cfg(test)]
 mod calls;
 #[cfg(test)]
+mod crowd;
+#[cfg(test)]
 mod feeding;
 #[cfg(test)]
 mod lengths;

@@ -182,7 +182,7 @@ pub const PUT: Call<'static> = (b"put", &[b"d", b"20"]);
 
 pub const PUT_H: Call<'static> = (b"put", &[b"h", b"30"]);
 
-const GET: Call<'static> = (b"get", &[b"d"]);
+pub const GET: Call<'static> = (b"get", &[b"d"]);
 
 /// In a cluster of two the home of `a` is region 1, and that of `b` region 0.
 const BA: Call<'static> = (b"xfer", &[b"b", b"a", b"3"]);
