@@ -31,3 +31,5 @@ mod requests;
 mod rounds;
 #[cfg(test)]
 mod steps;
+#[cfg(test)]
+mod twins;
