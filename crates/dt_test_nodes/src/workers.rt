@@ -2,59 +2,14 @@
 ghost use Rattle.std.specs.Prelude.{◌≡◌, false};
 
 use crate::cases::{Want, holds_in};
-use dt_access::TxnId;
 use dt_graph::QueueSched;
-use dt_lock::Gate;
 use dt_run::{Nodes, run};
+use dt_test_round::Meeting;
 use std::alloc::Global;
 use std::mem::forget;
 use std::sync::Wait;
-use std::sync::atomic::{AtomicU64, Ordering};
 use std::test::Fail;
 use std::thread::Threads;
-
-/// Notes how many workers passed, the numbers of their ids added up, and how many of them met no other one.
-#[derive(Drop)]
-struct Meeting {
-    begun: AtomicU64,
-    ids: AtomicU64,
-    alone: AtomicU64,
-}
-
-impl Meeting {
-    fn new() -> Self {
-        Meeting {
-            begun: AtomicU64::new(0),
-            ids: AtomicU64::new(0),
-            alone: AtomicU64::new(0),
-        }
-    }
-
-    /// Whether just the first two ids of a region passed, at once.
-    fn has_seen_two(&self) -> bool {
-        self.begun.load(Ordering::SeqCst) == 2
-            && self.ids.load(Ordering::SeqCst) == 3
-            && self.alone.load(Ordering::SeqCst) == 0
-    }
-}
-
-/// How often the first worker looks for a second one.
-const LOOKS: u64 = 100000000;
-
-impl Gate for Meeting {
-    fn between(&self, id: TxnId) {
-        self.ids.fetch_add(u64::from(id.seq), Ordering::SeqCst);
-        if self.begun.fetch_add(1, Ordering::SeqCst) > 0 {
-            return;
-        }
-        for _look in 0..LOOKS {
-            if self.begun.load(Ordering::SeqCst) > 1 {
-                return;
-            }
-        }
-        self.alone.fetch_add(1, Ordering::SeqCst);
-    }
-}
 
 /// Whether two workers of a run to the end meet.
 pub fn meet_in_run<R: Threads + Wait + Sync>(

@@ -1,3 +1,4 @@
 mod OneDelivery
 mod Opening
 mod OwnEvents
+mod StayEqual

@@ -1,1 +1,2 @@
+pub mod BegunRegion
 pub mod FedRegion

@@ -123,7 +123,7 @@ fn is_new<S: Scheduler>(alloc: Global, region: &Region<S>, txn: &Txn, home: u8) 
 }
 
 /// The transaction of a part that the region may be given.
-fn next<S: Scheduler>(
+pub fn next<S: Scheduler>(
     alloc: Global,
     region: &Region<S>,
     procs: &Procs,

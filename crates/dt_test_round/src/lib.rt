@@ -1,7 +1,11 @@
 //! Tests of rounds: what a region makes, by itself, of the parts that came to it, until nothing is left.
-//! A case is what came to it and the events that follow; there is no other code here.
+//! A case is what came to it and the events that follow. Besides the tests there is a gate at which two workers meet, which the tests of
+//! whole runs use too.
 #![tactic(auto)]
 
+mod meeting;
+
+pub use meeting::Meeting;
 #[cfg(test)]
 use std::test::Fail;
 
@@ -33,3 +37,5 @@ mod requests;
 mod rounds;
 #[cfg(test)]
 mod steps;
+#[cfg(test)]
+mod twins;

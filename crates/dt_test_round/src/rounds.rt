@@ -2,6 +2,7 @@
 ghost use Rattle.std.specs.Prelude.{◌≡◌, ◌<◌, ◌≤◌, List, IfOk, OnOk};
 ghost use Rattle.dt_proc.specs.Tree.{ProcTree};
 ghost use Rattle.dt_round.specs.Rounds.{CanRound};
+ghost use Rattle.dt_test_round.specs.BegunRegion.{begun_region};
 ghost use Rattle.dt_test_round.specs.FedRegion.{WasFed};
 
 use crate::calls::Call;
@@ -85,7 +86,8 @@ fn key_of(alloc: Global, bytes: &[u8]) -> Result<Key, Fail>
 pub fn begun<S: Scheduler>(alloc: Global, number: u8, regions: u8) -> Result<Region<S>, Fail>
     requires number { number < regions }
     requires regions { regions ≤ 8 }
-    ensures { (procs : List ProcTree) → IfOk result (WasFed procs 0) }
+    ensures region { IfOk result (λ region. region ≡ begun_region number regions) }
+    ensures fed { (procs : List ProcTree) → IfOk result (WasFed procs 0) }
 {
     let rows = [
         (key_of(alloc, b"a")?, Value::Int(10)),
@@ -120,7 +122,7 @@ fn go_on<R: Threads + Wait + Sync, S: Scheduler + Drop + Send, G: Gate>(
     workers: Option<u32>,
     gate: &G,
 ) -> Result<(), Fail>
-    requires { WasFed procs.now 0 region.old }
+    requires fed { WasFed procs.now 0 region.old }
 {
     feed(alloc, region, procs, story)?;
     match workers {

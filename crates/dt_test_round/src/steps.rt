@@ -1,10 +1,11 @@
-//! The steps under the lock of a region, one after another. The region is left to the end of the process: that it may be dropped would be
-//! proved again in each function that owns one.
+//! The steps under the lock of a region, one after another: what was worked earlier, in this region or in its twin, is not committed.
+//! Regions are left to the end of the process: that they may be dropped would be proved again in each function that owns one.
 ghost use Rattle.std.specs.Prelude.{◌≡◌};
 ghost use Rattle.dt_round.specs.Rounds.{CanRound};
 
 use crate::calls::Call;
 use crate::rounds::{Story, begun, feed, put_events};
+use crate::twins::twins;
 use dt_access::{TxnId, put_id};
 use dt_graph::QueueSched;
 use dt_lock::{Claim, Finished, Held, Named};
@@ -82,12 +83,13 @@ fn go_on<S: Scheduler + Drop, N: Named>(
     alloc: Global,
     held: &mut Held<S, N>,
     procs: &Procs,
+    steps: &[Step],
     done: &mut Vec<Finished<N>>,
     told: &mut Vec<u8>,
 ) -> Result<(), Fail>
     requires { procs.now ≡ N.procs }
 {
-    for step in &STEPS {
+    for step in steps {
         match *step {
             Step::Insert => {
                 if held.regions() == 0 || !held.insert(alloc, 0)? {
@@ -100,19 +102,6 @@ fn go_on<S: Scheduler + Drop, N: Named>(
         }
     }
     Ok(())
-}
-
-/// Makes these steps; what was worked is let go in the end.
-fn under_lock<S: Scheduler + Drop, N: Named>(
-    alloc: Global,
-    held: &mut Held<S, N>,
-    procs: &Procs,
-    told: &mut Vec<u8>,
-) -> Result<(), Fail>
-    requires { procs.now ≡ N.procs }
-{
-    let mut done = Vec::new(alloc);
-    go_on(alloc, held, procs, &mut done, told)
 }
 
 /// Takes off what is running; then the region leaves its lock. Tells its events.
@@ -151,7 +140,30 @@ fn stay<S: Scheduler + Drop, N: Named>(
     }
 }
 
-/// The steps of a region that is named so.
+/// Makes these steps in a region that is named so, which stays behind its lock until no claim is running.
+fn go_through<S: Scheduler + Drop, N: Named>(
+    alloc: Global,
+    region: Region<S>,
+    procs: &Procs,
+    steps: &[Step],
+    done: &mut Vec<Finished<N>>,
+    told: &mut Vec<u8>,
+) -> Result<(), Fail>
+    requires region { region ≡ N.before }
+    requires procs { procs.now ≡ N.procs }
+    requires can { CanRound N.procs N.before }
+{
+    let mut held = Held::<S, N>::enter(alloc, region);
+    match go_on(alloc, &mut held, procs, steps, done, told) {
+        Ok(()) => stay(alloc, held, told),
+        Err(fail) => {
+            forget(held);
+            Err(fail)
+        }
+    }
+}
+
+/// The steps of a region that is named so; what was worked is let go in the end.
 fn steps_named<S: Scheduler + Drop, N: Named>(
     alloc: Global,
     region: Region<S>,
@@ -162,18 +174,16 @@ fn steps_named<S: Scheduler + Drop, N: Named>(
     requires procs { procs.now ≡ N.procs }
     requires can { CanRound N.procs N.before }
 {
-    let mut held = Held::<S, N>::enter(alloc, region);
-    match under_lock(alloc, &mut held, procs, told) {
-        Ok(()) => stay(alloc, held, told),
-        Err(fail) => {
-            forget(held);
-            Err(fail)
-        }
-    }
+    let mut done = Vec::new(alloc);
+    go_through::<S, N>(alloc, region, procs, &STEPS, &mut done, told)
 }
 
 /// The steps of region 0 of two, of which two sessions submit a call, whose parts stand in its log.
-fn make<S: Scheduler + Drop>(alloc: Global, procs: &Procs, told: &mut Vec<u8>) -> Result<(), Fail> {
+fn alone<S: Scheduler + Drop>(
+    alloc: Global,
+    procs: &Procs,
+    told: &mut Vec<u8>,
+) -> Result<(), Fail> {
     let mut region: Region<S> = begun(alloc, 0, 2)?;
     match feed(alloc, &mut region, procs, STORY) {
         Ok(()) => steps_named::<S, Brand>(alloc, region, procs, told),
@@ -184,11 +194,82 @@ fn make<S: Scheduler + Drop>(alloc: Global, procs: &Procs, told: &mut Vec<u8>) -
     }
 }
 
+/// Works both in a twin, which is named as the region is, and is left behind its lock.
+fn work_in_twin<S: Scheduler + Drop, N: Named>(
+    alloc: Global,
+    twin: Region<S>,
+    procs: &Procs,
+    done: &mut Vec<Finished<N>>,
+    told: &mut Vec<u8>,
+) -> Result<(), Fail>
+    requires twin { twin ≡ N.before }
+    requires procs { procs.now ≡ N.procs }
+    requires can { CanRound N.procs N.before }
+{
+    let mut held = Held::<S, N>::enter(alloc, twin);
+    let made = go_on(alloc, &mut held, procs, &TWIN_STEPS, done, told);
+    forget(held);
+    made
+}
+
+/// The steps of a region and its twin that are named so.
+fn twin_steps_named<S: Scheduler + Drop, N: Named>(
+    alloc: Global,
+    twins: (Region<S>, Region<S>),
+    procs: &Procs,
+    told: &mut Vec<u8>,
+) -> Result<(), Fail>
+    requires region { twins.0 ≡ N.before }
+    requires twin { twins.1 ≡ N.before }
+    requires procs { procs.now ≡ N.procs }
+    requires can { CanRound N.procs N.before }
+{
+    let (region, twin) = twins;
+    let mut done = Vec::new(alloc);
+    match work_in_twin::<S, N>(alloc, twin, procs, &mut done, told) {
+        Ok(()) => go_through::<S, N>(alloc, region, procs, &OWN_STEPS, &mut done, told),
+        Err(fail) => {
+            forget(region);
+            Err(fail)
+        }
+    }
+}
+
+/// The steps of such a region and its twin.
+fn beside_twin<S: Scheduler + Drop>(
+    alloc: Global,
+    procs: &Procs,
+    told: &mut Vec<u8>,
+) -> Result<(), Fail> {
+    let twins = twins::<S>(alloc, procs)?;
+    twin_steps_named::<S, Brand>(alloc, twins, procs, told)
+}
+
+/// What was worked earlier: in the region itself, or in its twin.
+#[derive(Clone, Copy)]
+enum Earlier {
+    Itself,
+    Twin,
+}
+
+/// The steps where this was worked earlier.
+fn make<S: Scheduler + Drop>(
+    alloc: Global,
+    procs: &Procs,
+    earlier: Earlier,
+    told: &mut Vec<u8>,
+) -> Result<(), Fail> {
+    match earlier {
+        Earlier::Itself => alone::<S>(alloc, procs, told),
+        Earlier::Twin => beside_twin::<S>(alloc, procs, told),
+    }
+}
+
 /// What these steps make.
-fn told<S: Scheduler + Drop>(alloc: Global) -> Result<Vec<u8>, Fail> {
+fn told<S: Scheduler + Drop>(alloc: Global, earlier: Earlier) -> Result<Vec<u8>, Fail> {
     let mut told = Vec::new(alloc);
     let procs = builtin_procs(alloc)?;
-    let made = make::<S>(alloc, &procs, &mut told);
+    let made = make::<S>(alloc, &procs, earlier, &mut told);
     forget(procs);
     made?;
     Ok(told)
@@ -197,9 +278,9 @@ fn told<S: Scheduler + Drop>(alloc: Global) -> Result<Vec<u8>, Fail> {
 const FIRST: TxnId = TxnId { seq: 1, region: 0 };
 
 /// In a cluster of two the home of `b` and `d` is region 0.
-const PUT_B: Call<'static> = (b"put", &[b"b", b"1"]);
+pub const PUT_B: Call<'static> = (b"put", &[b"b", b"1"]);
 
-const PUT_D: Call<'static> = (b"put", &[b"d", b"2"]);
+pub const PUT_D: Call<'static> = (b"put", &[b"d", b"2"]);
 
 const STORY: Story<'static> = Story {
     number: 0,
@@ -226,6 +307,29 @@ const STEPS: [Step; 13] = [
     Step::Commit,
 ];
 
+/// Both are worked in the twin, while the region is not behind its lock yet.
+const TWIN_STEPS: [Step; 5] = [
+    Step::Insert,
+    Step::Insert,
+    Step::Work,
+    Step::Work,
+    Step::Work,
+];
+
+/// Both are worked in the region, and the first is committed, once: what came of it in the twin is not. The claim of the other one is
+/// running in the end.
+const OWN_STEPS: [Step; 9] = [
+    Step::Insert,
+    Step::Insert,
+    Step::Work,
+    Step::Work,
+    Step::Work,
+    Step::Commit,
+    Step::Commit,
+    Step::Commit,
+    Step::Commit,
+];
+
 /// What is told where the first is claimed first, and where the second is.
 const WANT: [&[u8]; 2] = [
     b"1.0 2.0 none 1.0 2.0 none +-5 insert 0 0\n6 insert 0 0\n7 execute 0 1.0\nfalse",
@@ -233,13 +337,20 @@ const WANT: [&[u8]; 2] = [
 ];
 
 /// Whether one of these texts is told.
-fn is_told<S: Scheduler + Drop>(alloc: Global) -> Result<bool, Fail> {
-    Ok(WANT.contains(&told::<S>(alloc)?.as_slice()))
+fn is_told<S: Scheduler + Drop>(alloc: Global, earlier: Earlier) -> Result<bool, Fail> {
+    Ok(WANT.contains(&told::<S>(alloc, earlier)?.as_slice()))
 }
 
 #[test]
 fn a_claim_is_committed_once(rt: HostRuntime) -> Result<(), Fail> {
-    assert!(rt; is_told::<PlainSched>(rt.alloc())?);
-    assert!(rt; is_told::<QueueSched>(rt.alloc())?);
+    assert!(rt; is_told::<PlainSched>(rt.alloc(), Earlier::Itself)?);
+    assert!(rt; is_told::<QueueSched>(rt.alloc(), Earlier::Itself)?);
+    Ok(())
+}
+
+#[test]
+fn what_a_twin_worked_is_not_committed_again(rt: HostRuntime) -> Result<(), Fail> {
+    assert!(rt; is_told::<PlainSched>(rt.alloc(), Earlier::Twin)?);
+    assert!(rt; is_told::<QueueSched>(rt.alloc(), Earlier::Twin)?);
     Ok(())
 }

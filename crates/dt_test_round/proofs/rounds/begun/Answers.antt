@@ -6,5 +6,5 @@ use Rattle.dt_test_round.proofs.rounds.begun.Goals as goal
 pub new-requires-2-clause-table : goal.new-requires-2-clause-table
 new-requires-2-clause-table g c = subst (IsTableFor c.args.regions) (sym c.in_ok-table.ensures) (rows_fit c.args.regions _)
 
-pub returns : goal.returns
-returns g c procs = fed_none procs c.args.number c.args.regions _ c.in_ok-new.field-0 _ c.in_ok-table.ensures c.in_ok-new.ensures.opening
+pub returns-clause-fed : goal.returns-clause-fed
+returns-clause-fed g c procs = fed_none procs c.args.number c.args.regions _ c.in_ok-new.field-0 _ c.in_ok-table.ensures c.in_ok-new.ensures.opening
