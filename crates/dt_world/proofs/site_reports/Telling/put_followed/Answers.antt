@@ -1,8 +1,8 @@
-use Rattle.std.proofs.Common.{◌++◌, ap, ◌∙◌}
-use Rattle.std.specs.Prelude.{option_to_list}
+use Rattle.std.proofs.Common.{◌≡◌, ◌+◌, ℕ, List, ◌++◌, ap, ◌∙◌}
+use Rattle.std.specs.Prelude.{flat_map, option_to_list}
 use Rattle.std.proofs.lemmas.Result.{on_ok_weaker}
 use Rattle.dt_report.specs.Report.{reply_line}
-use Rattle.dt_world.specs.SessionReplay.{replies_at}
+use Rattle.dt_world.specs.SessionReplay.{replay_at, replies_at}
 use Rattle.dt_world.proofs.TextByLines.{no_line, one_line}
 use Rattle.dt_world.proofs.site_reports.Telling.put_followed.Goals as goal
 
@@ -18,7 +18,8 @@ pub returns : goal.returns
 returns g c =
     let before = replies_at c.args.self.now c.args.at in
     record {
-      replay = on_ok_weaker c.put_reply.result (λ put. c.in_ok-reply.ensures.replay) c.put_reply.ensures;
-      lines = on_ok_weaker c.put_reply.result (λ put start written. one_line reply_line start before written c.in-Some.reply
+      replay = on_ok_weaker {Q = c.follow.new.replay ≡ replay_at c.args.self.now (c.args.at + 1)} c.put_reply.result (λ put. c.in_ok-reply.ensures.replay) c.put_reply.ensures;
+      lines = on_ok_weaker {Q = (start : List ℕ) → c.args.out.now.items ≡ start ++ flat_map reply_line before → c.put_reply.new.out.items ≡ start ++ flat_map reply_line (replies_at c.args.self.now (c.args.at + 1))}
+          c.put_reply.result (λ put start written. one_line reply_line start before written c.in-Some.reply
           (c.in_ok-reply.ensures.reply ∙ ap (λ o. before ++ option_to_list o) c.in-Some.is) put) c.put_reply.ensures;
     }
