@@ -20,7 +20,7 @@ use crate::by_id::ById;
 use crate::entries::{add, keep_all, parts_and_txns, place};
 use crate::foreign::Foreign;
 use crate::kept::Kept;
-use crate::opening::{no_counts, no_ids, no_parts};
+use crate::opening::{Lists, no_lists};
 use crate::requests::ask;
 use dt_access::{Ids, TxnId, are_ascending};
 use dt_events::{Event, Stamped};
@@ -85,18 +85,25 @@ impl<S: Scheduler> Region<S> {
         ensures opening { IfOk result (λ region. region ≡ record { state = opening_state number regions table.state; events = []; heard = 0; room = 0 }) }
         ensures sound { IfOk result (λ region. IsSoundRegion region.state) }
     {
+        let Lists {
+            asked,
+            taken,
+            logs,
+            inserted,
+            scheduler,
+        } = no_lists(alloc, regions)?;
         Ok(Region {
             number,
             regions,
             submitted: Vec::new(alloc),
             foreign: Foreign::new(alloc),
-            asked: no_ids(alloc, regions)?,
-            taken: no_counts(alloc, regions)?,
-            logs: no_parts(alloc, regions)?,
-            inserted: no_counts(alloc, regions)?,
+            asked,
+            taken,
+            logs,
+            inserted,
             done: ById::new(alloc),
             table,
-            scheduler: S::empty(alloc, regions)?,
+            scheduler,
             events: Kept::new(alloc),
             heard: 0,
             room: 0,
