@@ -8,8 +8,8 @@ use Rattle.dt_world.proofs.world.sites.Goals as goal
 
 pub loop-number-preserved : goal.loop-number-preserved
 loop-number-preserved g c = record {
-  opening = opened_more c.args.cluster.now c.loop-number.number c.loop-number.sites.items c.push.new.self.items c.in_ok-new.field-0 c.in_ok-table.table.state
-      c.loop-number.invariant.opening c.in_ok-table.ensures.opening c.in_ok-new.ensures.opening c.in_ok-push.ensures.items;
+  opening = opened_more c.args.cluster.now c.loop-number.number c.loop-number.sites.items c.push.new.self.items c.in_ok-first_site.field-0
+      c.loop-number.invariant.opening c.in_ok-first_site.ensures.opening c.in_ok-push.ensures.items;
   sound = subst (AllIn (λ (site : SiteView). IsSoundRegion site.region.state)) (sym c.in_ok-push.ensures.items)
-      (all_more (λ site. IsSoundRegion site.region.state) c.loop-number.sites.items c.in_ok-new.field-0 c.loop-number.invariant.sound c.in_ok-new.ensures.sound);
+      (all_more (λ site. IsSoundRegion site.region.state) c.loop-number.sites.items c.in_ok-first_site.field-0 c.loop-number.invariant.sound c.in_ok-first_site.ensures.sound);
 }
