@@ -1,10 +1,13 @@
-use Rattle.std.proofs.Common.{◌++◌, refl, ap, ◌∙◌}
+use Rattle.std.proofs.Common.{◌++◌, append-nil, refl, sym, ap, ◌∙◌}
 use Rattle.std.specs.List.{flat_map}
 use Rattle.dt_report.specs.Report.{ran_line}
 use Rattle.dt_world.specs.SessionReplay.{rans_at}
 use Rattle.dt_world.specs.Telling.{TellingView}
 use Rattle.dt_world.proofs.Reports.{order_whole}
 use Rattle.dt_world.proofs.site_reports.Telling.put_rans.Goals as goal
+
+pub loop-at-init : goal.loop-at-init
+loop-at-init g c = record { seen = c.requires.seen; lines = sym (append-nil c.args.out.now.items) }
 
 pub note-requires-clause-events : goal.note-requires-clause-events
 note-requires-clause-events g c = ap (λ (t : TellingView). t.events) c.self.view_is
