@@ -1,7 +1,7 @@
 -- What a packet holds of a list, gathered item by item.
-use Rattle.std.proofs.Common.{◌≡◌, ◌<◌, ◌≤◌, ◌+◌, ◌-◌, ℕ, List, [], ◌∷◌, ◌++◌, length, get_or, take, drop, Some, None, ap}
-use Rattle.std.proofs.Common.{◌∙◌, arith, append-nil}
-use Rattle.std.specs.Prelude.{Option, filter_map}
+use Rattle.std.proofs.Common.{◌≡◌, ◌<◌, ◌≤◌, ◌+◌, ◌-◌, ℕ, List, [], ◌∷◌, ◌++◌, length, get_or, take, drop, Some, None, refl, ap}
+use Rattle.std.proofs.Common.{◌∙◌, arith}
+use Rattle.std.specs.Prelude.{Option, filter_map, option_to_list}
 use Rattle.std.proofs.lemmas.List.{get_or-drop, length-drop, take_more}
 use Rattle.std.proofs.lemmas.List.Elements.{filter_map-append}
 
@@ -16,16 +16,9 @@ module _ {A B : Type 0} (f : A → Option B) (xs : List A) (first place : ℕ) (
       ∙ filter_map-append f (take (place - first) (drop first xs)) (get_or xs place d ∷ [])
 
   -- of the next item something is gathered, or nothing
-
-  pub stretch_some : (y : B) → f (get_or xs place d) ≡ Some y → filter_map f (take (place + 1 - first) (drop first xs)) ≡ filter_map f (take (place - first) (drop first xs)) ++ y ∷ []
-  stretch_some y e = stretch_more ∙ ap (λ l. filter_map f (take (place - first) (drop first xs)) ++ l) (one (get_or xs place d) e)
+  pub stretch_next : filter_map f (take (place + 1 - first) (drop first xs)) ≡ filter_map f (take (place - first) (drop first xs)) ++ option_to_list (f (get_or xs place d))
+  stretch_next = stretch_more ∙ ap (λ l. filter_map f (take (place - first) (drop first xs)) ++ l) (one (get_or xs place d) (f (get_or xs place d)) refl)
     where
-      one : (x : A) → f x ≡ Some y → filter_map f (x ∷ []) ≡ y ∷ []
-      one x e = rw e
-
-  pub stretch_none : f (get_or xs place d) ≡ None → filter_map f (take (place + 1 - first) (drop first xs)) ≡ filter_map f (take (place - first) (drop first xs))
-  stretch_none e =
-      stretch_more ∙ ap (λ l. filter_map f (take (place - first) (drop first xs)) ++ l) (none (get_or xs place d) e) ∙ append-nil (filter_map f (take (place - first) (drop first xs)))
-    where
-      none : (x : A) → f x ≡ None → filter_map f (x ∷ []) ≡ []
-      none x e = rw e
+      one : (x : A) (o : Option B) → f x ≡ o → filter_map f (x ∷ []) ≡ option_to_list (f x)
+      one x None e = rw e refl
+      one x (Some y) e = rw e refl

@@ -1,15 +1,15 @@
-ghost use Rattle.std.specs.Prelude.{◌≡◌, ◌<◌, ◌≤◌, ◌+◌, ◌^◌, List, [], filter_map, get_or, length, map, min, vec_len, IfOk, IfSome, OnOk};
+ghost use Rattle.std.specs.Prelude.{◌≡◌, ◌<◌, ◌≤◌, ◌+◌, ◌^◌, ◌++◌, List, [], filter_map, get_or, length, map, min, option_to_list, vec_len, IfOk, IfSome, OnOk};
 ghost use Rattle.dt_lists.specs.Lists.{AllIn, Pairwise};
 ghost use Rattle.dt_region.specs.Region.{held};
-ghost use Rattle.dt_node.specs.NodeView.{most_items, other_at, packet_for, stretch_from};
+ghost use Rattle.dt_node.specs.NodeView.{entry_held, most_items, other_at, packet_for, stretch_from};
 ghost use Rattle.dt_node.specs.TurnPackets.{HasEntriesOf, HasSent, IsReady, entries_from, packets_for, put_at, put_one};
 
 use crate::node::Node;
-use dt_access::TryCopy;
+use dt_access::{Part, TryCopy, TxnId};
 use dt_packet::{Outlet, Packet, Verdict};
 use dt_region::Region;
 use dt_sched::Scheduler;
-use dt_text::NoMemory;
+use dt_text::{Common, NoMemory};
 use dt_txn::{Entries, Entry, Txns};
 use std::alloc::Global;
 
@@ -113,12 +113,20 @@ fn requests<S: Scheduler>(
     let mut txns = Txns::new(alloc);
     txns.reserve(end.saturating_sub(first as usize))?;
     for place in first as usize..end {
-        let Some(txn) = region.common_txn(asked[place]) else {
-            continue;
-        };
-        txns.push(txn.copy()?)?;
+        put_held(&mut txns, region, asked[place])?;
     }
     Ok(txns)
+}
+
+/// Appends the transaction of an id, if the region holds it.
+fn put_held<S: Scheduler>(txns: &mut Txns, region: &Region<S>, id: TxnId) -> Result<(), NoMemory>
+    ensures { OnOk result (txns.new ≡ txns.old ++ option_to_list (held region.now.state id)) }
+{
+    let Some(txn) = region.common_txn(id) else {
+        return Ok(());
+    };
+    txns.push(txn.copy()?)?;
+    Ok(())
 }
 
 /// The entries of a region's own log, from this place on, as far as a packet has room. They are copied from a packet that was made
@@ -150,15 +158,27 @@ fn entries<S: Scheduler>(alloc: Global, region: &Region<S>, first: u32) -> Resul
         let Some(part) = log.common(place as u32) else {
             unreachable!()
         };
-        let Some(txn) = region.common_txn(part.get().id) else {
-            continue;
-        };
-        entries.push(Entry {
-            part: part.copy()?,
-            txn: txn.copy()?,
-        })?;
+        put_entry(&mut entries, region, part)?;
     }
     Ok(entries)
+}
+
+/// Appends the entry of a part, if the region holds its transaction.
+fn put_entry<S: Scheduler>(
+    entries: &mut Entries,
+    region: &Region<S>,
+    part: &Common<Part>,
+) -> Result<(), NoMemory>
+    ensures { OnOk result (entries.new ≡ entries.old ++ option_to_list (entry_held region.now.state part.now)) }
+{
+    let Some(txn) = region.common_txn(part.get().id) else {
+        return Ok(());
+    };
+    entries.push(Entry {
+        part: part.copy()?,
+        txn: txn.copy()?,
+    })?;
+    Ok(())
 }
 
 /// Where a packet that begins at this place of a list of this length ends.

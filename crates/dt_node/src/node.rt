@@ -4,6 +4,8 @@ ghost use Rattle.dt_txn.specs.Replica.{IsDrained};
 ghost use Rattle.dt_round.specs.Rounds.{Continues};
 ghost use Rattle.dt_cluster.specs.Valid.{IsValidCluster};
 ghost use Rattle.dt_workload.specs.Valid.{IsValidWorkload};
+ghost use Rattle.dt_session.specs.World.{opening_table};
+ghost use Rattle.dt_site.specs.Site.{opening_site};
 ghost use Rattle.dt_node.specs.NodeView.{new_items, opening_node_of};
 ghost use Rattle.dt_node.specs.TurnPackets.{HasSent, LeavesNothingOut};
 ghost use Rattle.dt_node.specs.NodeInWorld.{NodeStands};
@@ -83,12 +85,13 @@ impl<S: Scheduler + Drop> Node<S> {
         requires region { region < cluster.now.regions }
         ensures { IfOk result (λ node. node ≡ opening_node_of cluster.now workload.now region) }
     {
-        let table = first_table(alloc, cluster, first)?;
+        let (took, received) = nothing_known(alloc, cluster.regions)?;
+        let sessions = Sessions::new(alloc, workload, region, cluster.tries)?;
         Ok(Node {
-            site: Site::new(alloc, region, cluster.regions, table)?,
-            sessions: Sessions::new(alloc, workload, region, cluster.tries)?,
-            took: zeros(alloc, cluster.regions)?,
-            received: zeros(alloc, cluster.regions)?,
+            site: first_site(alloc, cluster, first, region)?,
+            sessions,
+            took,
+            received,
             plan: LossPlan {
                 drop: cluster.drop,
                 repeat: cluster.repeat,
@@ -226,6 +229,31 @@ impl<S: Scheduler + Drop> Node<S> {
         let _number = self.site.region.number();
         made
     }
+}
+
+/// The site of the region of this number before anything happens.
+fn first_site<S: Scheduler>(
+    alloc: Global,
+    cluster: &Cluster,
+    first: &Opening,
+    region: u8,
+) -> Result<Site<S>, NoMemory>
+    requires cluster { IsValidCluster cluster.now }
+    requires homes { first.now.homes ≡ cluster.now.homes }
+    requires rows { first.now.rows ≡ cluster.now.rows }
+    requires region { region < cluster.now.regions }
+    ensures { IfOk result (λ site. site ≡ opening_site region cluster.now.regions (opening_table cluster.now)) }
+{
+    let table = first_table(alloc, cluster, first)?;
+    Site::new(alloc, region, cluster.regions, table)
+}
+
+/// A zero for each of n regions, twice: how far each region is known to have come with requests, and with a log.
+fn nothing_known(alloc: Global, regions: u8) -> Result<(Vec<u32>, Vec<u32>), NoMemory>
+    ensures took { IfOk result (λ known. known.0.items ≡ replicate regions 0) }
+    ensures received { IfOk result (λ known. known.1.items ≡ replicate regions 0) }
+{
+    Ok((zeros(alloc, regions)?, zeros(alloc, regions)?))
 }
 
 /// A zero for each of n regions.

@@ -24,12 +24,12 @@ use Rattle.dt_world.specs.WorldInner.{IsLawful, kept_in, opening_sites, sessions
 use Rattle.dt_world.specs.WorldView.{opening_view}
 
 -- one more site is opened
-pub opened_more : (cluster : Cluster) (n : ℕ) (items new : List SiteView) (p : SiteView) (t : Table)
+pub opened_more : (cluster : Cluster) (n : ℕ) (items new : List SiteView) (p : SiteView)
     → items ≡ map (λ number. opening_site number cluster.regions (opening_table cluster)) (range_with_len 0 n)
-    → t ≡ opening_table cluster → p ≡ opening_site n cluster.regions t → new ≡ items ++ p ∷ []
+    → p ≡ opening_site n cluster.regions (opening_table cluster) → new ≡ items ++ p ∷ []
     → new ≡ map (λ number. opening_site number cluster.regions (opening_table cluster)) (range_with_len 0 (n + 1))
-opened_more cluster n items new p t before table is now =
-    now ∙ ap₂ (λ l x. l ++ x ∷ []) before (is ∙ ap (λ x. opening_site n cluster.regions x) table)
+opened_more cluster n items new p before is now =
+    now ∙ ap₂ (λ l x. l ++ x ∷ []) before is
     ∙ sym (map-range_with_len_more (λ number. opening_site number cluster.regions (opening_table cluster)) 0 n n (omega arith))
 
 all_nodes : (regions : ℕ) (t : Table) (a n : ℕ) → map node_of (map (λ number. opening_site number regions t) (range_with_len a n)) ≡ replicate n (opening_node regions t)

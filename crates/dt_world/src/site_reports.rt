@@ -2,14 +2,16 @@
 //!
 //! Outcomes, whose an attempt is, and rows stand in the sites, so nothing is executed again. The events are gone through for
 //! the order of first executions, and to follow what each session waits for, which sites do not keep.
-ghost use Rattle.std.specs.Prelude.{◌≡◌, ◌+◌, ◌<◌, ◌++◌, ℕ, List, flat_map, length, map, option_to_list, position, take, Some, IfOk, OnOk};
+ghost use Rattle.std.specs.Prelude.{if◌then◌else◌, ◌≡◌, ◌+◌, ◌<◌, ◌++◌, ◌∷◌, [], ℕ, List, flat_map, length, map, option_to_list, position, take, Some, IfOk, OnOk};
+ghost use Rattle.std.specs.List.{list_any};
 ghost use Rattle.dt_lists.specs.Lists.{Distinct};
+ghost use Rattle.dt_access.specs.Clash.{same_key};
 ghost use Rattle.dt_table.specs.Table.{shown};
 ghost use Rattle.dt_workload.specs.Valid.{session_names};
 ghost use Rattle.dt_session.specs.World.{is_session};
 ghost use Rattle.dt_session.specs.Run.{order_of};
 ghost use Rattle.dt_agreement.specs.Invariant.{IsExecutedAt};
-ghost use Rattle.dt_report.specs.Report.{order_text, reply_line, report_text};
+ghost use Rattle.dt_report.specs.Report.{order_text, ran_line, reply_line, report_text};
 ghost use Rattle.dt_report.specs.ShownTables.{all_shown};
 ghost use Rattle.dt_world.specs.SessionReplay.{IsReply, ran_at, rans_at, replay_at, replies_at};
 ghost use Rattle.dt_world.specs.Telling.{AreSitesAfter, LedTo, world_told};
@@ -158,12 +160,28 @@ impl<'a, 'b, S: Scheduler + Drop> Telling<'a, 'b, S> {
     {
         let mut seen = IndexSet::new(alloc);
         let mut order = Rans::new(alloc);
+        self.note_all(alloc, &mut seen, &mut order)?;
+        Ok(order)
+    }
+
+    /// Lists the attempts that the events execute, each at the first event that does so. None is noted or listed before.
+    fn note_all(
+        &self,
+        alloc: Global,
+        seen: &mut IndexSet<TxnId>,
+        order: &mut Rans,
+    ) -> Result<(), NoMemory>
+        requires led { LedTo self.now }
+        requires seen { seen.old.keys ≡ [] }
+        requires order { order.old ≡ [] }
+        ensures { OnOk result (order.new ≡ rans_of self.now.cluster self.now.workload self.now.events) }
+    {
         for at in 0..self.events.len() {
-            if let Some(ran) = self.note(alloc, &mut seen, self.events, at)? {
+            if let Some(ran) = self.note(alloc, seen, self.events, at)? {
                 order.push(ran)?;
             }
         }
-        Ok(order)
+        Ok(())
     }
 
     /// Appends the section of the executed attempts, in the order of their first executions.
@@ -173,8 +191,22 @@ impl<'a, 'b, S: Scheduler + Drop> Telling<'a, 'b, S> {
     {
         begin_order(out)?;
         let mut seen = IndexSet::new(alloc);
+        self.put_rans(alloc, out, &mut seen)
+    }
+
+    /// Appends the lines of the attempts that the events execute, each at the first event that does so. None is noted before.
+    fn put_rans(
+        &self,
+        alloc: Global,
+        out: &mut Vec<u8>,
+        seen: &mut IndexSet<TxnId>,
+    ) -> Result<(), NoMemory>
+        requires led { LedTo self.now }
+        requires seen { seen.old.keys ≡ [] }
+        ensures { OnOk result (out.new.items ≡ out.old.items ++ flat_map ran_line (rans_of self.now.cluster self.now.workload self.now.events)) }
+    {
         for at in 0..self.events.len() {
-            if let Some(ran) = self.note(alloc, &mut seen, self.events, at)? {
+            if let Some(ran) = self.note(alloc, seen, self.events, at)? {
                 put_ran(alloc, out, &ran)?;
             }
         }
@@ -236,12 +268,30 @@ impl<'a, 'b, S: Scheduler + Drop> Telling<'a, 'b, S> {
         let sessions = self.workload.sessions.len();
         let mut replay = SessionReplay::new(alloc, sessions, self.cluster.regions)?;
         let mut replies = Replies::new(alloc);
+        self.follow_all(alloc, &names, &mut replay, &mut replies)?;
+        Ok(replies)
+    }
+
+    /// Lists the replies that the events give, by what is followed before the first of them. None is listed before.
+    fn follow_all(
+        &self,
+        alloc: Global,
+        names: &IndexSet<Name>,
+        replay: &mut SessionReplay,
+        replies: &mut Replies,
+    ) -> Result<(), NoMemory>
+        requires led { LedTo self.now }
+        requires names { names.now.keys ≡ session_names self.now.workload.sessions }
+        requires replay { replay.old ≡ replay_at self.now 0 }
+        requires replies { replies.old ≡ [] }
+        ensures { OnOk result (replies.new ≡ replies_of self.now.cluster self.now.workload self.now.events) }
+    {
         for at in 0..self.events.len() {
-            if let Some(reply) = self.follow(alloc, &names, &mut replay, self.events, at)? {
+            if let Some(reply) = self.follow(alloc, names, replay, self.events, at)? {
                 replies.push(reply)?;
             }
         }
-        Ok(replies)
+        Ok(())
     }
 
     /// Appends the lines of the answers that the events give, in their order.
@@ -252,8 +302,24 @@ impl<'a, 'b, S: Scheduler + Drop> Telling<'a, 'b, S> {
         let names = names_of(alloc, self.workload)?;
         let sessions = self.workload.sessions.len();
         let mut replay = SessionReplay::new(alloc, sessions, self.cluster.regions)?;
+        self.put_all_followed(alloc, out, &names, &mut replay)
+    }
+
+    /// Appends the lines of the replies that the events give, by what is followed before the first of them.
+    fn put_all_followed(
+        &self,
+        alloc: Global,
+        out: &mut Vec<u8>,
+        names: &IndexSet<Name>,
+        replay: &mut SessionReplay,
+    ) -> Result<(), NoMemory>
+        requires led { LedTo self.now }
+        requires names { names.now.keys ≡ session_names self.now.workload.sessions }
+        requires replay { replay.old ≡ replay_at self.now 0 }
+        ensures { OnOk result (out.new.items ≡ out.old.items ++ flat_map reply_line (replies_of self.now.cluster self.now.workload self.now.events)) }
+    {
         for at in 0..self.events.len() {
-            self.put_followed(alloc, out, &names, &mut replay, self.events, at)?;
+            self.put_followed(alloc, out, names, replay, self.events, at)?;
         }
         Ok(())
     }
@@ -364,9 +430,17 @@ fn names_of(alloc: Global, workload: &Workload) -> Result<IndexSet<Name>, NoMemo
 {
     let mut names = IndexSet::new(alloc);
     for session in workload.sessions.as_slice() {
-        names.insert(session.name.copy(alloc)?)?;
+        put_name(alloc, &mut names, &session.name)?;
     }
     Ok(names)
+}
+
+/// Appends a name to others, if it is not among them.
+fn put_name(alloc: Global, names: &mut IndexSet<Name>, name: &Name) -> Result<(), NoMemory>
+    ensures { OnOk result (names.new.keys ≡ (if list_any (same_key name.now) names.old.keys then names.old.keys else names.old.keys ++ name.now ∷ [])) }
+{
+    names.insert(name.copy(alloc)?)?;
+    Ok(())
 }
 
 /// The table of each region, as it is shown.

@@ -1,4 +1,4 @@
-ghost use Rattle.std.specs.Prelude.{◌≡◌, ◌↔◌, List, ◌&&◌, ◌+◌, ◌<◌, ◌≤◌, ℕ, nat_le, nat_lt, drop, filter_map, get_or, length, map, take, [], Some, IsTrue, IsOk, IfOk, OnOk, OnErr};
+ghost use Rattle.std.specs.Prelude.{◌≡◌, ◌↔◌, List, ◌&&◌, ◌+◌, ◌<◌, ◌≤◌, ℕ, nat_le, nat_lt, drop, filter_map, get_or, length, map, slice_get, take, [], Some, IsTrue, IsOk, IfOk, OnOk, OnErr};
 ghost use Rattle.dt_lists.specs.Lists.{AllIn};
 ghost use Rattle.dt_access.specs.declared.TxnId.{TxnId};
 ghost use Rattle.dt_events.specs.Stamps.{events_of};
@@ -15,6 +15,8 @@ ghost use Rattle.dt_workload.specs.Valid.{IsValidWorkload};
 ghost use Rattle.dt_workload.specs.declared.Workload.{Workload};
 ghost use Rattle.dt_session.specs.Step.{IsLegal, next, rule_of};
 ghost use Rattle.dt_session.specs.Run.{AreLegal, order_of, world_after};
+ghost use Rattle.dt_session.specs.World.{opening_table};
+ghost use Rattle.dt_site.specs.Site.{opening_site};
 ghost use Rattle.dt_world.specs.WorldInner.{IsNextOf, MayBeTold, opening_sites};
 ghost use Rattle.dt_world.specs.WorldReport.{IsOutcomeOf, IsReplyOf, answered_name, report_of};
 ghost use Rattle.dt_world.specs.WorldSessions.{opening_sessions};
@@ -29,6 +31,7 @@ use dt_report::Report;
 use dt_sched::Scheduler;
 use dt_session::Sessions;
 use dt_site::{Origin, Site, first_table, last_outcome, opening_of};
+use dt_table::Opening;
 use dt_text::{Name, NoMemory};
 use dt_txn::{Body, Entry};
 use dt_workload::Workload;
@@ -425,10 +428,27 @@ fn sites<S: Scheduler + Drop>(alloc: Global, cluster: &Cluster) -> Result<Vec<Si
     let opening = opening_of(alloc, cluster)?;
     let mut sites = Vec::new(alloc);
     for number in 0..cluster.regions {
-        let table = first_table(alloc, cluster, &opening)?;
-        sites.push(Site::new(alloc, number, cluster.regions, table)?)?;
+        sites.push(first_site(alloc, cluster, &opening, number)?)?;
     }
     Ok(sites)
+}
+
+/// The site of the region of this number before anything happens.
+fn first_site<S: Scheduler>(
+    alloc: Global,
+    cluster: &Cluster,
+    opening: &Opening,
+    number: u8,
+) -> Result<Site<S>, NoMemory>
+    requires cluster { IsValidCluster cluster.now }
+    requires homes { opening.now.homes ≡ cluster.now.homes }
+    requires rows { opening.now.rows ≡ cluster.now.rows }
+    requires number { number < cluster.now.regions }
+    ensures opening { IfOk result (λ site. site ≡ opening_site number cluster.now.regions (opening_table cluster.now)) }
+    ensures sound { IfOk result (λ site. IsSoundRegion site.region.state) }
+{
+    let table = first_table(alloc, cluster, opening)?;
+    Site::new(alloc, number, cluster.regions, table)
 }
 
 /// Each of some sites, lent.
@@ -474,19 +494,29 @@ fn entries<S: Scheduler>(
     ensures parts { IfOk result (λ entries. map (λ e. e.part) entries.items ≡ drop first (take last (log_at source.now.state.logs home))) }
     ensures txns { IfOk result (λ entries. AllIn (λ e. held source.now.state e.part.id ≡ Some e.txn) entries.items) }
 {
-    let log = source.log(home);
     let mut entries = Vec::new(alloc);
     for place in first..last {
-        let Some(part) = log.common(place) else {
-            unreachable!()
-        };
-        let Some(txn) = source.common_txn(part.get().id) else {
-            unreachable!()
-        };
-        entries.push(Entry {
-            part: part.copy()?,
-            txn: txn.copy()?,
-        })?;
+        entries.push(entry_at(source, home, place)?)?;
     }
     Ok(entries)
+}
+
+/// The entry at a place of a home's own log, with its transaction.
+fn entry_at<S: Scheduler>(source: &Region<S>, home: u8, place: u32) -> Result<Entry, NoMemory>
+    requires sound { IsSoundRegion source.now.state }
+    requires home { home < source.now.state.regions }
+    requires place { place < length (log_at source.now.state.logs home) }
+    ensures part { IfOk result (λ entry. slice_get (log_at source.now.state.logs home) place ≡ Some entry.part) }
+    ensures txn { IfOk result (λ entry. held source.now.state entry.part.id ≡ Some entry.txn) }
+{
+    let Some(part) = source.log(home).common(place) else {
+        unreachable!()
+    };
+    let Some(txn) = source.common_txn(part.get().id) else {
+        unreachable!()
+    };
+    Ok(Entry {
+        part: part.copy()?,
+        txn: txn.copy()?,
+    })
 }

@@ -1,4 +1,4 @@
-use Rattle.std.proofs.Common.{sym, ap, subst, ◌∙◌}
+use Rattle.std.proofs.Common.{sym, ap, subst}
 use Rattle.dt_lists.specs.Lists.{Distinct}
 use Rattle.dt_workload.specs.Valid.{session_names}
 use Rattle.dt_world.proofs.PlacesOfNames.{index_more}
@@ -7,8 +7,7 @@ use Rattle.dt_world.proofs.site_reports.names_of.Goals as goal
 pub loop-session-preserved : goal.loop-session-preserved
 loop-session-preserved c = record {
   same = c.loop-session.invariant.same;
-  names = index_more c.as_slice-session-items.result.now c.loop-session.session-index c.loop-session.names.keys c.insert.new.self.keys c.in_ok-copy.field-0 c.session-item.result
+  names = index_more c.as_slice-session-items.result.now c.loop-session.session-index c.loop-session.names.keys c.put_name.new.names.keys c.session-item.result.name c.session-item.result
       (subst (λ l. Distinct (session_names l)) (sym c.loop-session.invariant.same) c.requires) c.loop-session-test.true c.loop-session.invariant.names
-      (c.in_ok-copy.ensures.same ∙ ap (λ s. s.name) c.session-item.is)
-      c.in_ok-insert.ensures.keys;
+      (ap (λ s. s.name) c.session-item.is) c.in_ok-put_name.ensures;
 }

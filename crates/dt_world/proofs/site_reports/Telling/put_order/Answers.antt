@@ -1,16 +1,13 @@
-use Rattle.std.proofs.Common.{[], ◌∷◌, ◌++◌, codes, refl, ap, ◌∙◌}
+use Rattle.std.proofs.Common.{◌≡◌, [], ◌∷◌, ◌++◌, codes}
 use Rattle.std.specs.List.{flat_map}
-use Rattle.dt_report.specs.Report.{line_of, ran_line}
-use Rattle.dt_world.specs.SessionReplay.{rans_at}
-use Rattle.dt_world.specs.Telling.{TellingView}
-use Rattle.dt_world.proofs.Reports.{order_whole}
+use Rattle.std.proofs.lemmas.Result.{on_ok_weaker}
+use Rattle.dt_report.specs.Report.{line_of, order_text, ran_line}
+use Rattle.dt_world.specs.WorldReport.{rans_of}
 use Rattle.dt_world.proofs.TextByLines.{section_is}
 use Rattle.dt_world.proofs.site_reports.Telling.put_order.Goals as goal
 
-pub note-requires-clause-events : goal.note-requires-clause-events
-note-requires-clause-events g c = ap (λ (t : TellingView). t.events) c.self.view_is
-
 pub returns : goal.returns
 returns g c =
-    let whole = order_whole c.args.self.now (ap (λ (t : TellingView). t.events) c.self.view_is) c.loop-at.at (rans_at c.args.self.now c.loop-at.at) c.loop-at.auto.at-end c.loop-at-test.false refl in
-    section_is c.args.out.now.items (line_of (codes "order" ∷ [])) _ c.in_ok-begin_order.ensures (c.loop-at.invariant.lines ∙ ap (λ l. c.begin_order.new.out.items ++ flat_map ran_line l) whole)
+    let rans = rans_of c.args.self.now.cluster c.args.self.now.workload c.args.self.now.events in
+    on_ok_weaker {Q = c.put_rans.new.out.items ≡ c.args.out.now.items ++ order_text rans} c.put_rans.result
+    (λ put. section_is c.args.out.now.items (line_of (codes "order" ∷ [])) (flat_map ran_line rans) c.in_ok-begin_order.ensures put) c.put_rans.ensures

@@ -2,21 +2,12 @@ use Rattle.std.proofs.Common.{◌≡◌, None, length, replicate, ap, subst, ◌
 use Rattle.dt_session.specs.World.{opening_world}
 use Rattle.dt_world.specs.SessionReplay.{replay_of}
 use Rattle.dt_world.specs.Telling.{TellingView}
-use Rattle.dt_world.proofs.Reports.{course_begins, replies_whole}
+use Rattle.dt_world.proofs.Reports.{course_begins}
 use Rattle.dt_world.proofs.site_reports.Telling.replies.Goals as goal
 
-pub loop-at-init : goal.loop-at-init
-loop-at-init g c = record {
-  replay =
-      let many : c.len-sessions.result ≡ length c.self.inside.workload.now.sessions = c.len-sessions.ensures in
-      let opened : c.in_ok-replay.replay ≡ replay_of (opening_world c.self.inside.cluster.now c.self.inside.workload.now) = c.in_ok-replay.ensures
-      ∙ ap (λ n. record { waits = replicate n None; submitted = replicate c.self.inside.cluster.now.regions 0 }) many ∙ course_begins c.self.inside.cluster.now c.self.inside.workload.now in
-      subst (λ (v : TellingView). c.in_ok-replay.replay ≡ replay_of (opening_world v.cluster v.workload)) c.self.view_is opened;
-  replies = c.new-replies.ensures;
-}
-
-pub follow-requires-clause-events : goal.follow-requires-clause-events
-follow-requires-clause-events g c = ap (λ (t : TellingView). t.events) c.self.view_is
-
-pub returns : goal.returns
-returns g c = replies_whole c.args.self.now (ap (λ (t : TellingView). t.events) c.self.view_is) c.loop-at.at c.loop-at.replies c.loop-at.auto.at-end c.loop-at-test.false c.loop-at.invariant.replies
+pub follow_all-requires-clause-replay : goal.follow_all-requires-clause-replay
+follow_all-requires-clause-replay g c =
+    let many : c.len-sessions.result ≡ length c.self.inside.workload.now.sessions = c.len-sessions.ensures in
+    let opened : c.in_ok-replay.replay ≡ replay_of (opening_world c.self.inside.cluster.now c.self.inside.workload.now) = c.in_ok-replay.ensures
+    ∙ ap (λ n. record { waits = replicate n None; submitted = replicate c.self.inside.cluster.now.regions 0 }) many ∙ course_begins c.self.inside.cluster.now c.self.inside.workload.now in
+    subst (λ (v : TellingView). c.in_ok-replay.replay ≡ replay_of (opening_world v.cluster v.workload)) c.self.view_is opened

@@ -5,7 +5,7 @@ use Rattle.dt_world.specs.WorldView.{WorldView}
 use Rattle.dt_world.proofs.OneSite.{same_lawful, stamp_here}
 use Rattle.dt_world.proofs.Rule7Answer.{answers_made, may_end}
 use Rattle.dt_world.proofs.WorldLaws.{a_site, behind, made_before}
-use Rattle.dt_world.proofs.WorldFacts.{steps_few}
+use Rattle.dt_world.proofs.WorldFacts.{some_sessions, steps_few}
 use Rattle.dt_world.proofs.world.World.answer.Goals as goal
 
 pub invariant_of-self : goal.invariant_of-self
@@ -37,3 +37,13 @@ pub answer-requires : goal.answer-requires
 answer-requires g c =
     let here = behind (a_site c.self.invariant c.if-region-self.false) c.index_mut.ensures.value c.behind-self.view_is in
     record { stamp = stamp_here c.self.invariant c.if-region-self.false here (steps_few c.self.invariant c.self.view_is c.requires) }
+
+pub index-requires : goal.index-requires
+index-requires g c =
+    let here : c.args.region < length c.self.inside.sessions.items = some_sessions c.self.invariant c.self.view_is c.if-region-self.false in
+    grind (arith, common_steps, here)
+
+pub index_mut-requires-2 : goal.index_mut-requires-2
+index_mut-requires-2 g c =
+    let here : c.args.region < length c.self.inside.sessions.items = some_sessions c.self.invariant c.self.view_is c.if-region-self.false in
+    grind (arith, common_steps, here)

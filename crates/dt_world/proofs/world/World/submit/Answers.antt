@@ -3,7 +3,7 @@ use Rattle.std.proofs.Common.{◌<◌, length, ap, subst, arith}
 use Rattle.dt_world.specs.WorldInner.{IsNextOf}
 use Rattle.dt_world.proofs.OneSite.{put_back, stamp_left}
 use Rattle.dt_world.proofs.Rule1Submit.{may_wait, submit_fits, submit_place, submit_rank, submits_at, waits_made}
-use Rattle.dt_world.proofs.WorldFacts.{steps_few}
+use Rattle.dt_world.proofs.WorldFacts.{some_sessions, steps_few}
 use Rattle.dt_world.proofs.WorldLaws.{a_site, made_before, read_at}
 use Rattle.dt_site.specs.Site.{SiteView}
 use Rattle.dt_world.proofs.world.World.submit.Goals as goal
@@ -60,3 +60,13 @@ pub submit-requires-clause-stamp : goal.submit-requires-clause-stamp
 submit-requires-clause-stamp g c =
     let site = read_at c.self.inside.sites.items c.args.region c.index_mut.result.now (a_site c.self.invariant c.if-region-self.false) c.index_mut.ensures.value in
     stamp_left c.self.invariant c.if-region-self.false c.index_mut.result.now.region (ap (λ (p : SiteView). p.region) site) (steps_few c.self.invariant c.self.view_is c.requires)
+
+pub index-requires : goal.index-requires
+index-requires g c =
+    let here : c.args.region < length c.self.inside.sessions.items = some_sessions c.self.invariant c.self.view_is c.if-region-self.false in
+    grind (arith, common_steps, here)
+
+pub index_mut-requires-2 : goal.index_mut-requires-2
+index_mut-requires-2 g c =
+    let here : c.args.region < length c.self.inside.sessions.items = some_sessions c.self.invariant c.self.view_is c.if-region-self.false in
+    grind (arith, common_steps, here)

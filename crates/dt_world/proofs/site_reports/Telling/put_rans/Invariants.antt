@@ -4,7 +4,7 @@ use Rattle.std.specs.List.{flat_map}
 use Rattle.dt_report.specs.Report.{ran_line}
 use Rattle.dt_session.specs.Run.{order_of}
 use Rattle.dt_world.specs.SessionReplay.{rans_at}
-use Rattle.dt_world.proofs.site_reports.Telling.put_order.Given as goal
+use Rattle.dt_world.proofs.site_reports.Telling.put_rans.Given as goal
 
 abbrev pub invariant-loop-at : goal.invariant-loop-at
 invariant-loop-at g l = record {

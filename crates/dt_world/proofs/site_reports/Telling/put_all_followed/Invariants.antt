@@ -3,7 +3,7 @@ use Rattle.std.proofs.Common.{◌≡◌, ◌++◌}
 use Rattle.std.specs.List.{flat_map}
 use Rattle.dt_report.specs.Report.{reply_line}
 use Rattle.dt_world.specs.SessionReplay.{replay_at, replies_at}
-use Rattle.dt_world.proofs.site_reports.Telling.put_replies.Given as goal
+use Rattle.dt_world.proofs.site_reports.Telling.put_all_followed.Given as goal
 
 abbrev pub invariant-loop-at : goal.invariant-loop-at
 invariant-loop-at g l = record {

@@ -1,6 +1,6 @@
 use Rattle.std.proofs.Common.{◌≡◌}
 use Rattle.dt_world.specs.SessionReplay.{replay_at, replies_at}
-use Rattle.dt_world.proofs.site_reports.Telling.replies.Given as goal
+use Rattle.dt_world.proofs.site_reports.Telling.follow_all.Given as goal
 
 abbrev pub invariant-loop-at : goal.invariant-loop-at
 invariant-loop-at g l = record {

@@ -1,7 +1,7 @@
 use Rattle.std.proofs.Common.{◌≡◌, take}
 use Rattle.dt_session.specs.Run.{order_of}
 use Rattle.dt_world.specs.SessionReplay.{rans_at}
-use Rattle.dt_world.proofs.site_reports.Telling.order.Given as goal
+use Rattle.dt_world.proofs.site_reports.Telling.note_all.Given as goal
 
 abbrev pub invariant-loop-at : goal.invariant-loop-at
 invariant-loop-at g l = record {

@@ -1,7 +1,7 @@
 use Rattle.std.proofs.Common.{ap}
 use Rattle.dt_world.specs.Telling.{TellingView}
 use Rattle.dt_world.proofs.Reports.{order_whole}
-use Rattle.dt_world.proofs.site_reports.Telling.order.Goals as goal
+use Rattle.dt_world.proofs.site_reports.Telling.note_all.Goals as goal
 
 pub note-requires-clause-events : goal.note-requires-clause-events
 note-requires-clause-events g c = ap (λ (t : TellingView). t.events) c.self.view_is
