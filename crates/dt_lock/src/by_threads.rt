@@ -39,6 +39,22 @@ pub fn round<R: Threads + Wait + Sync, S: Scheduler + Drop + Send, G: Gate>(
     if !gate.holds() && (workers < 2 || !some_is_long(procs)) {
         return Alone.round(alloc, region, procs);
     }
+    round_by_threads(rt, alloc, region, procs, workers, gate)
+}
+
+// Makes a round by threads.
+fn round_by_threads<R: Threads + Wait + Sync, S: Scheduler + Drop + Send, G: Gate>(
+    rt: &R,
+    alloc: Global,
+    region: &mut Region<S>,
+    procs: &Procs,
+    workers: u32,
+    gate: &G,
+) -> Result<(), NoMemory>
+    requires { CanRound procs.now region.old }
+    ensures continues { Continues procs.now region.old region.new }
+    ensures drained { OnOk result (IsDrained region.new.state.logs region.new.state.here) }
+{
     let empty = empty_region(alloc)?;
     let whole = mem::replace(region, empty);
     let (after, result) = round_named::<Brand, R, S, G>(rt, alloc, whole, procs, workers, gate);

@@ -1,4 +1,4 @@
-ghost use Rattle.std.specs.Prelude.{◌≡◌, ◌≢◌, ◌↔◌, ◌<◌, [], length, map, slice_index, Some, IsTrue, IfOk, IfErr, OnErr};
+ghost use Rattle.std.specs.Prelude.{◌≡◌, ◌≢◌, ◌↔◌, ◌<◌, ◌+◌, ◌^◌, [], length, map, max, slice_index, vec_len, vec_capacity, Some, IsTrue, IfOk, IfErr, OnErr, OnOk};
 ghost use Rattle.dt_events.specs.declared.Event.TheVariants.{Insert};
 ghost use Rattle.dt_sched.specs.Sched.{CanExecute, IsNextClass};
 ghost use Rattle.dt_txn.specs.Execution.{see};
@@ -8,6 +8,7 @@ ghost use Rattle.dt_region.specs.Region.{held, sched_of};
 ghost use Rattle.dt_region.specs.Rules.{MakesStep};
 ghost use Rattle.dt_round.specs.Rounds.{CanRound};
 ghost use Rattle.dt_round.specs.Underway.{IsUnderway};
+ghost use Rattle.dt_lock.specs.Claims.{IsClaim};
 ghost use Rattle.dt_lock.specs.Held.{ClaimsSome, Commits, GivesBack, IsBusy, IsClaimed, IsNextFree, ResolvesSome, uses_held};
 
 use crate::claim::{Claim, Finished};
@@ -191,13 +192,30 @@ impl<S: Scheduler, N: Named> Held<S, N> {
         ensures err { OnErr result (self.new ≡ self.old) }
     {
         let (txn, seen) = self.sight(alloc, id)?;
-        let noted = seen.copy(alloc)?;
-        self.running.reserve(1)?;
-        let runs = self.running.len() as u32 + 1;
-        self.region.prepare(alloc, id)?;
-        self.region.reserve(alloc, runs)?;
-        note(&mut self.running, Running { id, seen: noted });
+        self.note_sight(alloc, id, &txn, &seen)?;
         Ok(Claim::new(txn, seen))
+    }
+
+    // Notes as running an id that is executable and isn't busy, with what its transaction sees.
+    fn note_sight(
+        &mut self,
+        alloc: Global,
+        id: TxnId,
+        txn: &Txn,
+        seen: &Seens,
+    ) -> Result<(), NoMemory>
+        requires executable { CanExecute (sched_of self.old.region.state.logs self.old.region.state.here) id }
+        requires free { ¬ (IsBusy N.before.state self.old.running id) }
+        requires held { held N.before.state id ≡ Some txn.now }
+        requires seen { seen.now ≡ see txn.now self.old.region.state.here.table }
+        ensures claim { OnOk result (IsClaim N.procs N.before.state (record { txn = txn.now; seen = seen.now })) }
+        ensures ok { OnOk result (IsClaimed self.old (record { txn = txn.now; seen = seen.now }) self.new) }
+        ensures err { OnErr result (self.new ≡ self.old) }
+    {
+        let noted = seen.copy(alloc)?;
+        make_room(alloc, &mut self.region, &mut self.running, id)?;
+        note(&mut self.running, Running { id, seen: noted });
+        Ok(())
     }
 
     // A copy of the transaction of an id that is executable, and what it sees.
@@ -231,6 +249,13 @@ impl<S: Scheduler, N: Named> Held<S, N> {
     pub fn give_back(&mut self, claim: Claim<N>)
         ensures { GivesBack self.old claim self.new }
     {
+        self.take_back(&claim);
+    }
+
+    // Takes off what is running of a claim, if anything is.
+    fn take_back(&mut self, claim: &Claim<N>)
+        ensures { GivesBack self.old claim.now self.new }
+    {
         let id = claim.id();
         if !is_running(self.running.as_slice(), id, claim.seen()) {
             return;
@@ -244,4 +269,23 @@ impl<S: Scheduler, N: Named> Held<S, N> {
     {
         self.running.clear();
     }
+}
+
+// Sees to it that the claim of one id more can be noted and committed.
+fn make_room<S: Scheduler>(
+    alloc: Global,
+    region: &mut Region<S>,
+    running: &mut Vec<Running>,
+    id: TxnId,
+) -> Result<(), NoMemory>
+    requires { length running.old.items + 1 < 2 ^ 32 }
+    ensures ok { OnOk result (region.new ≡ record region.old { room = max region.old.room (length running.old.items + 1) }) }
+    ensures err { OnErr result (region.new ≡ region.old) }
+    ensures noted { running.new.items ≡ running.old.items }
+    ensures place { OnOk result (vec_len running.new < vec_capacity running.new) }
+{
+    running.reserve(1)?;
+    let runs = running.len() as u32 + 1;
+    region.prepare(alloc, id)?;
+    region.reserve(alloc, runs)
 }

@@ -1,6 +1,6 @@
 ghost use Rattle.std.specs.Prelude.{◌≡◌};
 
-use crate::claim::Claim;
+use crate::claim::{Claim, Finished};
 use crate::gate::Gate;
 use crate::held::Held;
 use crate::jobs::Job;
@@ -96,23 +96,58 @@ fn work_all<R: Wait, S: Scheduler, N: Named, G: Gate>(
 )
     requires { procs.now ≡ N.procs }
 {
-    let mut next = Some(first);
+    let mut claim = first;
     for _step in 0..most {
-        let Some(claim) = next.take() else {
+        let Some(next) = work_one(rt, alloc, lock, most, claim, procs, gate) else {
             return;
         };
-        match claim.work(alloc, procs) {
-            Ok(finished) => {
-                gate.between(finished.id());
-                lock.lock(rt).commit(finished);
-            }
-            Err((claim, NoMemory)) => {
-                lock.lock(rt).give_back(claim);
-                return;
-            }
-        }
-        next = next_claim(rt, alloc, lock, most);
+        claim = next;
     }
+}
+
+// Computes a claim and commits it, and gives the next one to compute. Gives the claim back where memory runs out, and then there is
+// no next one.
+fn work_one<R: Wait, S: Scheduler, N: Named, G: Gate>(
+    rt: &R,
+    alloc: Global,
+    lock: &Mutex<Held<S, N>>,
+    most: u64,
+    claim: Claim<N>,
+    procs: &Procs,
+    gate: &G,
+) -> Option<Claim<N>>
+    requires { procs.now ≡ N.procs }
+{
+    match claim.work(alloc, procs) {
+        Ok(finished) => {
+            commit_one(rt, lock, finished, gate);
+            next_claim(rt, alloc, lock, most)
+        }
+        Err((claim, NoMemory)) => {
+            give_back_one(rt, lock, claim);
+            None
+        }
+    }
+}
+
+// Commits what is finished, once it has passed the gate.
+fn commit_one<R: Wait, S: Scheduler, N: Named, G: Gate>(
+    rt: &R,
+    lock: &Mutex<Held<S, N>>,
+    finished: Finished<N>,
+    gate: &G,
+) {
+    gate.between(finished.id());
+    lock.lock(rt).commit(finished);
+}
+
+// Gives a claim back.
+fn give_back_one<R: Wait, S: Scheduler, N: Named>(
+    rt: &R,
+    lock: &Mutex<Held<S, N>>,
+    claim: Claim<N>,
+) {
+    lock.lock(rt).give_back(claim);
 }
 
 // The next claim to compute. None where nothing is missing and there is none to claim, or memory ran out.

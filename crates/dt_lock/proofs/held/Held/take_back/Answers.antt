@@ -1,7 +1,7 @@
 use Rattle.std.proofs.Common.{sym, subst}
 use Rattle.dt_lock.specs.Held.{IsHeld}
 use Rattle.dt_lock.proofs.HeldSteps.{taken_off}
-use Rattle.dt_lock.proofs.held.Held.give_back.Goals as goal
+use Rattle.dt_lock.proofs.held.Held.take_back.Goals as goal
 
 pub invariant_of-self : goal.invariant_of-self
 invariant_of-self g c =
