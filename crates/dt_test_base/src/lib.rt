@@ -1,0 +1,46 @@
+//! Tests of what stands below a region: texts, ids, parts, logs and events, the language of procedures, rows and transactions, reports, and packets and links.
+//! Each is a table of expected values that were worked out independently, with one loop, which names the first row that is not answered as it says;
+//! there is no other code.
+#![tactic(auto)]
+
+#[cfg(test)]
+use std::test::Fail;
+
+/// The failure of a table at a row.
+#[cfg(test)]
+fn wrong(row: usize) -> Fail {
+    Fail::new(format_args!("row {row}"))
+}
+
+#[cfg(test)]
+mod bytes;
+#[cfg(test)]
+mod calls;
+#[cfg(test)]
+mod ends;
+#[cfg(test)]
+mod events;
+#[cfg(test)]
+mod logs;
+#[cfg(test)]
+mod losses;
+#[cfg(test)]
+mod packets;
+#[cfg(test)]
+mod parts;
+#[cfg(test)]
+mod printed;
+#[cfg(test)]
+mod reports;
+#[cfg(test)]
+mod rings;
+#[cfg(test)]
+mod rows;
+#[cfg(test)]
+mod shelves;
+#[cfg(test)]
+mod sources;
+#[cfg(test)]
+mod summaries;
+#[cfg(test)]
+mod transactions;
