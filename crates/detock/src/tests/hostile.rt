@@ -1,13 +1,14 @@
 //! Files that are cut, too long or hold one thing too many, and sinks that fail in the middle.
-use super::{AMPLE, ONE_PUT, ONE_PUT_EVENTS, ONE_PUT_REPORT, call, folder_of, refused, reported};
+use super::{
+    AMPLE, ONE_PUT, ONE_PUT_EVENTS, ONE_PUT_REPORT, called, called_over, ended, files_of,
+    told_over, words_of, wrong,
+};
 use dt_outside::MemoryFolder;
+use dt_text::NoMemory;
 use std::alloc::Global;
 use std::sync::Wait;
 use std::test::Fail;
 use std::thread::Threads;
-
-/// The bytes that the report of one put has.
-const REPORT_BYTES: u64 = 140;
 
 /// How the replay of one put with these events ends, with this much room in `out` and in `err`.
 fn one_put<R: Threads + Wait + Sync>(
@@ -15,134 +16,187 @@ fn one_put<R: Threads + Wait + Sync>(
     alloc: Global,
     events: &[u8],
     room: (u64, u64),
-) -> Result<Vec<u8>, Fail> {
-    let files = folder_of(alloc, &[("w", ONE_PUT), ("e", events)], &[])?;
-    call(rt, alloc, &["replay", ":1", "w", "e"], files, room)
+) -> Result<Vec<u8>, NoMemory> {
+    let files = [("w", ONE_PUT), ("e", events)];
+    called(rt, alloc, &["replay", ":1", "w", "e"], &files, &[], room)
 }
 
-/// Whether a sink that has less room than the report holds as much of it as fits, and one with that room the whole.
-fn each_room_holds_what_fits<R: Threads + Wait + Sync>(
-    rt: &R,
-    alloc: Global,
-) -> Result<bool, Fail> {
-    let whole = reported(alloc, &ONE_PUT_REPORT, ONE_PUT_EVENTS)?;
-    let fails = b"7 detock: cannot write\n|".as_slice();
-    let mut holds = true;
-    for room in 0..REPORT_BYTES {
-        let told = one_put(rt, alloc, ONE_PUT_EVENTS, (room, AMPLE))?;
-        let held = told.as_slice().strip_prefix(fails);
-        let report = whole.as_slice().strip_prefix(b"0 |".as_slice());
-        holds = holds
-            && match (held, report) {
-                (Some(held), Some(report)) => held.len() as u64 == room && report.starts_with(held),
-                _ => false,
-            };
+/// Fails at the first room, smaller than the report, in which a sink holds anything but as much of the report as fits.
+fn check_rooms<R: Threads + Wait + Sync>(rt: &R, alloc: Global) -> Result<(), Fail> {
+    for room in 0..ONE_PUT_REPORT.len() {
+        let fits = ONE_PUT_REPORT.get(..room).unwrap_or_default();
+        let told = one_put(rt, alloc, ONE_PUT_EVENTS, (room as u64, AMPLE))?;
+        if told != ended(alloc, 7, b"detock: cannot write\n", fits)? {
+            return Err(wrong(room));
+        }
     }
-    let told = one_put(rt, alloc, ONE_PUT_EVENTS, (REPORT_BYTES, AMPLE))?;
-    Ok(holds && told == whole)
+    Ok(())
 }
 
-/// Events of one put, the room in `out` and in `err`, and how their replay ends.
-const SMALL_ROOMS: [(&[u8], (u64, u64), &[u8]); 2] = [
+#[test]
+fn a_small_sink_holds_what_fits(rt: HostRuntime) -> Result<(), Fail> {
+    check_rooms(&rt, rt.alloc())
+}
+
+/// Events of one put, the room in `out` and in `err`, the exit number, and what `err` and `out` hold in the end.
+type Room = (&'static [u8], (u64, u64), u8, &'static [u8], &'static [u8]);
+
+/// Sinks that a report or a fault line just fits, or does not.
+const ROOMS: &[Room] = &[
+    // A sink with the room of the report holds the whole.
+    (ONE_PUT_EVENTS, (140, AMPLE), 0, b"", ONE_PUT_REPORT),
     // A fault of `err` changes no status.
     (
         ONE_PUT_EVENTS,
         (40, 8),
-        b"7 detock: |replies\nreply a 1 done\norder\n1.0 a 1 1 d",
+        7,
+        b"detock: ",
+        b"replies\nreply a 1 done\norder\n1.0 a 1 1 d",
     ),
     // A fault line is cut where there is no more room.
     (
         b"submit 0 a\nappend 0 0 0\nexecute 0 1.0\n",
         (AMPLE, 5),
-        b"6 detoc|",
+        6,
+        b"detoc",
+        b"",
     ),
 ];
 
-/// Whether each small room is filled.
-fn each_small_room_is_filled<R: Threads + Wait + Sync>(
-    rt: &R,
-    alloc: Global,
-) -> Result<bool, Fail> {
-    let mut holds = true;
-    for (events, room, want) in SMALL_ROOMS {
-        holds = holds && one_put(rt, alloc, events, room)?.as_slice() == want;
-    }
-    Ok(holds)
-}
-
-/// Two lengths: the line that is faulty in events that are cut at a length from the first to the second, or none, where that is behind
-/// an event.
-const CUTS: [(usize, usize, Option<u32>); 11] = [
-    (0, 0, None),
-    (1, 9, Some(1)),
-    (10, 11, None),
-    (12, 22, Some(2)),
-    (23, 24, None),
-    (25, 33, Some(3)),
-    (34, 35, None),
-    (36, 47, Some(4)),
-    (48, 49, None),
-    (50, 58, Some(5)),
-    (59, 60, None),
-];
-
-/// Whether what a replay told is the fault of this line, or, where no line is faulty, the beginning of a report.
-fn ends_by(alloc: Global, told: &[u8], faulty: Option<u32>) -> Result<bool, Fail> {
-    let Some(line) = faulty else {
-        return Ok(told.starts_with(b"0 |replies\n"));
-    };
-    let fault = format!(in alloc; "detock: events line {line}: no event\n")?;
-    Ok(told == refused(alloc, 6, fault.as_str())?.as_slice())
-}
-
-/// Whether events that are cut end by the line in which they are cut.
-fn each_cut_ends_by_its_line<R: Threads + Wait + Sync>(
-    rt: &R,
-    alloc: Global,
-) -> Result<bool, Fail> {
-    let mut holds = true;
-    for (first, last, faulty) in CUTS {
-        for length in first..=last {
-            let events = ONE_PUT_EVENTS.get(..length).unwrap_or_default();
-            let told = one_put(rt, alloc, events, (AMPLE, AMPLE))?;
-            holds = holds && ends_by(alloc, told.as_slice(), faulty)?;
+/// Fails at the first sinks that hold something else.
+fn check_sinks<R: Threads + Wait + Sync>(rt: &R, alloc: Global) -> Result<(), Fail> {
+    for (row, (events, room, exit, err, out)) in ROOMS.iter().enumerate() {
+        if one_put(rt, alloc, events, *room)? != ended(alloc, *exit, err, out)? {
+            return Err(wrong(row));
         }
     }
-    Ok(holds)
+    Ok(())
 }
 
-/// How a replay ends where the file of this name has one byte more than any file may have.
-fn of_long_file<R: Threads + Wait + Sync>(
+#[test]
+fn sinks_are_filled_and_a_small_one_for_faults_changes_no_status(
+    rt: HostRuntime,
+) -> Result<(), Fail> {
+    check_sinks(&rt, rt.alloc())
+}
+
+/// How a replay of events that are cut ends.
+enum End {
+    /// By a report: they are cut behind an event.
+    Report,
+    /// By the fault of the line that is cut.
+    Fault(&'static [u8]),
+}
+
+/// Two lengths, and how events end that are cut at a length from the first to the second.
+const CUTS: &[(usize, usize, End)] = &[
+    (0, 0, End::Report),
+    (1, 9, End::Fault(b"6 detock: events line 1: no event\n|")),
+    (10, 11, End::Report),
+    (12, 22, End::Fault(b"6 detock: events line 2: no event\n|")),
+    (23, 24, End::Report),
+    (25, 33, End::Fault(b"6 detock: events line 3: no event\n|")),
+    (34, 35, End::Report),
+    (36, 47, End::Fault(b"6 detock: events line 4: no event\n|")),
+    (48, 49, End::Report),
+    (50, 58, End::Fault(b"6 detock: events line 5: no event\n|")),
+    (59, 60, End::Report),
+];
+
+/// Whether a replay that told this ended so.
+fn is_end(told: &[u8], end: &End) -> bool {
+    match end {
+        End::Report => told.starts_with(b"0 |replies\n"),
+        End::Fault(fault) => told == *fault,
+    }
+}
+
+/// Fails at the first length from the first to the last at which the events, cut there, end in another way.
+fn check_lengths<R: Threads + Wait + Sync>(
     rt: &R,
     alloc: Global,
-    name: &str,
-) -> Result<Vec<u8>, Fail> {
-    let files = vec![in alloc;
-        (
-            String::from_str(alloc, name)?,
-            vec![in alloc; b' '; 16_777_217]?
-        ),
-        (
-            String::from_str(alloc, "c")?,
-            b"regions = 1\n".to_vec(alloc)?
-        ),
-        (String::from_str(alloc, "w")?, Vec::new(alloc)),
-    ]?;
-    let files = MemoryFolder::new(files, Vec::new(alloc));
-    call(rt, alloc, &["replay", "c", "w", "e"], files, (AMPLE, AMPLE))
+    first: usize,
+    last: usize,
+    end: &End,
+) -> Result<(), Fail> {
+    for length in first..=last {
+        let events = ONE_PUT_EVENTS.get(..length).unwrap_or_default();
+        let told = one_put(rt, alloc, events, (AMPLE, AMPLE))?;
+        if !is_end(told.as_slice(), end) {
+            return Err(wrong(length));
+        }
+    }
+    Ok(())
 }
 
-/// Whether each file that is too long is reported.
-fn each_long_file_is_told<R: Threads + Wait + Sync>(rt: &R, alloc: Global) -> Result<bool, Fail> {
-    let mut holds = true;
-    for (name, exit, line) in [
-        ("c", 4u8, "detock: cluster: too long\n"),
-        ("w", 5, "detock: workload line 0: too long\n"),
-        ("e", 6, "detock: events line 0: too long\n"),
-    ] {
-        holds = holds && of_long_file(rt, alloc, name)? == refused(alloc, exit, line)?;
+/// Fails at the first length at which events that are cut end in another way.
+fn check_cuts<R: Threads + Wait + Sync>(rt: &R, alloc: Global) -> Result<(), Fail> {
+    for (first, last, end) in CUTS {
+        check_lengths(rt, alloc, *first, *last, end)?;
     }
-    Ok(holds)
+    Ok(())
+}
+
+#[test]
+fn events_that_are_cut_end_by_the_line_that_is_cut(rt: HostRuntime) -> Result<(), Fail> {
+    check_cuts(&rt, rt.alloc())
+}
+
+/// The files before one that has one byte more than any file may have, the name of that one, the exit number, and the fault that is
+/// reported.
+const TOO_LONG: &[(&[(&str, &[u8])], &str, u8, &[u8])] = &[
+    (&[], "c", 4, b"detock: cluster: too long\n"),
+    (
+        &[("c", b"regions = 1\n")],
+        "w",
+        5,
+        b"detock: workload line 0: too long\n",
+    ),
+    (
+        &[("c", b"regions = 1\n"), ("w", b"")],
+        "e",
+        6,
+        b"detock: events line 0: too long\n",
+    ),
+];
+
+/// A folder of these files and of one that is too long.
+fn long_folder(
+    alloc: Global,
+    before: &[(&str, &[u8])],
+    name: &str,
+) -> Result<MemoryFolder, NoMemory> {
+    let mut files = files_of(alloc, before)?;
+    let name = String::from_str(alloc, name)?;
+    files.push((name, vec![in alloc; b' '; 16_777_217]?))?;
+    Ok(MemoryFolder::new(files, Vec::new(alloc)))
+}
+
+/// How a replay over that folder ends.
+fn over_long<R: Threads + Wait + Sync>(
+    rt: &R,
+    alloc: Global,
+    before: &[(&str, &[u8])],
+    name: &str,
+) -> Result<Vec<u8>, NoMemory> {
+    let words = words_of(alloc, &["replay", "c", "w", "e"])?;
+    let mut files = long_folder(alloc, before, name)?;
+    called_over(rt, alloc, words.as_slice(), &mut files, (AMPLE, AMPLE))
+}
+
+/// Fails at the first file that is too long and is not reported.
+fn check_long<R: Threads + Wait + Sync>(rt: &R, alloc: Global) -> Result<(), Fail> {
+    for (row, (before, name, exit, line)) in TOO_LONG.iter().enumerate() {
+        if over_long(rt, alloc, before, name)? != ended(alloc, *exit, line, b"")? {
+            return Err(wrong(row));
+        }
+    }
+    Ok(())
+}
+
+#[test]
+fn a_file_that_is_too_long_is_told(rt: HostRuntime) -> Result<(), Fail> {
+    check_long(&rt, rt.alloc())
 }
 
 /// A file, by its front, the piece that follows it, how often, and its back.
@@ -156,12 +210,12 @@ const NOTHING: Repeated = ("", "", 0, "");
 
 /// A cluster and a workload with one thing too many: the items of a text, the brackets that are open in a procedure, its `{` among
 /// them, and the calls.
-const TOO_MANY: [(Repeated, Repeated, u8, &str); 3] = [
+const TOO_MANY: &[(Repeated, Repeated, u8, &[u8])] = &[
     (
         ONE_REGION,
         ("session a at 0\ncall note \"t\" \"", "x", 257, "\"\n"),
         5,
-        "detock: workload line 2: no line of a workload\n",
+        b"detock: workload line 2: no line of a workload\n",
     ),
     (
         (
@@ -172,56 +226,58 @@ const TOO_MANY: [(Repeated, Repeated, u8, &str); 3] = [
         ),
         NOTHING,
         4,
-        "detock: cluster procs byte 101: too many\n",
+        b"detock: cluster procs byte 101: too many\n",
     ),
     (
         ONE_REGION,
         ("session a at 0\n", "call put \"b\" 5\n", 20_001, ""),
         5,
-        "detock: workload line 20002: too many\n",
+        b"detock: workload line 20002: too many\n",
     ),
 ];
 
 /// The bytes of a file.
-fn repeated(alloc: Global, file: Repeated) -> Result<Vec<u8>, Fail> {
+fn repeated(alloc: Global, file: &Repeated) -> Result<Vec<u8>, NoMemory> {
     let (front, piece, times, back) = file;
-    let mut bytes = front.as_bytes().to_vec(alloc)?;
-    for _ in 0..times {
+    let mut bytes = Vec::from_slice(alloc, front.as_bytes())?;
+    for _ in 0..*times {
         bytes.extend_from_slice(piece.as_bytes())?;
     }
     bytes.extend_from_slice(back.as_bytes())?;
     Ok(bytes)
 }
 
-/// Whether each thing that is one too many is reported.
-fn each_thing_too_many_is_told<R: Threads + Wait + Sync>(
+/// How a run of these files ends.
+fn over_repeated<R: Threads + Wait + Sync>(
     rt: &R,
     alloc: Global,
-) -> Result<bool, Fail> {
-    let mut holds = true;
-    for (cluster, workload, exit, line) in TOO_MANY {
-        let cluster = repeated(alloc, cluster)?;
-        let workload = repeated(alloc, workload)?;
-        let texts = [("c", cluster.as_slice()), ("w", workload.as_slice())];
-        let files = folder_of(alloc, &texts, &[])?;
-        let told = call(rt, alloc, &["run", "c", "w"], files, (AMPLE, AMPLE))?;
-        holds = holds && told == refused(alloc, exit, line)?;
+    cluster: &Repeated,
+    workload: &Repeated,
+) -> Result<Vec<u8>, NoMemory> {
+    let cluster = repeated(alloc, cluster)?;
+    let workload = repeated(alloc, workload)?;
+    let words = ["run", "c", "w"];
+    told_over(
+        rt,
+        alloc,
+        &words,
+        cluster.as_slice(),
+        workload.as_slice(),
+        b"",
+    )
+}
+
+/// Fails at the first files whose one thing too many is not reported.
+fn check_too_many<R: Threads + Wait + Sync>(rt: &R, alloc: Global) -> Result<(), Fail> {
+    for (row, (cluster, workload, exit, line)) in TOO_MANY.iter().enumerate() {
+        if over_repeated(rt, alloc, cluster, workload)? != ended(alloc, *exit, line, b"")? {
+            return Err(wrong(row));
+        }
     }
-    Ok(holds)
+    Ok(())
 }
 
 #[test]
-fn cut_and_long_files_and_small_sinks_end_by_their_causes(rt: HostRuntime) -> Result<(), Fail> {
-    let alloc = rt.alloc();
-    let answers = [
-        ("rooms", each_room_holds_what_fits(&rt, alloc)?),
-        ("small rooms", each_small_room_is_filled(&rt, alloc)?),
-        ("cuts", each_cut_ends_by_its_line(&rt, alloc)?),
-        ("long files", each_long_file_is_told(&rt, alloc)?),
-        ("things too many", each_thing_too_many_is_told(&rt, alloc)?),
-    ];
-    for (shows, holds) in answers {
-        assert!(rt; holds, "{shows}");
-    }
-    Ok(())
+fn one_thing_too_many_is_told(rt: HostRuntime) -> Result<(), Fail> {
+    check_too_many(&rt, rt.alloc())
 }

@@ -1,654 +1,565 @@
 //! Replays: what events come to, and the first fault in them.
-use super::{file_of, moves, replay, reported};
+use super::{ended, faults, joined, moves, told_over, turns};
+use dt_text::NoMemory;
 use std::alloc::Global;
 use std::sync::Wait;
 use std::test::Fail;
 use std::thread::Threads;
 
-/// A replay, and how it ends; a line each.
-#[derive(Clone, Copy)]
+/// A replay, and how it ends.
 pub(super) struct Case {
     /// What the case shows.
     pub shows: &'static str,
-    /// The lines of the cluster's file, or the word of a built-in one.
-    pub cluster: &'static [&'static str],
-    pub workload: &'static [&'static str],
+    /// The cluster's file, or the word of a built-in one.
+    pub cluster: &'static str,
+    pub workload: &'static [u8],
     /// The first events, and those after them.
-    pub events: &'static [&'static str],
-    pub then: &'static [&'static str],
+    pub events: &'static [u8],
+    pub then: &'static [u8],
     pub exit: u8,
     /// The report up to its events, or else the fault.
-    pub told: &'static [&'static str],
+    pub told: &'static [u8],
 }
 
 /// Three puts of one home.
-const THREE_PUTS: &[&str] = &[
-    "session x at 0",
-    "call put \"b\" 1",
-    "session y at 0",
-    "call put \"d\" 2",
-    "session z at 0",
-    "call put \"f\" 3",
-];
+const THREE_PUTS: &[u8] = b"session x at 0\n\
+    call put \"b\" 1\n\
+    session y at 0\n\
+    call put \"d\" 2\n\
+    session z at 0\n\
+    call put \"f\" 3\n";
 
 /// They are asked for, and placed in the log of their home.
-const THREE_PUTS_BEGIN: &[&str] = &[
-    "submit 0 x",
-    "submit 0 y",
-    "submit 0 z",
-    "append 0 0 0",
-    "append 0 0 1",
-    "append 0 0 2",
-];
+const THREE_PUTS_BEGIN: &[u8] = b"submit 0 x\n\
+    submit 0 y\n\
+    submit 0 z\n\
+    append 0 0 0\n\
+    append 0 0 1\n\
+    append 0 0 2\n";
 
 /// Two transfers of two homes, in opposite ways.
-const CROSSING: &[&str] = &[
-    "session p at 0",
-    "call xfer \"b\" \"a\" 3",
-    "session q at 1",
-    "call xfer \"a\" \"b\" 4",
-];
+const CROSSING: &[u8] = b"session p at 0\n\
+    call xfer \"b\" \"a\" 3\n\
+    session q at 1\n\
+    call xfer \"a\" \"b\" 4\n";
 
 /// The same two, of which the second has a lower rank.
-const CROSSING_URGENT: &[&str] = &[
-    "session p at 0",
-    "call xfer \"b\" \"a\" 3",
-    "session q at 1",
-    "call/2 xfer \"a\" \"b\" 4",
-];
+const CROSSING_URGENT: &[u8] = b"session p at 0\n\
+    call xfer \"b\" \"a\" 3\n\
+    session q at 1\n\
+    call/2 xfer \"a\" \"b\" 4\n";
 
 /// The same two, with the rank of a call that names none.
-const CROSSING_OF_RANK_5: &[&str] = &[
-    "session p at 0",
-    "call/5 xfer \"b\" \"a\" 3",
-    "session q at 1",
-    "call xfer \"a\" \"b\" 4",
-];
+const CROSSING_OF_RANK_5: &[u8] = b"session p at 0\n\
+    call/5 xfer \"b\" \"a\" 3\n\
+    session q at 1\n\
+    call xfer \"a\" \"b\" 4\n";
 
 /// They stand in both logs in opposite orders, of which region 0 inserts its own.
-const CROSSING_BEGIN: &[&str] = &[
-    "submit 0 p",
-    "submit 1 q",
-    "append 0 0 0",
-    "append 1 1 0",
-    "append 0 1 0",
-    "append 1 0 0",
-    "deliver 0 1 0 2",
-    "deliver 1 0 0 2",
-    "insert 0 0",
-    "insert 0 0",
-];
+const CROSSING_BEGIN: &[u8] = b"submit 0 p\n\
+    submit 1 q\n\
+    append 0 0 0\n\
+    append 1 1 0\n\
+    append 0 1 0\n\
+    append 1 0 0\n\
+    deliver 0 1 0 2\n\
+    deliver 1 0 0 2\n\
+    insert 0 0\n\
+    insert 0 0\n";
 
 /// Two reads of a key, and a put.
-const TWO_READS: &[&str] = &[
-    "session x at 0",
-    "call get \"b\"",
-    "session y at 0",
-    "call get \"b\"",
-    "session z at 0",
-    "call put \"b\" 1",
-];
+const TWO_READS: &[u8] = b"session x at 0\n\
+    call get \"b\"\n\
+    session y at 0\n\
+    call get \"b\"\n\
+    session z at 0\n\
+    call put \"b\" 1\n";
 
 /// All are inserted, and the second read is executed.
-const TWO_READS_BEGIN: &[&str] = &[
-    "submit 0 x",
-    "submit 0 y",
-    "submit 0 z",
-    "append 0 0 0",
-    "append 0 0 1",
-    "append 0 0 2",
-    "insert 0 0",
-    "insert 0 0",
-    "insert 0 0",
-    "execute 0 2.0",
-];
+const TWO_READS_BEGIN: &[u8] = b"submit 0 x\n\
+    submit 0 y\n\
+    submit 0 z\n\
+    append 0 0 0\n\
+    append 0 0 1\n\
+    append 0 0 2\n\
+    insert 0 0\n\
+    insert 0 0\n\
+    insert 0 0\n\
+    execute 0 2.0\n";
 
 /// A put, and three transfers in a circle, which it reaches.
-const CIRCLE: &[&str] = &[
-    "session u at 0",
-    "call put \"c\" 20",
-    "session p at 0",
-    "call xfer \"c\" \"a\" 1",
-    "session q at 1",
-    "call xfer \"a\" \"b\" 1",
-    "session s at 2",
-    "call xfer \"b\" \"c\" 1",
-];
+const CIRCLE: &[u8] = b"session u at 0\n\
+    call put \"c\" 20\n\
+    session p at 0\n\
+    call xfer \"c\" \"a\" 1\n\
+    session q at 1\n\
+    call xfer \"a\" \"b\" 1\n\
+    session s at 2\n\
+    call xfer \"b\" \"c\" 1\n";
 
 /// All parts are placed, and region 0 inserts them.
-const CIRCLE_BEGIN: &[&str] = &[
-    "submit 0 u",
-    "append 0 0 0",
-    "submit 0 p",
-    "submit 1 q",
-    "submit 2 s",
-    "append 0 0 1",
-    "append 1 1 0",
-    "append 2 2 0",
-    "append 0 2 0",
-    "append 1 0 0",
-    "append 2 1 0",
-    "deliver 0 1 0 2",
-    "deliver 0 2 0 2",
-    "insert 0 0",
-    "insert 0 0",
-    "insert 0 0",
-    "insert 0 1",
-    "insert 0 1",
-    "insert 0 2",
-    "insert 0 2",
-];
+const CIRCLE_BEGIN: &[u8] = b"submit 0 u\n\
+    append 0 0 0\n\
+    submit 0 p\n\
+    submit 1 q\n\
+    submit 2 s\n\
+    append 0 0 1\n\
+    append 1 1 0\n\
+    append 2 2 0\n\
+    append 0 2 0\n\
+    append 1 0 0\n\
+    append 2 1 0\n\
+    deliver 0 1 0 2\n\
+    deliver 0 2 0 2\n\
+    insert 0 0\n\
+    insert 0 0\n\
+    insert 0 0\n\
+    insert 0 1\n\
+    insert 0 1\n\
+    insert 0 2\n\
+    insert 0 2\n";
 
 /// Replays.
 const CASES: &[Case] = &[
     Case {
         shows: "nothing is reported of nothing",
-        cluster: &[":1"],
-        workload: &[],
-        events: &[],
-        then: &[],
+        cluster: ":1",
+        workload: b"",
+        events: b"",
+        then: b"",
         exit: 0,
-        told: &["replies", "order", "table 0"],
+        told: b"replies\n\
+            order\n\
+            table 0\n",
     },
     Case {
         shows: "repeated and lost deliveries change nothing",
-        cluster: &[":2"],
+        cluster: ":2",
         workload: THREE_PUTS,
         events: THREE_PUTS_BEGIN,
-        then: &[
-            "deliver 1 0 0 2",
-            "deliver 1 0 0 2",
-            "deliver 1 0 3 3",
-            "deliver 1 0 1 3",
-            "insert 1 0",
-            "insert 1 0",
-            "insert 1 0",
-            "execute 1 1.0",
-            "execute 1 2.0",
-            "execute 1 3.0",
-        ],
+        then: b"deliver 1 0 0 2\n\
+            deliver 1 0 0 2\n\
+            deliver 1 0 3 3\n\
+            deliver 1 0 1 3\n\
+            insert 1 0\n\
+            insert 1 0\n\
+            insert 1 0\n\
+            execute 1 1.0\n\
+            execute 1 2.0\n\
+            execute 1 3.0\n",
         exit: 0,
-        told: &[
-            "replies",
-            "order",
-            "1.0 x 1 1 done",
-            "2.0 y 1 1 done",
-            "3.0 z 1 1 done",
-            "table 0",
-            "table 1",
-            "b = 1 home 0 moves 0",
-            "d = 2 home 0 moves 0",
-            "f = 3 home 0 moves 0",
-        ],
+        told: b"replies\n\
+            order\n\
+            1.0 x 1 1 done\n\
+            2.0 y 1 1 done\n\
+            3.0 z 1 1 done\n\
+            table 0\n\
+            table 1\n\
+            b = 1 home 0 moves 0\n\
+            d = 2 home 0 moves 0\n\
+            f = 3 home 0 moves 0\n",
     },
     Case {
         shows: "a delivery past the end of a log is refused",
-        cluster: &[":2"],
+        cluster: ":2",
         workload: THREE_PUTS,
         events: THREE_PUTS_BEGIN,
-        then: &["deliver 1 0 0 4"],
+        then: b"deliver 1 0 0 4\n",
         exit: 6,
-        told: &["detock: events line 7: rule 3"],
+        told: b"detock: events line 7: rule 3\n",
     },
     Case {
         shows: "regions may execute what does not clash in any order",
-        cluster: &[":2"],
-        workload: &[
-            "session x at 0",
-            "call put \"b\" 1",
-            "session y at 0",
-            "call put \"d\" 2",
-        ],
-        events: &[
-            "submit 0 x",
-            "submit 0 y",
-            "append 0 0 0",
-            "append 0 0 1",
-            "insert 0 0",
-            "insert 0 0",
-            "deliver 1 0 0 2",
-            "insert 1 0",
-            "insert 1 0",
-            "execute 1 2.0",
-            "execute 0 1.0",
-            "execute 0 2.0",
-            "execute 1 1.0",
-        ],
-        then: &[],
+        cluster: ":2",
+        workload: b"session x at 0\n\
+            call put \"b\" 1\n\
+            session y at 0\n\
+            call put \"d\" 2\n",
+        events: b"submit 0 x\n\
+            submit 0 y\n\
+            append 0 0 0\n\
+            append 0 0 1\n\
+            insert 0 0\n\
+            insert 0 0\n\
+            deliver 1 0 0 2\n\
+            insert 1 0\n\
+            insert 1 0\n\
+            execute 1 2.0\n\
+            execute 0 1.0\n\
+            execute 0 2.0\n\
+            execute 1 1.0\n",
+        then: b"",
         exit: 0,
-        told: &[
-            "replies",
-            "order",
-            "2.0 y 1 1 done",
-            "1.0 x 1 1 done",
-            "table 0",
-            "b = 1 home 0 moves 0",
-            "d = 2 home 0 moves 0",
-            "table 1",
-            "b = 1 home 0 moves 0",
-            "d = 2 home 0 moves 0",
-        ],
+        told: b"replies\n\
+            order\n\
+            2.0 y 1 1 done\n\
+            1.0 x 1 1 done\n\
+            table 0\n\
+            b = 1 home 0 moves 0\n\
+            d = 2 home 0 moves 0\n\
+            table 1\n\
+            b = 1 home 0 moves 0\n\
+            d = 2 home 0 moves 0\n",
     },
     Case {
         shows: "calls over two homes deadlock and end alike",
-        cluster: &["regions = 2", "[rows]", "a = 10", "b = 10"],
+        cluster: "regions = 2\n\
+            [rows]\n\
+            a = 10\n\
+            b = 10\n",
         workload: CROSSING,
         events: CROSSING_BEGIN,
-        then: &[
-            "insert 0 1",
-            "insert 0 1",
-            "insert 1 0",
-            "insert 1 0",
-            "insert 1 1",
-            "insert 1 1",
-            "resolve 0 1.0 1.1",
-            "execute 0 1.0",
-            "execute 0 1.1",
-            "resolve 1 1.0 1.1",
-            "execute 1 1.0",
-            "execute 1 1.1",
-            "answer 0 p",
-            "answer 1 q",
-        ],
+        then: b"insert 0 1\n\
+            insert 0 1\n\
+            insert 1 0\n\
+            insert 1 0\n\
+            insert 1 1\n\
+            insert 1 1\n\
+            resolve 0 1.0 1.1\n\
+            execute 0 1.0\n\
+            execute 0 1.1\n\
+            resolve 1 1.0 1.1\n\
+            execute 1 1.0\n\
+            execute 1 1.1\n\
+            answer 0 p\n\
+            answer 1 q\n",
         exit: 0,
-        told: &[
-            "replies",
-            "reply p 1 done 7 13",
-            "reply q 1 done 9 11",
-            "order",
-            "1.0 p 1 1 done 7 13",
-            "1.1 q 1 1 done 9 11",
-            "table 0",
-            "a = 9 home 1 moves 0",
-            "b = 11 home 0 moves 0",
-            "table 1",
-            "a = 9 home 1 moves 0",
-            "b = 11 home 0 moves 0",
-        ],
+        told: b"replies\n\
+            reply p 1 done 7 13\n\
+            reply q 1 done 9 11\n\
+            order\n\
+            1.0 p 1 1 done 7 13\n\
+            1.1 q 1 1 done 9 11\n\
+            table 0\n\
+            a = 9 home 1 moves 0\n\
+            b = 11 home 0 moves 0\n\
+            table 1\n\
+            a = 9 home 1 moves 0\n\
+            b = 11 home 0 moves 0\n",
     },
     Case {
         shows: "in a deadlocked group the lower rank runs first",
-        cluster: &["regions = 2", "[rows]", "a = 10", "b = 10"],
+        cluster: "regions = 2\n\
+            [rows]\n\
+            a = 10\n\
+            b = 10\n",
         workload: CROSSING_URGENT,
         events: CROSSING_BEGIN,
-        then: &[
-            "insert 0 1",
-            "insert 0 1",
-            "insert 1 0",
-            "insert 1 0",
-            "insert 1 1",
-            "insert 1 1",
-            "resolve 0 1.0 1.1",
-            "execute 0 1.1",
-            "execute 0 1.0",
-            "resolve 1 1.0 1.1",
-            "execute 1 1.1",
-            "execute 1 1.0",
-            "answer 0 p",
-            "answer 1 q",
-        ],
+        then: b"insert 0 1\n\
+            insert 0 1\n\
+            insert 1 0\n\
+            insert 1 0\n\
+            insert 1 1\n\
+            insert 1 1\n\
+            resolve 0 1.0 1.1\n\
+            execute 0 1.1\n\
+            execute 0 1.0\n\
+            resolve 1 1.0 1.1\n\
+            execute 1 1.1\n\
+            execute 1 1.0\n\
+            answer 0 p\n\
+            answer 1 q\n",
         exit: 0,
-        told: &[
-            "replies",
-            "reply p 1 done 11 9",
-            "reply q 1 done 6 14",
-            "order",
-            "1.1 q 1 1 done 6 14",
-            "1.0 p 1 1 done 11 9",
-            "table 0",
-            "a = 9 home 1 moves 0",
-            "b = 11 home 0 moves 0",
-            "table 1",
-            "a = 9 home 1 moves 0",
-            "b = 11 home 0 moves 0",
-        ],
+        told: b"replies\n\
+            reply p 1 done 11 9\n\
+            reply q 1 done 6 14\n\
+            order\n\
+            1.1 q 1 1 done 6 14\n\
+            1.0 p 1 1 done 11 9\n\
+            table 0\n\
+            a = 9 home 1 moves 0\n\
+            b = 11 home 0 moves 0\n\
+            table 1\n\
+            a = 9 home 1 moves 0\n\
+            b = 11 home 0 moves 0\n",
     },
     Case {
         shows: "a higher rank does not run before a lower one of its group",
-        cluster: &["regions = 2", "[rows]", "a = 10", "b = 10"],
+        cluster: "regions = 2\n\
+            [rows]\n\
+            a = 10\n\
+            b = 10\n",
         workload: CROSSING_URGENT,
         events: CROSSING_BEGIN,
-        then: &[
-            "insert 0 1",
-            "insert 0 1",
-            "insert 1 0",
-            "insert 1 0",
-            "insert 1 1",
-            "insert 1 1",
-            "resolve 0 1.0 1.1",
-            "execute 0 1.0",
-        ],
+        then: b"insert 0 1\n\
+            insert 0 1\n\
+            insert 1 0\n\
+            insert 1 0\n\
+            insert 1 1\n\
+            insert 1 1\n\
+            resolve 0 1.0 1.1\n\
+            execute 0 1.0\n",
         exit: 6,
-        told: &["detock: events line 18: rule 6"],
+        told: b"detock: events line 18: rule 6\n",
     },
     Case {
         shows: "a call that tells no rank has rank 5, so that ids decide",
-        cluster: &["regions = 2", "[rows]", "a = 10", "b = 10"],
+        cluster: "regions = 2\n\
+            [rows]\n\
+            a = 10\n\
+            b = 10\n",
         workload: CROSSING_OF_RANK_5,
         events: CROSSING_BEGIN,
-        then: &[
-            "insert 0 1",
-            "insert 0 1",
-            "resolve 0 1.0 1.1",
-            "execute 0 1.1",
-        ],
+        then: b"insert 0 1\n\
+            insert 0 1\n\
+            resolve 0 1.0 1.1\n\
+            execute 0 1.1\n",
         exit: 6,
-        told: &["detock: events line 14: rule 6"],
+        told: b"detock: events line 14: rule 6\n",
     },
     Case {
         shows: "a group is not resolved before it is known whole",
-        cluster: &["regions = 2", "[rows]", "a = 10", "b = 10"],
+        cluster: "regions = 2\n\
+            [rows]\n\
+            a = 10\n\
+            b = 10\n",
         workload: CROSSING,
         events: CROSSING_BEGIN,
-        then: &["resolve 0 1.0 1.1"],
+        then: b"resolve 0 1.0 1.1\n",
         exit: 6,
-        told: &["detock: events line 11: rule 5"],
+        told: b"detock: events line 11: rule 5\n",
     },
     Case {
         shows: "a member of a group is not executed before it is resolved",
-        cluster: &["regions = 2", "[rows]", "a = 10", "b = 10"],
+        cluster: "regions = 2\n\
+            [rows]\n\
+            a = 10\n\
+            b = 10\n",
         workload: CROSSING,
         events: CROSSING_BEGIN,
-        then: &["execute 0 1.0"],
+        then: b"execute 0 1.0\n",
         exit: 6,
-        told: &["detock: events line 11: rule 6"],
+        told: b"detock: events line 11: rule 6\n",
     },
     Case {
         shows: "reads do not wait for each other",
-        cluster: &[":2"],
+        cluster: ":2",
         workload: TWO_READS,
         events: TWO_READS_BEGIN,
-        then: &["execute 0 1.0", "execute 0 3.0", "answer 0 y"],
+        then: b"execute 0 1.0\n\
+            execute 0 3.0\n\
+            answer 0 y\n",
         exit: 0,
-        told: &[
-            "replies",
-            "reply y 1 done none",
-            "order",
-            "2.0 y 1 1 done none",
-            "1.0 x 1 1 done none",
-            "3.0 z 1 1 done",
-            "table 0",
-            "b = 1 home 0 moves 0",
-            "table 1",
-        ],
+        told: b"replies\n\
+            reply y 1 done none\n\
+            order\n\
+            2.0 y 1 1 done none\n\
+            1.0 x 1 1 done none\n\
+            3.0 z 1 1 done\n\
+            table 0\n\
+            b = 1 home 0 moves 0\n\
+            table 1\n",
     },
     Case {
         shows: "a put waits for the reads before it",
-        cluster: &[":2"],
+        cluster: ":2",
         workload: TWO_READS,
         events: TWO_READS_BEGIN,
-        then: &["execute 0 3.0"],
+        then: b"execute 0 3.0\n",
         exit: 6,
-        told: &["detock: events line 11: rule 6"],
+        told: b"detock: events line 11: rule 6\n",
     },
     Case {
         shows: "what stands outside a circle runs first",
-        cluster: &["regions = 3", "[rows]", "a = 10", "b = 10", "c = 10"],
+        cluster: "regions = 3\n\
+            [rows]\n\
+            a = 10\n\
+            b = 10\n\
+            c = 10\n",
         workload: CIRCLE,
         events: CIRCLE_BEGIN,
-        then: &[
-            "execute 0 1.0",
-            "resolve 0 1.1 1.2 2.0",
-            "execute 0 1.1",
-            "execute 0 1.2",
-            "execute 0 2.0",
-        ],
+        then: b"execute 0 1.0\n\
+            resolve 0 1.1 1.2 2.0\n\
+            execute 0 1.1\n\
+            execute 0 1.2\n\
+            execute 0 2.0\n",
         exit: 0,
-        told: &[
-            "replies",
-            "order",
-            "1.0 u 1 1 done",
-            "1.1 q 1 1 done 9 11",
-            "1.2 s 1 1 done 10 21",
-            "2.0 p 1 1 done 20 10",
-            "table 0",
-            "a = 10 home 1 moves 0",
-            "b = 10 home 2 moves 0",
-            "c = 20 home 0 moves 0",
-            "table 1",
-            "a = 10 home 1 moves 0",
-            "b = 10 home 2 moves 0",
-            "c = 10 home 0 moves 0",
-            "table 2",
-            "a = 10 home 1 moves 0",
-            "b = 10 home 2 moves 0",
-            "c = 10 home 0 moves 0",
-        ],
+        told: b"replies\n\
+            order\n\
+            1.0 u 1 1 done\n\
+            1.1 q 1 1 done 9 11\n\
+            1.2 s 1 1 done 10 21\n\
+            2.0 p 1 1 done 20 10\n\
+            table 0\n\
+            a = 10 home 1 moves 0\n\
+            b = 10 home 2 moves 0\n\
+            c = 20 home 0 moves 0\n\
+            table 1\n\
+            a = 10 home 1 moves 0\n\
+            b = 10 home 2 moves 0\n\
+            c = 10 home 0 moves 0\n\
+            table 2\n\
+            a = 10 home 1 moves 0\n\
+            b = 10 home 2 moves 0\n\
+            c = 10 home 0 moves 0\n",
     },
     Case {
         shows: "a circle waits for what reaches it from outside",
-        cluster: &["regions = 3", "[rows]", "a = 10", "b = 10", "c = 10"],
+        cluster: "regions = 3\n\
+            [rows]\n\
+            a = 10\n\
+            b = 10\n\
+            c = 10\n",
         workload: CIRCLE,
         events: CIRCLE_BEGIN,
-        then: &["resolve 0 1.1 1.2 2.0"],
+        then: b"resolve 0 1.1 1.2 2.0\n",
         exit: 6,
-        told: &["detock: events line 21: rule 5"],
+        told: b"detock: events line 21: rule 5\n",
     },
     Case {
         shows: "nothing is executed before its insertion",
-        cluster: &[":1"],
-        workload: &["session a at 0", "call put \"b\" 5"],
-        events: &["submit 0 a", "append 0 0 0", "execute 0 1.0"],
-        then: &[],
+        cluster: ":1",
+        workload: b"session a at 0\n\
+            call put \"b\" 5\n",
+        events: b"submit 0 a\n\
+            append 0 0 0\n\
+            execute 0 1.0\n",
+        then: b"",
         exit: 6,
-        told: &["detock: events line 3: rule 6"],
+        told: b"detock: events line 3: rule 6\n",
     },
     Case {
         shows: "a number has one spelling",
-        cluster: &[":1"],
-        workload: &["session a at 0", "call put \"b\" 5"],
-        events: &[
-            "submit 0 a",
-            "append 0 0 00",
-            "insert 0 0",
-            "execute 0 1.0",
-            "answer 0 a",
-        ],
-        then: &[],
+        cluster: ":1",
+        workload: b"session a at 0\n\
+            call put \"b\" 5\n",
+        events: b"submit 0 a\n\
+            append 0 0 00\n\
+            insert 0 0\n\
+            execute 0 1.0\n\
+            answer 0 a\n",
+        then: b"",
         exit: 6,
-        told: &["detock: events line 2: no event"],
+        told: b"detock: events line 2: no event\n",
     },
     Case {
         shows: "all lines are read before any event is tried, and skipped lines count",
-        cluster: &[":1"],
-        workload: &["session a at 0", "call put \"b\" 5"],
-        events: &["answer 0 a", "", "# a comment", "answer 0"],
-        then: &[],
+        cluster: ":1",
+        workload: b"session a at 0\n\
+            call put \"b\" 5\n",
+        events: b"answer 0 a\n\
+            \n\
+            # a comment\n\
+            answer 0\n",
+        then: b"",
         exit: 6,
-        told: &["detock: events line 4: no event"],
+        told: b"detock: events line 4: no event\n",
     },
     Case {
         shows: "the line of an event is reported and not its number",
-        cluster: &[":1"],
-        workload: &["session a at 0", "call put \"b\" 5"],
-        events: &["# a comment", "answer 0 a", "answer 0 a"],
-        then: &[],
+        cluster: ":1",
+        workload: b"session a at 0\n\
+            call put \"b\" 5\n",
+        events: b"# a comment\n\
+            answer 0 a\n\
+            answer 0 a\n",
+        then: b"",
         exit: 6,
-        told: &["detock: events line 2: rule 7"],
+        told: b"detock: events line 2: rule 7\n",
     },
     Case {
         shows: "there is no region 2",
-        cluster: &[":1"],
-        workload: &["session a at 0", "call put \"b\" 5"],
-        events: &["resolve 2 1.0 1.1"],
-        then: &[],
+        cluster: ":1",
+        workload: b"session a at 0\n\
+            call put \"b\" 5\n",
+        events: b"resolve 2 1.0 1.1\n",
+        then: b"",
         exit: 6,
-        told: &["detock: events line 1: rule 5"],
+        told: b"detock: events line 1: rule 5\n",
     },
 ];
 
-/// The events of a case.
-fn events_of(alloc: Global, case: &Case) -> Result<Vec<u8>, Fail> {
-    let mut events = file_of(alloc, case.events)?;
-    events.extend_from_slice(file_of(alloc, case.then)?.as_slice())?;
-    Ok(events)
-}
+/// A verb, and how many words a call of it has.
+type Verb = (&'static str, usize);
 
-/// How a case is to end.
-fn wanted(alloc: Global, case: &Case) -> Result<Vec<u8>, Fail> {
-    if case.exit == 0 {
-        return reported(alloc, case.told, events_of(alloc, case)?.as_slice());
+/// `replay CLUSTER WORKLOAD EVENTS`.
+const REPLAY: Verb = ("replay", 4);
+
+/// `run CLUSTER WORKLOAD`.
+const RUN: Verb = ("run", 3);
+
+/// The word of the built-in cluster, or the name of a cluster's file.
+fn cluster_word(cluster: &'static str) -> &'static str {
+    match cluster.as_bytes() {
+        [b':', ..] => cluster,
+        _ => "c",
     }
-    let mut fault = format!(in alloc; "{} ", case.exit)?
-        .as_bytes()
-        .to_vec(alloc)?;
-    fault.extend_from_slice(file_of(alloc, case.told)?.as_slice())?;
-    fault.push(b'|')?;
-    Ok(fault)
 }
 
 /// How a case ends.
-fn told<R: Threads + Wait + Sync>(rt: &R, alloc: Global, case: &Case) -> Result<Vec<u8>, Fail> {
-    let cluster = file_of(alloc, case.cluster)?;
-    let workload = file_of(alloc, case.workload)?;
-    let events = events_of(alloc, case)?;
-    replay(
+fn told_by<R: Threads + Wait + Sync>(
+    rt: &R,
+    alloc: Global,
+    verb: Verb,
+    case: &Case,
+) -> Result<Vec<u8>, NoMemory> {
+    let words = [verb.0, cluster_word(case.cluster), "w", "e"];
+    let words = words.get(..verb.1).unwrap_or_default();
+    let events = joined(alloc, &[case.events, case.then])?;
+    told_over(
         rt,
         alloc,
-        cluster.as_slice(),
-        workload.as_slice(),
+        words,
+        case.cluster.as_bytes(),
+        case.workload,
         events.as_slice(),
     )
 }
 
-#[test]
-fn replays_end_with_a_report_or_with_the_first_fault(rt: HostRuntime) -> Result<(), Fail> {
-    for cases in [CASES, moves::CASES] {
-        for case in cases {
-            assert_eq!(rt;
-                told(&rt, rt.alloc(), case)?,
-                wanted(rt.alloc(), case)?,
-                "{}",
-                case.shows
-            );
+/// How a case is to end.
+fn wanted(alloc: Global, case: &Case) -> Result<Vec<u8>, NoMemory> {
+    if case.exit != 0 {
+        return ended(alloc, case.exit, case.told, b"");
+    }
+    let report = joined(alloc, &[case.told, b"events\n", case.events, case.then])?;
+    ended(alloc, 0, b"", report.as_slice())
+}
+
+/// Fails at the first case that ends in another way.
+fn check<R: Threads + Wait + Sync>(
+    rt: &R,
+    alloc: Global,
+    verb: Verb,
+    cases: &[Case],
+) -> Result<(), Fail> {
+    for case in cases {
+        if told_by(rt, alloc, verb, case)? != wanted(alloc, case)? {
+            return Err(Fail::new(case.shows));
         }
     }
     Ok(())
 }
 
-/// The lines of a cluster and of a workload with one session `a` at region 0, how many calls it makes, and the report of them.
-const IN_TURN: [(&[&str], &[&str], u32, &[&str]); 3] = [
-    (
-        &[
-            "regions = 1",
-            "[rows]",
-            "b = 9223372036854775807",
-            "t = \"x\"",
-        ],
-        &[
-            "session a at 0",
-            "call add \"b\" 1",
-            "",
-            "  # the others",
-            "call  div \"b\" 0",
-            "call add \"t\" 1",
-            "call xfer \"b\" \"c\" 1",
-        ],
-        4,
-        &[
-            "replies",
-            "reply a 1 abort overflow",
-            "reply a 2 abort zero",
-            "reply a 3 abort kind",
-            "reply a 4 abort kind",
-            "order",
-            "1.0 a 1 1 abort overflow",
-            "2.0 a 2 1 abort zero",
-            "3.0 a 3 1 abort kind",
-            "4.0 a 4 1 abort kind",
-            "table 0",
-            "b = 9223372036854775807 home 0 moves 0",
-            "t = \"x\" home 0 moves 0",
-        ],
-    ),
-    (
-        &["regions = 1", "[rows]", "b = 5"],
-        &[
-            "session a at 0",
-            "call xfer \"b\" \"b\" 3",
-            "call xfer \"b\" \"b\" 6",
-        ],
-        2,
-        &[
-            "replies",
-            "reply a 1 done 5 5",
-            "reply a 2 abort \"funds\"",
-            "order",
-            "1.0 a 1 1 done 5 5",
-            "2.0 a 2 1 abort \"funds\"",
-            "table 0",
-            "b = 5 home 0 moves 0",
-        ],
-    ),
-    (
-        &[":1"],
-        &[
-            "session a at 0",
-            "call put \"b\" 5",
-            "call xfer \"b\" \"b\" 3",
-            "call xfer \"b\" \"b\" 6",
-            "call put \"b\" 9223372036854775807",
-            "call add \"b\" 1",
-            "call div \"b\" 0",
-            "call note \"t\" \"x\"",
-            "call add \"t\" 1",
-        ],
-        8,
-        &[
-            "replies",
-            "reply a 1 done",
-            "reply a 2 done 5 5",
-            "reply a 3 abort \"funds\"",
-            "reply a 4 done",
-            "reply a 5 abort overflow",
-            "reply a 6 abort zero",
-            "reply a 7 done",
-            "reply a 8 abort kind",
-            "order",
-            "1.0 a 1 1 done",
-            "2.0 a 2 1 done 5 5",
-            "3.0 a 3 1 abort \"funds\"",
-            "4.0 a 4 1 done",
-            "5.0 a 5 1 abort overflow",
-            "6.0 a 6 1 abort zero",
-            "7.0 a 7 1 done",
-            "8.0 a 8 1 abort kind",
-            "table 0",
-            "b = 9223372036854775807 home 0 moves 0",
-            "t = \"x\" home 0 moves 0",
-        ],
-    ),
-];
+/// Fails at the first fault of a cluster or of a workload that is not told.
+fn check_faults<R: Threads + Wait + Sync>(rt: &R, alloc: Global, verb: Verb) -> Result<(), Fail> {
+    check(rt, alloc, verb, faults::CASES)
+}
 
-/// The events by which the only session, `a` at region 0, makes n calls of one home, one after another.
-fn in_turn(alloc: Global, calls: u32) -> Result<Vec<u8>, Fail> {
-    let mut events = Vec::new(alloc);
-    for call in 0..calls {
-        let id = call + 1;
-        let one = format!(in alloc;
-            "submit 0 a\nappend 0 0 {call}\ninsert 0 0\nexecute 0 {id}.0\nanswer 0 a\n"
-        )?;
-        events.extend_from_slice(one.as_bytes())?;
-    }
-    Ok(events)
+#[test]
+fn the_first_fault_of_the_first_file_is_told_by_a_replay(rt: HostRuntime) -> Result<(), Fail> {
+    check_faults(&rt, rt.alloc(), REPLAY)
+}
+
+#[test]
+fn the_first_fault_of_the_first_file_is_told_by_a_run(rt: HostRuntime) -> Result<(), Fail> {
+    check_faults(&rt, rt.alloc(), RUN)
+}
+
+#[test]
+fn replays_end_with_a_report_or_with_the_first_fault(rt: HostRuntime) -> Result<(), Fail> {
+    check(&rt, rt.alloc(), REPLAY, CASES)
+}
+
+#[test]
+fn replays_with_moves_end_with_a_report_or_with_the_first_fault(
+    rt: HostRuntime,
+) -> Result<(), Fail> {
+    check(&rt, rt.alloc(), REPLAY, moves::CASES)
 }
 
 #[test]
 fn a_session_makes_one_call_after_another_and_each_is_answered(
     rt: HostRuntime,
 ) -> Result<(), Fail> {
-    for (cluster, workload, calls, report) in IN_TURN {
-        let cluster = file_of(rt.alloc(), cluster)?;
-        let workload = file_of(rt.alloc(), workload)?;
-        let events = in_turn(rt.alloc(), calls)?;
-        let told = replay(
-            &rt,
-            rt.alloc(),
-            cluster.as_slice(),
-            workload.as_slice(),
-            events.as_slice(),
-        )?;
-        assert_eq!(rt; told, reported(rt.alloc(), report, events.as_slice())?);
-    }
-    Ok(())
+    check(&rt, rt.alloc(), REPLAY, turns::CASES)
 }
