@@ -8,6 +8,7 @@ use dt_plain::PlainSched;
 use dt_sched::Scheduler;
 use dt_text::{Listed, NoMemory};
 use std::alloc::Global;
+use std::mem::forget;
 use std::test::Fail;
 
 /// What is asked after a call, beside what is ready and what is executable. A number is a choice of the ids: of those at the places of
@@ -59,12 +60,18 @@ fn put_class<S: Scheduler + Drop>(
     }
 }
 
+/// Adds all that is ready, and the class that may be resolved.
+fn put_told<S: Scheduler + Drop>(alloc: Global, out: &mut Vec<u8>, sched: &S) -> Result<(), Fail> {
+    let ready = ready(alloc, sched)?;
+    put_ids(alloc, out, b"ready", ready.as_slice())?;
+    put_class(alloc, out, sched)?;
+    Ok(())
+}
+
 /// Whether this is all that is ready, and the class that may be resolved.
 fn tells<S: Scheduler + Drop>(alloc: Global, sched: &S, want: &[u8]) -> Result<bool, Fail> {
-    let ready = ready(alloc, sched)?;
     let mut out = Vec::new(alloc);
-    put_ids(alloc, &mut out, b"ready", ready.as_slice())?;
-    put_class(alloc, &mut out, sched)?;
+    put_told(alloc, &mut out, sched)?;
     Ok(out.as_slice() == want)
 }
 
@@ -211,9 +218,21 @@ fn go_on(
     Ok(true)
 }
 
-/// Whether both schedulers, which are made and dropped here alone, answer alike after each call, and what they have to.
+/// The same with a new scheduler with queues, which is left to the end of the process.
+fn go_on_with_queues(alloc: Global, plain: &mut PlainSched, run: &Run) -> Result<bool, Fail>
+    requires { plain.old.seen.logs ≡ replicate run.now.regions [] }
+{
+    let mut queue = QueueSched::empty(alloc, run.regions)?;
+    let alike = go_on(alloc, plain, &mut queue, run);
+    forget(queue);
+    alike
+}
+
+/// Whether both schedulers answer alike after each call, and what they have to. They are left to the end of the process: that they
+/// may be dropped would be proved here.
 pub fn are_alike(alloc: Global, run: &Run) -> Result<bool, Fail> {
     let mut plain = PlainSched::empty(alloc, run.regions)?;
-    let mut queue = QueueSched::empty(alloc, run.regions)?;
-    go_on(alloc, &mut plain, &mut queue, run)
+    let alike = go_on_with_queues(alloc, &mut plain, run);
+    forget(plain);
+    alike
 }

@@ -1,6 +1,7 @@
 //! Parts, as tests write them down.
 use crate::queues::key_of;
 use dt_access::{Homes, Keys, Mode, Part, TxnId};
+use dt_text::Key;
 use std::alloc::Global;
 use std::test::Fail;
 
@@ -15,27 +16,39 @@ pub type Use = (&'static [u8], Mode);
 /// homes.
 pub type Wide = (Row, Use, bool);
 
-/// One or two keys: the second one counts where it is greater.
-fn keys_of(alloc: Global, first: Use, second: Use) -> Result<Keys, Fail> {
-    let (key, other) = (key_of(alloc, first.0)?, key_of(alloc, second.0)?);
-    let ascend = key < other;
+/// One or two keys with their modes: the second one counts where it is greater.
+fn one_or_two(alloc: Global, first: (Key, Mode), second: (Key, Mode)) -> Result<Keys, Fail> {
+    let ascend = first.0 < second.0;
     let mut keys = Keys::new(alloc);
-    keys.push((key, first.1))?;
+    keys.push(first)?;
     if ascend {
-        keys.push((other, second.1))?;
+        keys.push(second)?;
     }
     Ok(keys)
 }
 
+/// One or two keys: the second one counts where it is greater.
+fn keys_of(alloc: Global, first: Use, second: Use) -> Result<Keys, Fail> {
+    let key = key_of(alloc, first.0)?;
+    let other = key_of(alloc, second.0)?;
+    one_or_two(alloc, (key, first.1), (other, second.1))
+}
+
+/// All three homes.
+fn all_homes(alloc: Global) -> Result<Homes, Fail> {
+    let mut homes = Homes::new(alloc);
+    homes.push(0)?;
+    homes.push(1)?;
+    homes.push(2)?;
+    Ok(homes)
+}
+
 /// The least and the greatest home, or all three.
 fn homes_of(alloc: Global, least: u8, greatest: u8, all: bool) -> Result<Homes, Fail> {
-    let mut homes = Homes::new(alloc);
     if all {
-        homes.push(0)?;
-        homes.push(1)?;
-        homes.push(2)?;
-        return Ok(homes);
+        return all_homes(alloc);
     }
+    let mut homes = Homes::new(alloc);
     homes.push(least)?;
     if least < greatest {
         homes.push(greatest)?;
