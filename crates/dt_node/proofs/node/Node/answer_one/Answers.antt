@@ -1,5 +1,7 @@
-use Rattle.std.proofs.Common.{sym}
-use Rattle.dt_node.proofs.PartsOfNode.{call_moves, call_on, call_seats, call_step, opened, same_moves}
+use Rattle.std.proofs.Common.{refl, sym, subst}
+use Rattle.dt_session.specs.Sessions.{MayBeAnswered}
+use Rattle.dt_node.proofs.CallAfterCall.{made_nothing}
+use Rattle.dt_node.proofs.PartsOfNode.{call_moves, call_on, call_seats, call_step, no_name_at, opened, same_moves}
 use Rattle.dt_node.proofs.CallConditions.{has_stamp}
 use Rattle.dt_node.proofs.node.Node.answer_one.Goals as goal
 
@@ -47,3 +49,22 @@ returns-clause-one g c =
       call_step (opened is) name (c.last_outcome_at-last.ensures.outcome name stands) ((c.may_answer_at.ensures.may name stands).0 c.if-not-may_answer_at.false) c.answer.new.self c.in_ok-answer.ensures.makes
           (c.last_outcome_at-last-2.ensures.outcome name stands) c.answer_at.new.self (λ m. c.answer_at.ensures.answered ((c.answer_at.ensures.legal name stands).1 m) name stands),
     )
+
+pub unreachable-requires : goal.unreachable-requires
+unreachable-requires g c = no_name_at _ c.args.index (c.may_answer_at.ensures.there c.if-not-may_answer_at.false) c.in_default.ensures.place
+
+pub returns-then-not-may_answer_at-clause-moved : goal.returns-then-not-may_answer_at-clause-moved
+returns-then-not-may_answer_at-clause-moved g c = λ procs. made_nothing c.args.self.now
+
+pub returns-then-not-may_answer_at-clause-ends : goal.returns-then-not-may_answer_at-clause-ends
+returns-then-not-may_answer_at-clause-ends g c =
+    let is = rw (← c.self-inside.view_is) at c.self.view_is in
+    rw (← c.self.view_is, ← c.self-inside.view_is) (
+      refl,
+      λ name stands may.
+          let told = sym (c.last_outcome_at-last.ensures.outcome name stands) in
+          cc (c.if-not-may_answer_at.true, (c.may_answer_at.ensures.may name stands).1 (subst (MayBeAnswered (opened is).sessions name) told may)),
+    )
+
+pub returns-then-not-may_answer_at-clause-one : goal.returns-then-not-may_answer_at-clause-one
+returns-then-not-may_answer_at-clause-one g c = tt
