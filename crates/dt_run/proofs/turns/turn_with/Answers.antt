@@ -1,6 +1,13 @@
-use Rattle.std.proofs.Common.{sym, ◌∙◌}
-use Rattle.dt_run.proofs.HelperTurns.{all_lent, back_again, left_can, some_of}
+use Rattle.std.proofs.Common.{All, sym, subst, ◌∙◌}
+use Rattle.dt_run.specs.SeatsInner.{SeatCan}
+use Rattle.dt_run.proofs.HelperTurns.{all_lent, all_went, back_again, left_can, some_of}
 use Rattle.dt_run.proofs.turns.turn_with.Goals as goal
+
+pub turn_all-requires-clause-can : goal.turn_all-requires-clause-can
+turn_all-requires-clause-can g c κs within = subst (All (SeatCan c.args.procs.now)) (sym c.as_mut_slice.ensures.value) c.requires.can
+
+pub returns-then-is_empty : goal.returns-then-is_empty
+returns-then-is_empty g c = all_went c.args.seats.now.len c.args.seats.now.ok.0 c.as_mut_slice.ensures.value c.turn_all.ensures
 
 pub lend_last-requires-clause-can : goal.lend_last-requires-clause-can
 lend_last-requires-clause-can g c = all_lent (c.requires.turns (some_of _ _ c.is_empty.ensures c.if-is_empty.false)) _ c.requires.can
