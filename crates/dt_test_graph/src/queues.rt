@@ -1,5 +1,5 @@
 //! Queues: who waits for whom, and who follows whom.
-ghost use Rattle.std.specs.Prelude.{IfOk};
+ghost use Rattle.std.specs.Prelude.{IfOk, OnOk};
 ghost use Rattle.dt_lists.specs.Lists.{AllIn};
 ghost use Rattle.dt_queue.specs.Queues.{IsQueued};
 
@@ -8,6 +8,7 @@ use dt_access::Mode;
 use dt_queue::Queues;
 use dt_text::Key;
 use std::alloc::Global;
+use std::mem::forget;
 use std::test::Fail;
 
 /// What an entry is pushed with: its home, its key, its mode and its vertex.
@@ -21,18 +22,27 @@ pub fn key_of(alloc: Global, bytes: &[u8]) -> Result<Key, Fail> {
     Ok(Key::read(alloc, bytes)?)
 }
 
-/// Queues with these entries, pushed one after the other, and their slots.
-fn queued(alloc: Global, uses: &[Use]) -> Result<(Queues, Vec<usize>), Fail>
-    ensures { IfOk result (λ all. AllIn (IsQueued all.0) all.1.items) }
+/// Pushes an entry, and adds its slot to those of the others.
+fn push(alloc: Global, queues: &mut Queues, slots: &mut Vec<usize>, entry: &Use) -> Result<(), Fail>
+    requires { AllIn (IsQueued queues.old) slots.old.items }
+    ensures { OnOk result (AllIn (IsQueued queues.new) slots.new.items) }
 {
-    let mut queues = Queues::new(alloc);
+    let (home, bytes, mode, vertex) = *entry;
+    let key = key_of(alloc, bytes)?;
+    let slot = queues.push(alloc, home, &key, mode, vertex)?;
+    slots.push(slot)?;
+    Ok(())
+}
+
+/// Pushes these entries one after the other, and gives their slots.
+fn queued(alloc: Global, queues: &mut Queues, uses: &[Use]) -> Result<Vec<usize>, Fail>
+    ensures { IfOk result (λ slots. AllIn (IsQueued queues.new) slots.items) }
+{
     let mut slots = Vec::new(alloc);
-    for (home, bytes, mode, vertex) in uses {
-        let key = key_of(alloc, bytes)?;
-        let slot = queues.push(alloc, *home, &key, *mode, *vertex)?;
-        slots.push(slot)?;
+    for entry in uses {
+        push(alloc, queues, &mut slots, entry)?;
     }
-    Ok((queues, slots))
+    Ok(slots)
 }
 
 /// The followers of an entry, one after the other, as far as there are no more than n.
@@ -74,8 +84,46 @@ fn asked(
     }
 }
 
-/// What queues of these entries answer for the entry at a place, after another one was taken out or not; nothing for one that there
-/// isn't. The queues are made and dropped here alone.
+/// What queues answer for the entry at a place of these, after another one was taken out or not; nothing for one that there isn't.
+fn answered(
+    alloc: Global,
+    queues: &mut Queues,
+    slots: &[usize],
+    gone: Option<usize>,
+    ask: Ask,
+    place: usize,
+) -> Result<Vec<u32>, Fail>
+    requires { AllIn (IsQueued queues.old) slots.now }
+{
+    let Some(slot) = slots.get(place) else {
+        return Ok(Vec::new(alloc));
+    };
+    let Some(gone) = gone else {
+        return asked(alloc, queues, *slot, ask, slots.len());
+    };
+    match slots.get(gone) {
+        Some(gone) if *gone != *slot => {
+            queues.remove(*gone);
+            asked(alloc, queues, *slot, ask, slots.len())
+        }
+        _ => Ok(Vec::new(alloc)),
+    }
+}
+
+/// The same of queues of these entries.
+fn told_of(
+    alloc: Global,
+    queues: &mut Queues,
+    uses: &[Use],
+    gone: Option<usize>,
+    ask: Ask,
+    place: usize,
+) -> Result<Vec<u32>, Fail> {
+    let slots = queued(alloc, queues, uses)?;
+    answered(alloc, queues, slots.as_slice(), gone, ask, place)
+}
+
+/// The same of new queues, which are left to the end of the process: that they may be dropped would be proved here.
 fn told(
     alloc: Global,
     uses: &[Use],
@@ -83,20 +131,10 @@ fn told(
     ask: Ask,
     place: usize,
 ) -> Result<Vec<u32>, Fail> {
-    let (mut queues, slots) = queued(alloc, uses)?;
-    let Some(slot) = slots.get(place) else {
-        return Ok(Vec::new(alloc));
-    };
-    let Some(gone) = gone else {
-        return asked(alloc, &queues, *slot, ask, uses.len());
-    };
-    match slots.get(gone) {
-        Some(gone) if *gone != *slot => {
-            queues.remove(*gone);
-            asked(alloc, &queues, *slot, ask, uses.len())
-        }
-        _ => Ok(Vec::new(alloc)),
-    }
+    let mut queues = Queues::new(alloc);
+    let told = told_of(alloc, &mut queues, uses, gone, ask, place);
+    forget(queues);
+    told
 }
 
 const ROW: [Use; 4] = [

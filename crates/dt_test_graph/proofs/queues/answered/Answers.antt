@@ -2,7 +2,7 @@ use Rattle.std.proofs.Common.{◌≡◌, ℕ, zero, suc, ◌<◌, List, [], ◌�
 use Rattle.dt_lists.specs.Lists.{AllIn}
 use Rattle.dt_queue.specs.Queues.{IsQueued}
 use Rattle.dt_queue.proofs.Callers.{waits_without}
-use Rattle.dt_test_graph.proofs.queues.told.Goals as goal
+use Rattle.dt_test_graph.proofs.queues.answered.Goals as goal
 
 -- what all of a list have, the one at a place has
 at : {A : Type 0} (P : A → Type 0) (xs : List A) (i : ℕ) (x : A) → i < length xs → ((d : A) → x ≡ get_or xs i d) → AllIn P xs → P x
@@ -13,8 +13,7 @@ at P (y ∷ ys) (suc i) x lt e a = at P ys i x (omega arith) e a.1
 pub asked-requires-in-Some-get : goal.asked-requires-in-Some-get
 asked-requires-in-Some-get c =
     let found = c.in-Some.ensures.lookup in
-    let all : AllIn (IsQueued c.in_ok-queues.queues) c.deref.result.now = rw c.deref.ensures.value c.in_ok-queues.ensures in
-    let waits : IsQueued c.in_ok-queues.queues c.in-Some.slot.now =
-    at (IsQueued c.in_ok-queues.queues) c.deref.result.now c.args.place c.in-Some.slot.now found.3.0 found.3.1 all in
+    let waits : IsQueued c.args.queues.now c.in-Some.slot.now =
+    at (IsQueued c.args.queues.now) c.args.slots.now c.args.place c.in-Some.slot.now found.3.0 found.3.1 c.requires in
     rw c.remove.ensures
-    (waits_without c.in_ok-queues.queues c.in-Some-get.gone.now c.in-Some.slot.now (λ e. c.if-gone-slot.true (sym e)) waits)
+    (waits_without c.args.queues.now c.in-Some-get.gone.now c.in-Some.slot.now (λ e. c.if-gone-slot.true (sym e)) waits)
