@@ -3,10 +3,10 @@
 use crate::feeding::Row;
 use dt_access::{TxnId, put_id};
 use dt_eval::Values;
-use dt_events::put_event;
+use dt_events::{Event, put_event};
 use dt_region::Region;
 use dt_sched::Scheduler;
-use dt_table::Shown;
+use dt_table::{Shown, Table};
 use dt_text::put_value;
 use dt_txn::Outcome;
 use std::alloc::Global;
@@ -48,6 +48,33 @@ fn put_row(alloc: Global, told: &mut Vec<u8>, row: &Shown) -> Result<(), Fail> {
     Ok(())
 }
 
+/// The text of an event.
+fn line_of(alloc: Global, event: &Event) -> Result<Vec<u8>, Fail> {
+    let mut line = Vec::new(alloc);
+    put_event(alloc, &mut line, event)?;
+    Ok(line)
+}
+
+/// Adds the texts of a region's events, without their stamps.
+fn add_lines<S: Scheduler>(
+    alloc: Global,
+    lines: &mut Vec<Vec<u8>>,
+    region: &Region<S>,
+) -> Result<(), Fail> {
+    for kept in region.events() {
+        lines.push(line_of(alloc, &kept.event)?)?;
+    }
+    Ok(())
+}
+
+/// Appends texts, one after the other.
+fn put_lines(told: &mut Vec<u8>, lines: &[Vec<u8>]) -> Result<(), Fail> {
+    for line in lines {
+        told.extend_from_slice(line.as_slice())?;
+    }
+    Ok(())
+}
+
 /// Appends the events of a region without their stamps, in the order of their texts.
 fn put_sorted<S: Scheduler>(
     alloc: Global,
@@ -55,20 +82,13 @@ fn put_sorted<S: Scheduler>(
     region: &Region<S>,
 ) -> Result<(), Fail> {
     let mut lines = Vec::new(alloc);
-    for kept in region.events() {
-        let mut line = Vec::new(alloc);
-        put_event(alloc, &mut line, &kept.event)?;
-        lines.push(line)?;
-    }
+    add_lines(alloc, &mut lines, region)?;
     lines.sort()?;
-    for line in lines.as_slice() {
-        told.extend_from_slice(line.as_slice())?;
-    }
-    Ok(())
+    put_lines(told, lines.as_slice())
 }
 
-/// Appends the outcome of the transaction of each of these parts, the table, and the events in the order of their texts.
-pub fn put_outcomes<S: Scheduler>(
+/// Appends the outcome of the transaction of each of these parts.
+fn put_each<S: Scheduler>(
     alloc: Global,
     told: &mut Vec<u8>,
     region: &Region<S>,
@@ -81,8 +101,31 @@ pub fn put_outcomes<S: Scheduler>(
         };
         put_outcome(alloc, told, region, id)?;
     }
-    for row in region.table().shown(alloc)?.as_slice() {
+    Ok(())
+}
+
+/// Appends rows of the table.
+fn put_rows(alloc: Global, told: &mut Vec<u8>, rows: &[Shown]) -> Result<(), Fail> {
+    for row in rows {
         put_row(alloc, told, row)?;
     }
+    Ok(())
+}
+
+/// Appends the table.
+fn put_table(alloc: Global, told: &mut Vec<u8>, table: &Table) -> Result<(), Fail> {
+    let shown = table.shown(alloc)?;
+    put_rows(alloc, told, shown.as_slice())
+}
+
+/// Appends the outcome of the transaction of each of these parts, the table, and the events in the order of their texts.
+pub fn put_outcomes<S: Scheduler>(
+    alloc: Global,
+    told: &mut Vec<u8>,
+    region: &Region<S>,
+    rows: &[Row],
+) -> Result<(), Fail> {
+    put_each(alloc, told, region, rows)?;
+    put_table(alloc, told, region.table())?;
     put_sorted(alloc, told, region)
 }

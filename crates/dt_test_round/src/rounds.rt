@@ -1,8 +1,9 @@
 //! Rounds of a region, to which parts of logs came.
-ghost use Rattle.std.specs.Prelude.{◌≡◌, ◌<◌, ◌≤◌, List, IfOk, OnOk};
+ghost use Rattle.std.specs.Prelude.{◌≡◌, ◌<◌, ◌≤◌, List, [], IfOk, OnOk};
 ghost use Rattle.dt_proc.specs.Tree.{ProcTree};
 ghost use Rattle.dt_round.specs.Rounds.{CanRound};
-ghost use Rattle.dt_test_round.specs.BegunRegion.{begun_region};
+ghost use Rattle.dt_table.specs.Table.{opening};
+ghost use Rattle.dt_test_round.specs.BegunRegion.{begun_region, begun_rows};
 ghost use Rattle.dt_test_round.specs.FedRegion.{WasFed};
 
 use crate::calls::Call;
@@ -82,6 +83,18 @@ fn key_of(alloc: Global, bytes: &[u8]) -> Result<Key, Fail>
     Ok(Key::read(alloc, bytes)?)
 }
 
+/// A table with the rows `a` and `b`.
+fn opened(alloc: Global, regions: u8) -> Result<Table, Fail>
+    requires { 0 < regions }
+    ensures { IfOk result (λ table. table.state ≡ opening 1 regions [] begun_rows) }
+{
+    let rows = [
+        (key_of(alloc, b"a")?, Value::Int(10)),
+        (key_of(alloc, b"b")?, Value::Int(10)),
+    ];
+    Ok(Table::new(alloc, 1, regions, &[], rows.as_slice())?)
+}
+
 /// A region that has done nothing, with the rows `a` and `b`.
 pub fn begun<S: Scheduler>(alloc: Global, number: u8, regions: u8) -> Result<Region<S>, Fail>
     requires number { number < regions }
@@ -89,11 +102,7 @@ pub fn begun<S: Scheduler>(alloc: Global, number: u8, regions: u8) -> Result<Reg
     ensures region { IfOk result (λ region. region ≡ begun_region number regions) }
     ensures fed { (procs : List ProcTree) → IfOk result (WasFed procs 0) }
 {
-    let rows = [
-        (key_of(alloc, b"a")?, Value::Int(10)),
-        (key_of(alloc, b"b")?, Value::Int(10)),
-    ];
-    let table = Table::new(alloc, 1, regions, &[], rows.as_slice())?;
+    let table = opened(alloc, regions)?;
     Ok(Region::new(alloc, number, regions, table)?)
 }
 

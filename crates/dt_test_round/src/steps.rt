@@ -163,7 +163,7 @@ fn go_through<S: Scheduler + Drop, N: Named>(
     }
 }
 
-/// The steps of a region that is named so; what was worked is let go in the end.
+/// The steps of a region that is named so; what was worked is left to the end of the process, too.
 fn steps_named<S: Scheduler + Drop, N: Named>(
     alloc: Global,
     region: Region<S>,
@@ -175,7 +175,9 @@ fn steps_named<S: Scheduler + Drop, N: Named>(
     requires can { CanRound N.procs N.before }
 {
     let mut done = Vec::new(alloc);
-    go_through::<S, N>(alloc, region, procs, &STEPS, &mut done, told)
+    let made = go_through::<S, N>(alloc, region, procs, &STEPS, &mut done, told);
+    forget(done);
+    made
 }
 
 /// The steps of region 0 of two, of which two sessions submit a call, whose parts stand in its log.
@@ -226,13 +228,15 @@ fn twin_steps_named<S: Scheduler + Drop, N: Named>(
 {
     let (region, twin) = twins;
     let mut done = Vec::new(alloc);
-    match work_in_twin::<S, N>(alloc, twin, procs, &mut done, told) {
+    let made = match work_in_twin::<S, N>(alloc, twin, procs, &mut done, told) {
         Ok(()) => go_through::<S, N>(alloc, region, procs, &OWN_STEPS, &mut done, told),
         Err(fail) => {
             forget(region);
             Err(fail)
         }
-    }
+    };
+    forget(done);
+    made
 }
 
 /// The steps of such a region and its twin.

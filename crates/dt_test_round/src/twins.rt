@@ -1,5 +1,8 @@
 //! Two equal regions, to which the same calls and parts come, of each in turn.
 ghost use Rattle.std.specs.Prelude.{◌≡◌, ◌+◌, ◌<◌, IfOk, OnOk};
+ghost use Rattle.dt_events.specs.declared.Event.TheVariants.{Submit};
+ghost use Rattle.dt_txn.specs.Transaction.{BodyFits};
+ghost use Rattle.dt_region.specs.Rules.{after_submit, with_event};
 ghost use Rattle.dt_round.specs.Rounds.{CanRound};
 ghost use Rattle.dt_test_round.specs.FedRegion.{WasFed};
 
@@ -10,10 +13,52 @@ use crate::steps::{PUT_B, PUT_D};
 use dt_proc::Procs;
 use dt_region::Region;
 use dt_sched::Scheduler;
+use dt_text::Name;
 use dt_txn::Body;
 use std::alloc::Global;
 use std::mem::forget;
 use std::test::Fail;
+
+/// A session of a region, which has made at most n events before, submits a copy of a call.
+fn submit_copy<S: Scheduler>(
+    alloc: Global,
+    region: &mut Region<S>,
+    procs: &Procs,
+    count: usize,
+    session: &Name,
+    body: &Body,
+) -> Result<(), Fail>
+    requires few { count < 1000 }
+    requires fed { WasFed procs.now count region.old }
+    requires fits { BodyFits procs.now region.old.state.here.table.version region.old.state.regions body.now }
+    ensures fed { OnOk result (WasFed procs.now (count + 1) region.new) }
+    ensures makes { OnOk result (region.new ≡ with_event region.old (after_submit procs.now region.old.state 5 body.now) (Submit region.old.state.number session.now)) }
+{
+    region.submit(alloc, session, 5, body.copy(alloc)?, procs)?;
+    Ok(())
+}
+
+/// The same session of two equal regions, which have made at most n events before, submits copies of a call.
+fn submit_copies<S: Scheduler>(
+    alloc: Global,
+    region: &mut Region<S>,
+    twin: &mut Region<S>,
+    procs: &Procs,
+    count: usize,
+    session: &Name,
+    body: &Body,
+) -> Result<(), Fail>
+    requires few { count < 1000 }
+    requires fed { WasFed procs.now count region.old }
+    requires equal { twin.old ≡ region.old }
+    requires fits { BodyFits procs.now region.old.state.here.table.version region.old.state.regions body.now }
+    ensures fed { OnOk result (WasFed procs.now (count + 1) region.new) }
+    ensures equal { OnOk result (twin.new ≡ region.new) }
+{
+    submit_copy(alloc, twin, procs, count, session, body)?;
+    submit_copy(alloc, region, procs, count, session, body)?;
+    Ok(())
+}
 
 /// The same session of two equal regions, which have made at most n events before, submits a call.
 fn submit<S: Scheduler>(
@@ -32,9 +77,7 @@ fn submit<S: Scheduler>(
 {
     let (session, number, arguments) = wanted(alloc, procs, call)?;
     let body = Body::Call(number, arguments);
-    twin.submit(alloc, &session, 5, body.copy(alloc)?, procs)?;
-    region.submit(alloc, &session, 5, body, procs)?;
-    Ok(())
+    submit_copies(alloc, region, twin, procs, count, &session, &body)
 }
 
 /// Two equal regions, which have made at most n events before, place the same part in their own logs.
