@@ -11,8 +11,8 @@ use Rattle.dt_txn.specs.declared.txn.Txn.{Txn}
 use Rattle.dt_txn.specs.Replica.{IsContinuation, MayStep, Replica, stepped}
 use Rattle.dt_region.specs.Region.{RegionView, held, latest_stamp}
 use Rattle.dt_region.specs.Rules.{MakesStep, after_making}
-use Rattle.dt_region.proofs.Callers.{under}
-use Rattle.dt_round.specs.Rounds.{Continues, after_steps}
+use Rattle.dt_region.proofs.ViewOfRegion.{under}
+use Rattle.dt_region.specs.Rounds.{Continues, after_steps}
 
 module _ (procs : List ProcTree) (txn_of : TxnId → Option Txn) where
   after_more : (here : Replica) (events : List Event) (event : Event) → after_steps procs txn_of here (events ++ event ∷ []) ≡ stepped procs txn_of (after_steps procs txn_of here events) event

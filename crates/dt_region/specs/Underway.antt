@@ -8,8 +8,8 @@ use Rattle.dt_table.specs.Table.{counter_of}
 use Rattle.dt_region.specs.Region.{RegionView, latest_stamp}
 use Rattle.dt_region.specs.Conditions.{HoldsValid}
 use Rattle.dt_region.specs.Sound.{IsSoundRegion}
-use Rattle.dt_round.specs.Rounds.{CanRound, Continues}
-use Rattle.dt_round.specs.StepsInner.{steps_of}
+use Rattle.dt_region.specs.Rounds.{CanRound, Continues}
+use Rattle.dt_region.specs.StepsInner.{steps_of}
 
 -- a round that began with the first region has come to the second
 pub record IsUnderway (procs : List ProcTree) (entry now : RegionView) : Type 0 where

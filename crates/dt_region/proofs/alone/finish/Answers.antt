@@ -1,9 +1,9 @@
 use Rattle.std.proofs.Common.{false, Ok, sym, ap, subst, ◌∙◌}
 use Rattle.dt_region.specs.Region.{RegionView}
-use Rattle.dt_round.specs.StepsInner.{IsOwnStep, StepsOn}
-use Rattle.dt_round.specs.Underway.{IsUnderway}
-use Rattle.dt_round.proofs.alone.finish.Goals as goal
-use Rattle.dt_round.proofs.Underway.{moves_left, one_less, one_more, stamp_left}
+use Rattle.dt_region.specs.StepsInner.{IsOwnStep, StepsOn}
+use Rattle.dt_region.specs.Underway.{IsUnderway}
+use Rattle.dt_region.proofs.alone.finish.Goals as goal
+use Rattle.dt_region.proofs.Underway.{moves_left, one_less, one_more, stamp_left}
 
 pub step-requires-clause-sound : goal.step-requires-clause-sound
 step-requires-clause-sound g c = c.steps.invariant.on_way.underway.sound

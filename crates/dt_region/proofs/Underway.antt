@@ -14,13 +14,14 @@ use Rattle.dt_region.specs.Region.{HasStamp, RegionView, held, latest_stamp, sch
 use Rattle.dt_region.specs.Rules.{after_making}
 use Rattle.dt_region.specs.Conditions.{CanMove, HasPlaceToMove, HoldsValid}
 use Rattle.dt_region.specs.Sound.{IsSoundRegion}
-use Rattle.dt_region.proofs.Callers.{fronts_few, latest_more}
-use Rattle.dt_round.specs.Rounds.{CanRound}
-use Rattle.dt_round.specs.StepsInner.{IsOwnStep, steps_left, steps_of}
-use Rattle.dt_round.specs.Underway.{IsUnderway}
-use Rattle.dt_round.proofs.StepCounts.{few_done, few_steps}
-use Rattle.dt_round.proofs.Effects.{IsOneStepOn, step_counted}
-use Rattle.dt_round.proofs.OneStepMore.{continues_more, continues_none}
+use Rattle.dt_region.proofs.Logs.{fronts_few}
+use Rattle.dt_region.proofs.Stamps.{latest_more}
+use Rattle.dt_region.specs.Rounds.{CanRound}
+use Rattle.dt_region.specs.StepsInner.{IsOwnStep, steps_left, steps_of}
+use Rattle.dt_region.specs.Underway.{IsUnderway}
+use Rattle.dt_region.proofs.StepCounts.{few_done, few_steps}
+use Rattle.dt_region.proofs.Effects.{IsOneStepOn, step_counted}
+use Rattle.dt_region.proofs.OneStepMore.{continues_more, continues_none}
 
 pub at_first : (procs : List ProcTree) (r : RegionView) → CanRound procs r → IsSoundRegion r.state → IsUnderway procs r r
 at_first procs r can sound = record {

@@ -1,6 +1,6 @@
 use Rattle.std.proofs.Common.{◌≡◌, ◌<◌, ℕ}
-use Rattle.dt_region.proofs.Callers.{HasInserted}
-use Rattle.dt_round.proofs.alone.insert_some.Given as goal
+use Rattle.dt_region.proofs.Drained.{HasInserted}
+use Rattle.dt_region.proofs.alone.insert_some.Given as goal
 
 abbrev pub invariant-loop-home : goal.invariant-loop-home
 invariant-loop-home g l = record {

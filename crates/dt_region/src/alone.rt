@@ -5,13 +5,13 @@ ghost use Rattle.dt_sched.specs.Sched.{CanExecute};
 ghost use Rattle.dt_region.specs.Conditions.{CanMove, HoldsValid};
 ghost use Rattle.dt_region.specs.Region.{HasStamp, RegionView, sched_of};
 ghost use Rattle.dt_region.specs.Sound.{IsSoundRegion};
-ghost use Rattle.dt_round.specs.StepsInner.{InsertsSome, StepsOn};
-ghost use Rattle.dt_round.specs.Underway.{IsOnWay, IsUnderway};
+ghost use Rattle.dt_region.specs.StepsInner.{InsertsSome, StepsOn};
+ghost use Rattle.dt_region.specs.Underway.{IsOnWay, IsUnderway};
 ghost use Rattle.dt_txn.specs.Replica.{IsDrained};
 
+use crate::region::Region;
 use crate::rounds::Rounds;
 use dt_proc::Procs;
-use dt_region::Region;
 use dt_sched::Scheduler;
 use dt_text::NoMemory;
 use std::alloc::Global;

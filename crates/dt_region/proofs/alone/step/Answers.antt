@@ -8,9 +8,9 @@ use Rattle.dt_sched.specs.Sched.{CanExecute, CanResolve, IsNextClass, IsNextRead
 use Rattle.dt_region.specs.Conditions.{CanMove, HoldsValid}
 use Rattle.dt_region.specs.Region.{HasStamp, RegionView, sched_of}
 use Rattle.dt_region.specs.RegionInner.{HasInsertedAll}
-use Rattle.dt_round.specs.StepsInner.{InsertsSome, StepsOn}
-use Rattle.dt_round.proofs.OneStep.{executes, resolves, stops}
-use Rattle.dt_round.proofs.alone.step.Goals as goal
+use Rattle.dt_region.specs.StepsInner.{InsertsSome, StepsOn}
+use Rattle.dt_region.proofs.OneStep.{executes, resolves, stops}
+use Rattle.dt_region.proofs.alone.step.Goals as goal
 
 -- nothing was inserted
 none_inserted : (procs : List ProcTree) (r after : RegionView) (on : Bool) → on ≡ false → InsertsSome procs r (Ok on) after → HasInsertedAll r.state.logs r.state.here × (after ≡ r)

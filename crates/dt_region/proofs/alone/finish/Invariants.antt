@@ -1,8 +1,8 @@
 use Rattle.std.proofs.Common.{◌≡◌}
 use Rattle.dt_region.specs.Region.{RegionView}
-use Rattle.dt_round.specs.StepsInner.{steps_left}
-use Rattle.dt_round.specs.Underway.{IsOnWay, IsUnderway}
-use Rattle.dt_round.proofs.alone.finish.Given as goal
+use Rattle.dt_region.specs.StepsInner.{steps_left}
+use Rattle.dt_region.specs.Underway.{IsOnWay, IsUnderway}
+use Rattle.dt_region.proofs.alone.finish.Given as goal
 
 abbrev pub invariant-steps : goal.invariant-steps
 invariant-steps g l = record {

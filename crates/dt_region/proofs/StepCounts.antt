@@ -14,8 +14,8 @@ use Rattle.dt_sched.proofs.Callers.{closed_listed, few_groups, ids_in, ids_in_le
 use Rattle.dt_txn.specs.Replica.{done_ids, view_of}
 use Rattle.dt_region.specs.Region.{RegionState}
 use Rattle.dt_region.specs.Sound.{IsSoundRegion}
-use Rattle.dt_region.proofs.Callers.{fronts_few}
-use Rattle.dt_round.specs.StepsInner.{steps_of}
+use Rattle.dt_region.proofs.Logs.{fronts_few}
+use Rattle.dt_region.specs.StepsInner.{steps_of}
 
 -- no more is inserted than there is
 few_inserted : (counts : List ℕ) (logs : View) → length counts ≡ length logs → ((home : ℕ) → slice_index counts home ≤ length (log_at logs home)) → sum counts ≤ parts_in logs

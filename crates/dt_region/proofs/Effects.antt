@@ -20,8 +20,8 @@ use Rattle.dt_txn.specs.Replica.{Replica, executed, stepped}
 use Rattle.dt_region.specs.Region.{RegionState, held}
 use Rattle.dt_region.specs.Rules.{MayMake}
 use Rattle.dt_region.specs.Sound.{IsSoundRegion}
-use Rattle.dt_region.proofs.Callers.{executable_held}
-use Rattle.dt_round.specs.StepsInner.{steps_of}
+use Rattle.dt_region.proofs.Rule6Execute.{executable_held}
+use Rattle.dt_region.specs.StepsInner.{steps_of}
 
 -- a replica has become another by one step
 pub record IsOneStepOn (here next : Replica) : Type 0 where

@@ -8,7 +8,7 @@ use Rattle.dt_proc.specs.Tree.{ProcTree}
 use Rattle.dt_region.specs.Region.{RegionView, sched_of}
 use Rattle.dt_region.specs.RegionInner.{HasInsertedAll}
 use Rattle.dt_region.specs.Rules.{MakesStep}
-use Rattle.dt_round.specs.StepsInner.{IsOwnStep, StepsOn}
+use Rattle.dt_region.specs.StepsInner.{IsOwnStep, StepsOn}
 
 module _ (procs : List ProcTree) (r now : RegionView) (same : now ≡ r) where
   pub executes : (id : TxnId) → CanExecute (sched_of now.state.logs now.state.here) id → (result : Result Bool NoMemory) (after : RegionView)

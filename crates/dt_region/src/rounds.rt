@@ -1,10 +1,10 @@
 ghost use Rattle.std.specs.Prelude.{OnOk};
 ghost use Rattle.dt_txn.specs.Replica.{IsDrained};
 ghost use Rattle.dt_region.specs.Region.{RegionView};
-ghost use Rattle.dt_round.specs.Rounds.{CanRound, Continues};
+ghost use Rattle.dt_region.specs.Rounds.{CanRound, Continues};
 
+use crate::region::Region;
 use dt_proc::Procs;
-use dt_region::Region;
 use dt_sched::Scheduler;
 use dt_text::NoMemory;
 use std::alloc::Global;
