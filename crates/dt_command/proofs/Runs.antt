@@ -9,8 +9,8 @@ use Rattle.dt_workload.specs.Valid.{IsValidWorkload}
 use Rattle.dt_gen.specs.Load.{load_cluster, load_workload}
 use Rattle.dt_report.specs.declared.Report.{Report}
 use Rattle.dt_report.specs.Report.{report_text}
-use Rattle.dt_sum.specs.Summary.{big_text, summary_of}
-use Rattle.dt_sum.proofs.Callers.{each_summary}
+use Rattle.dt_gen.specs.Summary.{big_text, summary_of}
+use Rattle.dt_gen.proofs.Callers.{each_summary}
 use Rattle.dt_world.specs.WorldReport.{report_of}
 use Rattle.dt_command.specs.Tasks.{Run}
 use Rattle.dt_command.specs.Loading.{Loaded}

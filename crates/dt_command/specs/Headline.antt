@@ -17,7 +17,7 @@ use Rattle.dt_session.specs.Finished.{IsFinished}
 use Rattle.dt_session.specs.Agreement.{Agree}
 use Rattle.dt_gen.specs.Load.{load_cluster, load_workload}
 use Rattle.dt_report.specs.Report.{report_text}
-use Rattle.dt_sum.specs.Summary.{big_text, summary_of}
+use Rattle.dt_gen.specs.Summary.{big_text, summary_of}
 use Rattle.dt_world.specs.WorldReport.{report_of}
 use Rattle.dt_command.specs.Tasks.{Task, Replay, Run, Big}
 use Rattle.dt_command.specs.Loading.{Loaded, HasEvents, unnumbered}

@@ -19,7 +19,7 @@ use Rattle.dt_command.specs.declared.status.EventsCause.TheVariants.{TooLong, Fo
 use Rattle.dt_session.specs.Run.{AreLegal}
 use Rattle.dt_report.specs.declared.Report.{Report}
 use Rattle.dt_report.specs.Report.{report_text}
-use Rattle.dt_sum.specs.Summary.{summary_of}
+use Rattle.dt_gen.specs.Summary.{summary_of}
 use Rattle.dt_world.specs.WorldReport.{report_of}
 use Rattle.dt_world.specs.declared.StepError.{StepError}
 use Rattle.dt_world.specs.declared.StepError.TheVariants.{Illegal}
