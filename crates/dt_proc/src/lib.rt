@@ -8,6 +8,7 @@
 #![tactic(auto)]
 
 mod builtin;
+mod copies;
 mod error;
 mod expressions;
 mod fronts;

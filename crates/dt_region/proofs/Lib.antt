@@ -19,8 +19,3 @@ pub mod Stamps
 pub mod Stock
 pub mod StepSound
 pub mod ExecutableStays
-pub mod StepCounts
-pub mod Effects
-pub mod OneStepMore
-pub mod Underway
-pub mod OneStep

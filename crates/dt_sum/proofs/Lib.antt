@@ -1,0 +1,10 @@
+pub mod TransferMeaning
+pub mod Totals
+pub mod AccountTotals
+pub mod LoadTransactions
+pub mod LoadWorlds
+pub mod ShownTotals
+pub mod CountedAnswers
+pub mod KnownSummary
+pub mod RowSums
+pub mod Callers

@@ -1,0 +1,3 @@
+pub mod Balances
+pub mod Summary
+pub mod Laws

@@ -1,0 +1,15 @@
+//! What is reported of a run of the generated load, and the laws of that load: nothing that a run of it does makes or loses money.
+//!
+//! Read next: `specs/Balances.antt`, what the accounts have in a table; `specs/Summary.antt`, what is reported of a run;
+//! `specs/Laws.antt`, what stays so; `src/laws.rt`; `src/summaries.rt`.
+#![tactic(auto)]
+
+mod laws;
+mod summaries;
+
+pub use laws::{
+    each_attempt_ends_plainly, each_call_has_a_reply, each_call_is_answered_once,
+    each_region_holds_accounts, each_report_shows_the_total, each_summary_is_known,
+    load_keeps_total, shown_sum_is_total,
+};
+pub use summaries::{answer_count, kept_answers, row_sum, summary, summary_text};
