@@ -1,18 +1,7 @@
 //! Detock: a store of rows in several regions, which all reach the same decisions without asking.
 #![tactic(auto)]
 
-mod faults;
-mod files;
-mod program;
-mod replay;
-mod run;
-mod status;
-#[cfg(test)]
-mod tests;
-mod top;
-mod words;
-
-use crate::program::{command_line, exit_of};
+use dt_command::{command_line, exit_of};
 use dt_outside::{DiskFolder, StdSink};
 use std::process::ExitCode;
 

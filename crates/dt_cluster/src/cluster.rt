@@ -48,7 +48,7 @@ impl Cluster {
             tries: self.tries,
             drop: self.drop,
             repeat: self.repeat,
-            procs: self.procs.copy(alloc)?,
+            procs: self.procs.copy()?,
             homes: copy_homes(alloc, self.homes.as_slice())?,
             rows: copy_rows(alloc, self.rows.as_slice())?,
         })

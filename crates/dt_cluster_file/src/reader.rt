@@ -75,22 +75,16 @@ fn only_known(alloc: Global, top: &Table) -> Result<(), ClusterError>
     Ok(())
 }
 
+/// The names that may stand at the top.
+const KNOWN: &[&[u8]] = &[
+    b"regions", b"version", b"workers", b"tries", b"drop", b"repeat", b"procs", b"homes", b"rows",
+];
+
 /// Whether a name may stand at the top.
 fn is_known(name: &[u8]) -> bool
     ensures { IsTrue result ↔ Has known_names name.now }
 {
-    matches!(
-        name,
-        b"regions"
-            | b"version"
-            | b"workers"
-            | b"tries"
-            | b"drop"
-            | b"repeat"
-            | b"procs"
-            | b"homes"
-            | b"rows"
-    )
+    KNOWN.contains(&name)
 }
 
 /// The procedures of a cluster: those of its text, or the built-in ones.

@@ -1,2 +1,5 @@
 pub mod Draws
 pub mod Load
+pub mod Balances
+pub mod Summary
+pub mod Laws

@@ -1,7 +1,7 @@
 -- The generated load, of which the number of calls alone is chosen: its cluster, with 100 accounts in four regions, and its
 -- workload, in which 64 sessions transfer amounts between accounts, and now and then move one. It is for measuring, and for
 -- finding out whether money is lost: transfers and moves leave the total of all accounts as it was. Read next: the laws
--- of dt_sum, which prove that.
+-- of this crate, which prove that.
 use Rattle.std.specs.Prelude.{ℕ, ◌+◌, ◌*◌, ◌/◌, ◌%◌, ◌==◌, if◌then◌else◌, List, [], ◌∷◌, map, filter, pos}
 use Rattle.std.specs.List.{range_with_len}
 use Rattle.std.specs.Fmt.{decimal}

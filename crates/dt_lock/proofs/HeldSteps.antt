@@ -27,8 +27,8 @@ use Rattle.dt_region.specs.Rules.{MakesStep, after_finishing, after_making, with
 use Rattle.dt_region.specs.Conditions.{ComesTo, HasRun}
 use Rattle.dt_region.specs.Sound.{IsSoundRegion}
 use Rattle.dt_region.proofs.Callers.{executable_held, execute_leaves, held_id, insert_leaves, resolve_leaves, step_sound}
-use Rattle.dt_round.specs.Rounds.{CanRound}
-use Rattle.dt_round.proofs.Callers.{at_first, one_more, whatever_room}
+use Rattle.dt_region.specs.Rounds.{CanRound}
+use Rattle.dt_region.proofs.Callers.{at_first, one_more, whatever_room}
 use Rattle.dt_lock.specs.declared.running.Running.{Running}
 use Rattle.dt_lock.specs.Claims.{ClaimView, FinishedView, IsClaim, IsWorked}
 use Rattle.dt_lock.specs.Held.{AreDisjoint, IdsClash, HeldView, IsBusy, IsClaimed, IsHeld, as_running, sight_in, uses_held, without_claim}

@@ -20,7 +20,7 @@ use Rattle.dt_txn.specs.Execution.{see}
 use Rattle.dt_txn.specs.Transaction.{used_of}
 use Rattle.dt_region.specs.Region.{RegionState, RegionView, held, sched_of}
 use Rattle.dt_region.specs.Rules.{MakesStep, after_finishing}
-use Rattle.dt_round.specs.Underway.{IsUnderway}
+use Rattle.dt_region.specs.Underway.{IsUnderway}
 use Rattle.dt_lock.specs.declared.running.Running.{Running}
 use Rattle.dt_lock.specs.Claims.{ClaimView, FinishedView}
 

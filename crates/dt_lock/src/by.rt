@@ -1,7 +1,7 @@
 ghost use Rattle.std.specs.Prelude.{OnOk};
 
 use dt_proc::Procs;
-use dt_round::{Rounded, Rounds};
+use dt_region::{Rounded, Rounds};
 use dt_text::NoMemory;
 use std::alloc::Global;
 
@@ -17,7 +17,7 @@ impl<T: Rounded, F: Fn(Global, &mut T, &Procs) -> Result<(), NoMemory>> Rounds<T
     ghost use Rattle.std.specs.Prelude.{List};
     ghost use Rattle.dt_proc.specs.Tree.{ProcTree};
     ghost use Rattle.dt_txn.specs.Replica.{IsDrained};
-    ghost use Rattle.dt_round.specs.Rounds.{CanRound, Continues};
+    ghost use Rattle.dt_region.specs.Rounds.{CanRound, Continues};
 
     ghost ready = { λ b. ((a : _) (x : MutBor T) (p : Bor (List ProcTree)) → CanRound p.now (T.seen x.now) → F.pre b.by a x p)
         × ((a : _) (x y : MutBor T) (p : Bor (List ProcTree)) (r : _) → F.post b.by a x p r y

@@ -1,6 +1,6 @@
 ghost use Rattle.std.specs.Prelude.{◌≡◌, OnOk};
 ghost use Rattle.dt_txn.specs.Replica.{IsDrained};
-ghost use Rattle.dt_round.specs.Rounds.{CanRound, Continues};
+ghost use Rattle.dt_region.specs.Rounds.{CanRound, Continues};
 
 use crate::gate::Gate;
 use crate::held::Held;
@@ -9,8 +9,7 @@ use crate::named::Named;
 use crate::statements::some_is_long;
 use crate::work::act;
 use dt_proc::Procs;
-use dt_region::Region;
-use dt_round::{Alone, Rounds, finish};
+use dt_region::{Alone, Region, Rounds, finish};
 use dt_sched::Scheduler;
 use dt_table::Table;
 use dt_text::NoMemory;

@@ -6,8 +6,8 @@ ghost use Rattle.dt_sched.specs.Views.{log_at};
 ghost use Rattle.dt_txn.specs.Transaction.{used_of};
 ghost use Rattle.dt_region.specs.Region.{held, sched_of};
 ghost use Rattle.dt_region.specs.Rules.{MakesStep};
-ghost use Rattle.dt_round.specs.Rounds.{CanRound};
-ghost use Rattle.dt_round.specs.Underway.{IsUnderway};
+ghost use Rattle.dt_region.specs.Rounds.{CanRound};
+ghost use Rattle.dt_region.specs.Underway.{IsUnderway};
 ghost use Rattle.dt_lock.specs.Claims.{IsClaim};
 ghost use Rattle.dt_lock.specs.Held.{ClaimsSome, Commits, GivesBack, IsBusy, IsClaimed, IsNextFree, ResolvesSome, uses_held};
 

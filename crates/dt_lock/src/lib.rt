@@ -1,6 +1,6 @@
 //! A region behind a lock, for one round by many threads.
 //!
-//! A round inserts, resolves and executes until nothing is left (`dt_round`). Most of its time goes into what transactions
+//! A round inserts, resolves and executes until nothing is left (`dt_region`). Most of its time goes into what transactions
 //! compute, and that needs no lock: a worker claims a transaction under the lock, with a copy of what it sees, computes outside,
 //! and commits under the lock. The lock keeps [`Held`], whose type says that all of this is one legal continuation of the region,
 //! whatever the schedule: each step under the lock is one event of the region, or none.

@@ -9,7 +9,7 @@ use Rattle.dt_txn.specs.Replica.{fronts}
 use Rattle.dt_region.proofs.Callers.{fronts_few}
 use Rattle.dt_region.specs.Conditions.{HoldsValid}
 use Rattle.dt_region.specs.Region.{HasStamp, latest_stamp}
-use Rattle.dt_round.specs.Rounds.{CanRound}
+use Rattle.dt_region.specs.Rounds.{CanRound}
 use Rattle.dt_packet.specs.declared.packet.Packet.{Packet}
 use Rattle.dt_session.specs.World.{World, logs_of, received_lengths}
 use Rattle.dt_session.specs.Run.{world_after}

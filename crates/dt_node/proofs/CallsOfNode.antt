@@ -17,7 +17,7 @@ use Rattle.dt_txn.specs.declared.Body.{Body}
 use Rattle.dt_txn.specs.declared.Entry.{Entry}
 use Rattle.dt_txn.specs.declared.Txn.{Txn}
 use Rattle.dt_txn.specs.Replica.{IsContinuation, MayStep, Replica, executed, stepped, taken_from}
-use Rattle.dt_round.specs.Rounds.{Continues, after_steps}
+use Rattle.dt_region.specs.Rounds.{Continues, after_steps}
 use Rattle.dt_region.specs.Region.{RegionState, RegionView, held, latest_stamp}
 use Rattle.dt_region.specs.Rules.{MakesAppend, MakesDelivery, past_end, with_event}
 use Rattle.dt_region.specs.Sound.{IsSoundRegion}

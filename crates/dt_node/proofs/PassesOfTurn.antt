@@ -11,8 +11,8 @@ use Rattle.dt_sched.specs.Views.{log_at}
 use Rattle.dt_proc.specs.Tree.{ProcTree}
 use Rattle.dt_txn.specs.declared.Txn.{Txn}
 use Rattle.dt_txn.specs.Replica.{IsContinuation, IsDrained, MayStep, Replica, executed, stepped}
-use Rattle.dt_round.specs.Rounds.{Continues, after_steps}
-use Rattle.dt_round.proofs.Callers.{continues_none}
+use Rattle.dt_region.specs.Rounds.{Continues, after_steps}
+use Rattle.dt_region.proofs.Callers.{continues_none}
 use Rattle.dt_region.specs.Region.{RegionState, RegionView, held, latest_stamp}
 use Rattle.dt_packet.specs.declared.packet.Packet.{Packet}
 use Rattle.dt_node.specs.MeasureInner.{left_for}

@@ -26,7 +26,7 @@ use Rattle.dt_agreement.proofs.Callers.{append_legal, world_from_append}
 use Rattle.dt_site.specs.SessionsStandIn.{SessionsStandIn}
 use Rattle.dt_site.specs.Site.{SiteView, in_region, node_of}
 use Rattle.dt_site.specs.StandsIn.{IsReached, StandsIn}
-use Rattle.dt_round.specs.Rounds.{after_steps}
+use Rattle.dt_region.specs.Rounds.{after_steps}
 use Rattle.dt_site.proofs.Callers.{after_more, held_in_log, inv, received_stay, run_more, sessions_stay, txns_stay}
 use Rattle.dt_node.specs.NodeView.{NodeView, number_of}
 use Rattle.dt_node.specs.NodeInWorld.{KnowsNoMore, NodeFits}

@@ -19,7 +19,7 @@ use Rattle.dt_table.specs.Table.{Table}
 use Rattle.dt_txn.specs.declared.Body.{Body}
 use Rattle.dt_txn.specs.Replica.{IsDrained, next_id, taken_from}
 use Rattle.dt_txn.specs.Transaction.{annotate, homes_of}
-use Rattle.dt_round.specs.Rounds.{Continues}
+use Rattle.dt_region.specs.Rounds.{Continues}
 use Rattle.dt_packet.specs.declared.packet.Packet.{Packet}
 use Rattle.dt_session.specs.Step.{ranked_body}
 use Rattle.dt_session.specs.Sessions.{numbers_next, seat_of, wanted_of}

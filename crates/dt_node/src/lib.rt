@@ -7,7 +7,7 @@
 //!    log, and notes how far the source has come with its own requests and its own log (`arrivals.rt`).
 //! 2. It answers each session whose attempt has ended, and lets each session submit that may; what a submission asks of the
 //!    region itself it places at once (`sessions.rt`).
-//! 3. It makes a round: whatever can be inserted, resolved and executed is (`dt_round`'s [`Rounds`](dt_round::Rounds)).
+//! 3. It makes a round: whatever can be inserted, resolved and executed is (`dt_region`'s [`Rounds`](dt_region::Rounds)).
 //! 4. Where the second step changed something, it goes back to it. A round that could make nothing, since the one before it
 //!    left nothing, is left out.
 //! 5. It sends one packet to each other region: all that this one is not known to have, as far as a packet holds it

@@ -1,7 +1,7 @@
 ghost use Rattle.std.specs.Prelude.{◌≡◌, ◌<◌, ◌≤◌, ◌+◌, ◌^◌, ℕ, List, [], flat_map, length, map, replicate, IfOk, IsTrue, OnOk};
 ghost use Rattle.dt_lists.specs.Lists.{AllIn, Pairwise};
 ghost use Rattle.dt_txn.specs.Replica.{IsDrained};
-ghost use Rattle.dt_round.specs.Rounds.{Continues};
+ghost use Rattle.dt_region.specs.Rounds.{Continues};
 ghost use Rattle.dt_cluster.specs.Valid.{IsValidCluster};
 ghost use Rattle.dt_workload.specs.Valid.{IsValidWorkload};
 ghost use Rattle.dt_session.specs.World.{opening_table};
@@ -16,8 +16,7 @@ ghost use Rattle.dt_node.specs.TurnInner.{CanGo, KnowsTheSame, MovesOn, PassesOn
 use dt_cluster::Cluster;
 use dt_packet::{Inlet, LossPlan, Outlet};
 use dt_proc::Procs;
-use dt_region::Region;
-use dt_round::Rounds;
+use dt_region::{Region, Rounds};
 use dt_sched::Scheduler;
 use dt_session::Sessions;
 use dt_site::{Site, first_table, opening_of};

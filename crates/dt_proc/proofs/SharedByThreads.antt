@@ -12,8 +12,8 @@ use Rattle.dt_proc.specs.contracts.tree.Expr as expr
 use Rattle.dt_proc.specs.contracts.tree.Give as give
 use Rattle.dt_proc.specs.contracts.tree.KeyDecl as decl
 use Rattle.dt_proc.specs.contracts.tree.Stmts as stmts
-use Rattle.dt_proc.proofs.tree.Expr.TheLaws.TheKnot.{sync-Expr}
-use Rattle.dt_proc.proofs.tree.Stmts.TheLaws.TheKnot.{sync-Stmts}
+use Rattle.dt_proc.proofs.tree.Expr.TheLaws.TheKnot.{send-Expr, sync-Expr}
+use Rattle.dt_proc.proofs.tree.Stmts.TheLaws.TheKnot.{send-Stmts, sync-Stmts}
 
 str_sync : IsSync str.the_row
 str_sync = search (crosses, sendable) depth 30
@@ -45,5 +45,31 @@ stmts_sync = search (expr_sync, str_sync, gives_sync, sync-Stmts, crosses, senda
 proc_sync : IsSync proc.the_row
 proc_sync = search (name_sync, kinds_sync, decls_sync, stmts_sync, crosses, sendable) depth 30
 
+-- copies of procedures have them in common, so that whoever drops the last of them may be another thread
+
+str_send : IsSend str.the_row
+str_send = search (crosses, sendable) depth 30
+
+name_send : IsSend name.the_row
+name_send = search (spelling_send, spelling_sync, crosses, sendable) depth 30
+
+kinds_send : IsSend (listed.the_row kind.the_row)
+kinds_send = search (crosses, sendable) depth 30
+
+decls_send : IsSend (listed.the_row decl.the_row)
+decls_send = search (crosses, sendable) depth 50 fits 10000
+
+expr_send : IsSend expr.the_row
+expr_send = search (send-Expr, crosses, sendable) depth 40
+
+gives_send : IsSend (listed.the_row give.the_row)
+gives_send = search (send-Expr, crosses, sendable) depth 100 fits 100000
+
+stmts_send : IsSend stmts.the_row
+stmts_send = search (expr_send, str_send, gives_send, send-Stmts, crosses, sendable) depth 20
+
+proc_send : IsSend proc.the_row
+proc_send = search (name_send, kinds_send, decls_send, stmts_send, crosses, sendable) depth 30
+
 pub procs_sync : IsSync procs.the_row
-procs_sync = search (proc_sync, crosses, sendable) depth 30
+procs_sync = search (proc_send, proc_sync, crosses, sendable) depth 30

@@ -68,10 +68,14 @@ sum = record {
   body = one_step (give_all (value (binary Add (number_of 0) (number_of 1)) ∷ []));
 }
 
+-- what xfer does first: if int(a) < n { abort "funds"; }
+abbrev pub refusal : StmtTree
+refusal = choose (binary Less (number_of 0) (variable 2)) (one_step (abort_with (codes "funds"))) done
+
 -- the statements of xfer
 abbrev pub transfer : BlockTree
 transfer =
-    then (choose (binary Less (number_of 0) (variable 2)) (one_step (abort_with (codes "funds"))) done)
+    then refusal
     (then (set_row 0 (binary Sub (number_of 0) (variable 2)))
     (then (set_row 1 (binary Add (number_of 1) (variable 2)))
     (one_step (give_all (value (number_of 0) ∷ value (number_of 1) ∷ [])))))

@@ -22,7 +22,7 @@ pub fn builtin_procs(alloc: Global) -> Result<Procs, NoMemory>
     procs.push(div(alloc)?)?;
     procs.push(sum(alloc)?)?;
     procs.push(xfer(alloc)?)?;
-    Ok(Procs::from_vec(procs))
+    Procs::from_vec(alloc, procs)
 }
 
 /// `proc put(k: text, v: int) write a = k; { set a = v; }`
@@ -143,9 +143,7 @@ fn xfer(alloc: Global) -> Result<Proc, NoMemory>
 fn transfer(alloc: Global) -> Result<Stmts, NoMemory>
     ensures { IfOk result (λ body. body ≡ builtin.transfer) }
 {
-    let few = binary(alloc, Op::Less, Expr::IntOf(0), Expr::Var(2))?;
-    let refused = one(alloc, Stmt::Abort(Str::new(alloc, b"funds")?))?;
-    let mut body = one(alloc, Stmt::If(few, refused, Stmts::new(alloc)))?;
+    let mut body = one(alloc, refusal(alloc)?)?;
     let left = binary(alloc, Op::Sub, Expr::IntOf(0), Expr::Var(2))?;
     body.push(Stmt::Set(0, left))?;
     let more = binary(alloc, Op::Add, Expr::IntOf(1), Expr::Var(2))?;
@@ -154,6 +152,15 @@ fn transfer(alloc: Global) -> Result<Stmts, NoMemory>
     gives.push(Give::Value(Expr::IntOf(1)))?;
     body.push(Stmt::Give(gives))?;
     Ok(body)
+}
+
+/// `if int(a) < n { abort "funds"; }`
+fn refusal(alloc: Global) -> Result<Stmt, NoMemory>
+    ensures { IfOk result (λ stmt. stmt_tree stmt ≡ builtin.refusal) }
+{
+    let few = binary(alloc, Op::Less, Expr::IntOf(0), Expr::Var(2))?;
+    let refused = one(alloc, Stmt::Abort(Str::new(alloc, b"funds")?))?;
+    Ok(Stmt::If(few, refused, Stmts::new(alloc)))
 }
 
 /// These kinds.

@@ -8,7 +8,6 @@
 #![tactic(auto)]
 
 mod builtin;
-mod copies;
 mod error;
 mod expressions;
 mod fronts;

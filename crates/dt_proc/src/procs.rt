@@ -1,4 +1,4 @@
-ghost use Rattle.std.specs.Prelude.{◌≡◌, ◌↔◌, ◌<◌, [], length, slice_get, Some, IsTrue, option_copied, nat_eq};
+ghost use Rattle.std.specs.Prelude.{◌≡◌, ◌↔◌, ◌<◌, [], length, slice_get, Some, IfOk, IsTrue, option_copied, nat_eq};
 ghost use Rattle.dt_proc.specs.TreeViews.{block_tree};
 ghost use Rattle.dt_proc.specs.Sound.{IsSoundProc, AreProcs};
 ghost use Rattle.dt_proc.specs.Tree.{ProcTree};
@@ -6,7 +6,8 @@ ghost use Rattle.std.specs.Cmp.Lexicographic.{pointwise};
 ghost use Rattle.dt_proc.specs.Names.{place_of_name};
 
 use crate::tree::{KeyDecl, Kind, Stmt, Stmts};
-use dt_text::{Listed, Name};
+use dt_text::{Common, Listed, Name, NoMemory};
+use std::alloc::Global;
 use std::marker::Model;
 
 /// A procedure. Contracts see its name, the kinds of its parameters, its keys and its statements.
@@ -88,10 +89,10 @@ impl Proc {
     }
 }
 
-/// Procedures, at most 64 and of distinct names. Contracts see them as a list.
+/// Procedures, at most 64 and of distinct names, which copies have in common. Contracts see them as a list.
 #[derive(Drop)]
 pub struct Procs {
-    items: Vec<Proc>,
+    items: Common<Vec<Proc>>,
 }
 
 impl Model for Procs {
@@ -110,12 +111,23 @@ impl Model for Procs {
 }
 
 impl Procs {
-    /// These procedures. Takes no memory.
-    pub(crate) fn from_vec(items: Vec<Proc>) -> Self
+    /// These procedures, which have no copy yet.
+    pub(crate) fn from_vec(alloc: Global, items: Vec<Proc>) -> Result<Self, NoMemory>
         requires { AreProcs items.items }
-        ensures { result ≡ items.items }
+        ensures { IfOk result (λ procs. procs ≡ items.items) }
     {
-        Procs { items }
+        Ok(Procs {
+            items: Common::new(alloc, items)?,
+        })
+    }
+
+    /// Equal procedures. Takes no memory.
+    pub fn copy(&self) -> Result<Self, NoMemory>
+        ensures { IfOk result (λ copied. copied ≡ self.now) }
+    {
+        Ok(Procs {
+            items: self.items.copy()?,
+        })
     }
 
     /// The procedures, in order.
@@ -123,35 +135,35 @@ impl Procs {
         ensures same { result.now ≡ self.now }
         ensures sound { AreProcs self.now }
     {
-        self.items.as_slice()
+        self.items.get().as_slice()
     }
 
     /// The number of the procedure of this name, counted from 0; `None` exactly where there is none.
     pub fn find(&self, name: &[u8]) -> Option<u32>
         ensures { result ≡ place_of_name name.now self.now }
     {
-        Some(place_in(self.items.as_slice(), name)? as u32)
+        Some(place_in(self.as_slice(), name)? as u32)
     }
 
     /// How many procedures there are.
     pub fn len(&self) -> u32
         ensures { result ≡ length self.now }
     {
-        self.items.len() as u32
+        self.as_slice().len() as u32
     }
 
     /// Whether there is no procedure.
     pub fn is_empty(&self) -> bool
         ensures { IsTrue result ↔ (self.now ≡ []) }
     {
-        self.items.is_empty()
+        self.as_slice().is_empty()
     }
 
     /// The procedure of this number, counted from 0; `None` exactly where there is none.
     pub fn get(&self, index: u32) -> Option<&Proc>
         ensures { option_copied result ≡ slice_get self.now index }
     {
-        self.items.get(index as usize)
+        self.as_slice().get(index as usize)
     }
 }
 

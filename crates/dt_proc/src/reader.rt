@@ -66,7 +66,7 @@ fn procs(alloc: Global, tokens: &[Placed]) -> Result<Procs, ProcError>
         procs.push(item)?;
         rest = after;
     }
-    Ok(Procs::from_vec(procs))
+    Ok(Procs::from_vec(alloc, procs)?)
 }
 
 /// Reads procedures. The answer is the outcome of the text: the procedures that it means, or the

@@ -8,3 +8,5 @@ pub use Rattle.dt_region.proofs.Drained.{HasInserted}
 pub use Rattle.dt_region.proofs.StepSound.{step_sound}
 pub use Rattle.dt_region.proofs.ExecutableStays.{execute_leaves, insert_leaves, resolve_leaves}
 pub use Rattle.dt_region.proofs.ViewOfRegion.{under}
+pub use Rattle.dt_region.proofs.OneStepMore.{continues_none}
+pub use Rattle.dt_region.proofs.Underway.{at_first, moves_left, one_more, stamp_left, whatever_room}

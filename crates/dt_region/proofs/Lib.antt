@@ -19,3 +19,8 @@ pub mod Stamps
 pub mod Stock
 pub mod StepSound
 pub mod ExecutableStays
+pub mod StepCounts
+pub mod Effects
+pub mod OneStepMore
+pub mod Underway
+pub mod OneStep

@@ -8,6 +8,9 @@ pub mod Foreign
 pub mod Kept
 pub mod RegionCode
 pub mod RegionInner
+pub mod Rounds
+pub mod StepsInner
+pub mod Underway
 pub use Rattle.dt_txn.specs.Transaction
 pub use Rattle.dt_txn.specs.Asking
 pub use Rattle.dt_txn.specs.Execution

@@ -1,4 +1,4 @@
-ghost use Rattle.std.specs.Prelude.{◌≡◌, ◌+◌, ◌++◌, ◌<◌, ◌≤◌, ◌^◌, List, length, map, set, vec_len, IfOk, OnOk, OnErr};
+ghost use Rattle.std.specs.Prelude.{◌≡◌, ◌+◌, ◌++◌, ◌<◌, ◌≤◌, ◌^◌, List, drop, length, map, set, vec_len, IfOk, OnOk, OnErr};
 ghost use Rattle.dt_lists.specs.Lists.{AllIn, Has};
 ghost use Rattle.dt_sched.specs.Views.{log_at};
 ghost use Rattle.dt_sched.specs.Sched.{with_part};
@@ -14,7 +14,7 @@ use dt_txn::{Entry, Txn};
 use std::alloc::Global;
 
 /// The parts and the transactions of entries, each in the entries' order.
-pub fn parts_and_txns(
+fn parts_and_txns(
     alloc: Global,
     entries: Vec<Entry>,
 ) -> Result<(Vec<Common<Part>>, Vec<Common<Txn>>), NoMemory>
@@ -29,6 +29,19 @@ pub fn parts_and_txns(
         txns.push(txn)?;
     }
     Ok((parts, txns))
+}
+
+/// The parts and the transactions of the entries past the first `known`, each in the entries' order.
+pub fn parts_and_txns_past(
+    alloc: Global,
+    known: usize,
+    mut entries: Vec<Entry>,
+) -> Result<(Vec<Common<Part>>, Vec<Common<Txn>>), NoMemory>
+    requires { known ≤ vec_len entries }
+    ensures parts { IfOk result (λ both. both.0.items ≡ map (λ e. e.part) (drop known entries.items)) }
+    ensures txns { IfOk result (λ both. both.1.items ≡ map (λ e. e.txn) (drop known entries.items)) }
+{
+    parts_and_txns(alloc, entries.split_off(known)?)
 }
 
 /// Places a part at the end of its home's log; after `NoMemory` the logs are as before.

@@ -17,7 +17,8 @@
 //!
 //! A call keeps its event where it changed something, and where it answers `NoMemory` nothing has changed. The event's stamp
 //! is one above the greatest of the region's last stamp and all stamps that it heard of (`hear`). A region is `drained` where
-//! it has inserted all that it received, and may neither execute nor resolve anything; `dt_round` brings it there. What a call
+//! it has inserted all that it received, and may neither execute nor resolve anything; a round brings it there ([`Rounds`]), of which the calling thread makes
+//! one by itself ([`Alone`]). What makes rounds is generic in that trait, so that a round by many threads makes the same promise. What a call
 //! does is stated in `specs/Rules.antt`, when it may be made in `specs/Conditions.antt`, and what holds of every region in
 //! `specs/Sound.antt`.
 //!
@@ -34,6 +35,7 @@
 //! ```
 #![tactic(auto)]
 
+mod alone;
 mod by_id;
 mod entries;
 mod foreign;
@@ -41,5 +43,8 @@ mod kept;
 mod opening;
 mod region;
 mod requests;
+mod rounds;
 
+pub use alone::{Alone, finish};
 pub use region::Region;
+pub use rounds::{Rounded, Rounds};

@@ -17,7 +17,7 @@ ghost use Rattle.dt_region.specs.Conditions.{IsTableFor, CanAppend, CanDeliver, 
 ghost use Rattle.dt_region.specs.Sound.{IsSoundRegion};
 
 use crate::by_id::ById;
-use crate::entries::{add, keep_all, parts_and_txns, place};
+use crate::entries::{add, keep_all, parts_and_txns_past, place};
 use crate::foreign::Foreign;
 use crate::kept::Kept;
 use crate::opening::{Lists, no_lists};
@@ -336,7 +336,7 @@ impl<S: Scheduler> Region<S> {
         home: u8,
         begin: u32,
         first: u32,
-        mut entries: Vec<Entry>,
+        entries: Vec<Entry>,
     ) -> Result<Taken, NoMemory>
         requires stamp { HasStamp self.old }
         requires home { home < self.old.state.regions }
@@ -355,9 +355,9 @@ impl<S: Scheduler> Region<S> {
         }
         let stamp = self.next_stamp();
         let region = self.number;
-        let (parts, txns) = parts_and_txns(alloc, entries.split_off(known)?)?;
-        let new = txns.len();
         self.events.reserve(self.room + 1)?;
+        let (parts, txns) = parts_and_txns_past(alloc, known, entries)?;
+        let new = txns.len();
         self.foreign.reserve_all(alloc, txns.as_slice())?;
         add(&mut self.logs, home, parts)?;
         keep_all(region, &mut self.foreign, txns);

@@ -1,14 +1,14 @@
 ghost use Rattle.std.specs.Prelude.{◌≡◌, ◌++◌, [], IfOk, OnOk};
-ghost use Rattle.dt_table.specs.Table.{shown};
+ghost use Rattle.dt_table.specs.Table.{shown, shown_at};
 ghost use Rattle.dt_report.specs.ShownTables.{all_shown};
-ghost use Rattle.dt_report.specs.Report.{events_text, order_text, replies_text, report_text, table_text, tables_text};
+ghost use Rattle.dt_report.specs.Report.{events_text, order_text, replies_text, report_text, row_line, table_text, tables_text};
 
 use crate::lines::{put_ran, put_reply, put_row};
 use crate::report::{Ran, Reply, Report};
 use crate::words::put_number;
 use dt_events::{Event, put_event};
 use dt_table::{Shown, ShownList, Table};
-use dt_text::NoMemory;
+use dt_text::{Key, NoMemory};
 use std::alloc::Global;
 
 /// How long a report is for each of its events, roughly.
@@ -117,10 +117,17 @@ fn put_shown(alloc: Global, out: &mut Vec<u8>, region: u64, table: &Table) -> Re
 {
     put_head(alloc, out, region)?;
     for key in table.shown_keys(alloc)? {
-        let row = table.shown_at(alloc, key)?;
-        put_row(alloc, out, &row)?;
+        put_shown_row(alloc, out, table, key)?;
     }
     Ok(())
+}
+
+/// Appends the line of a key, as a region's table shows it.
+fn put_shown_row(alloc: Global, out: &mut Vec<u8>, table: &Table, key: Key) -> Result<(), NoMemory>
+    ensures { OnOk result (out.new.items ≡ out.old.items ++ row_line (shown_at table.now.state key)) }
+{
+    let row = table.shown_at(alloc, key)?;
+    put_row(alloc, out, &row)
 }
 
 /// Appends the line before the rows of a region.

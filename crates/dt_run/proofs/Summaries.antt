@@ -17,7 +17,7 @@ use Rattle.dt_workload.specs.declared.Workload.{Workload}
 use Rattle.dt_merge.specs.Merge.{IsMerge}
 use Rattle.dt_merge.specs.Weight.{most_events}
 use Rattle.dt_site.specs.Site.{SiteView}
-use Rattle.dt_sum.specs.Summary.{answer_count, is_answer, kept_answers, row_sum, summary_text}
+use Rattle.dt_gen.specs.Summary.{answer_count, is_answer, kept_answers, row_sum, summary_text}
 use Rattle.dt_world.specs.WorldReport.{report_of, tables_of}
 use Rattle.dt_node.specs.NodeView.{NodeView}
 use Rattle.dt_run.specs.EndOfRun.{IsAllDone}

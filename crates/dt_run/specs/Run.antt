@@ -12,7 +12,7 @@ use Rattle.dt_text.specs.Texts.{Bytes}
 use Rattle.dt_report.specs.declared.Report.{Report}
 use Rattle.dt_report.specs.Report.{report_text}
 use Rattle.dt_world.specs.WorldReport.{report_of}
-use Rattle.dt_sum.specs.Summary.{summary_of}
+use Rattle.dt_gen.specs.Summary.{summary_of}
 use Rattle.dt_run.specs.NodesView.{NodesView, kept_by}
 
 -- these are the events that lists of kept events have, in the order of a merge

@@ -13,7 +13,7 @@ use Rattle.dt_node.specs.TurnPackets.{HasSent, LeavesNothingOut}
 use Rattle.dt_node.specs.NodeInWorld.{NodeStands}
 use Rattle.dt_node.specs.Steps.{HasTurned}
 use Rattle.dt_node.specs.Turn.{BeginsEagerly, HasTaken, IsSettled}
-use Rattle.dt_sum.specs.Summary.{kept_answers}
+use Rattle.dt_gen.specs.Summary.{kept_answers}
 use Rattle.dt_run.specs.NodesStand.{AreNodes}
 use Rattle.dt_run.specs.NodesView.{NodesView, link_to, no_running_node}
 use Rattle.dt_run.specs.Phase.{TurnsOnce}

@@ -3,8 +3,8 @@ ghost use Rattle.std.specs.Prelude.{◌≡◌, ◌<◌, ◌+◌, ◌==◌, ◌^�
 ghost use Rattle.dt_run.specs.SeatsInner.{answers_at, events_at, seat_at};
 
 use crate::seat::Seat;
+use dt_gen::kept_answers;
 use dt_sched::Scheduler;
-use dt_sum::kept_answers;
 
 /// How far all nodes have come.
 #[derive(Clone, Copy)]

@@ -10,9 +10,8 @@ ghost use Rattle.dt_run.specs.SeatsInner.{SeatCan, SeatGoes, SeatTurned, new_sea
 
 use dt_node::Node;
 use dt_proc::Procs;
-use dt_region::Region;
+use dt_region::{Region, Rounds};
 use dt_ring::{RingIn, RingOut};
-use dt_round::Rounds;
 use dt_sched::Scheduler;
 use dt_text::NoMemory;
 use std::alloc::Global;

@@ -1,6 +1,6 @@
 //! The turns of a phase: one at every seat, by helpers that are kept over all phases, or in threads that are started for it.
 ghost use Rattle.std.specs.Prelude.{◌<◌, length, All, OnOk};
-ghost use Rattle.dt_round.specs.Rounds.{CanRound, Continues};
+ghost use Rattle.dt_region.specs.Rounds.{CanRound, Continues};
 ghost use Rattle.dt_txn.specs.Replica.{IsDrained};
 ghost use Rattle.dt_run.specs.SeatsInner.{EachGoes, SeatCan, SeatGoes};
 ghost use Rattle.dt_run.specs.HelpersInner.{LendsTurns};

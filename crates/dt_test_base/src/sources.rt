@@ -541,16 +541,8 @@ enum What {
 /// Procedures, printed from a copy. Procedures are left to the end of the process: that they may be dropped would be proved in each
 /// function that owns some.
 fn put_copy(alloc: Global, out: &mut Vec<u8>, procs: &Procs) -> Result<(), NoMemory> {
-    let copy = procs.copy(alloc)?;
+    let copy = procs.copy()?;
     let put = put_procs(alloc, out, &copy);
-    forget(copy);
-    put
-}
-
-/// A body, printed from a copy of its procedure.
-fn put_body_of_copy(alloc: Global, out: &mut Vec<u8>, proc: &Proc) -> Result<(), NoMemory> {
-    let copy = proc.copy(alloc)?;
-    let put = put_body(alloc, out, copy.body());
     forget(copy);
     put
 }
@@ -559,7 +551,7 @@ fn put_body_of_copy(alloc: Global, out: &mut Vec<u8>, proc: &Proc) -> Result<(),
 fn put_what(alloc: Global, out: &mut Vec<u8>, what: What, procs: &Procs) -> Result<(), NoMemory> {
     match (what, procs.get(0)) {
         (What::Procs, _) => put_copy(alloc, out, procs),
-        (What::Body, Some(proc)) => put_body_of_copy(alloc, out, proc),
+        (What::Body, Some(proc)) => put_body(alloc, out, proc.body()),
         (What::Body, None) => Ok(()),
     }
 }

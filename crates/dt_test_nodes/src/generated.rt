@@ -2,11 +2,10 @@
 ghost use Rattle.std.specs.Prelude.{◌≡◌, ◌≤◌, false};
 
 use crate::cases::{Want, holds_of};
-use dt_gen::generate;
+use dt_gen::{generate, row_sum};
 use dt_graph::QueueSched;
 use dt_lock::NoGate;
 use dt_run::{Nodes, run};
-use dt_sum::row_sum;
 use std::alloc::Global;
 use std::mem::forget;
 use std::sync::Wait;

@@ -11,7 +11,7 @@ use Rattle.dt_region.proofs.Callers.{parts_none}
 use Rattle.dt_region.specs.Conditions.{IsTableFor}
 use Rattle.dt_region.specs.Region.{HasStamp, RegionView}
 use Rattle.dt_region.specs.Rules.{opening_state}
-use Rattle.dt_round.specs.Rounds.{CanRound}
+use Rattle.dt_region.specs.Rounds.{CanRound}
 use Rattle.dt_test_round.specs.FedRegion.{WasFed}
 
 -- a table without homes of its own is one for n regions

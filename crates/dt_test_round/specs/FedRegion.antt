@@ -1,5 +1,5 @@
 -- For the tests of rounds: a region that only submitted, placed and received so far. Whoever asks for a round has to show that
--- it may be made (`CanRound` of dt_round); a test keeps this much of its region, from which that follows. Read next: the
+-- it may be made (`CanRound` of dt_region); a test keeps this much of its region, from which that follows. Read next: the
 -- tests, in `src/`.
 use Rattle.std.specs.Prelude.{◌≡◌, ◌≤◌, ℕ, List, length}
 use Rattle.dt_access.specs.Clash.{Bytes}

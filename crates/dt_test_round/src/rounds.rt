@@ -1,7 +1,7 @@
 //! Rounds of a region, to which parts of logs came.
 ghost use Rattle.std.specs.Prelude.{◌≡◌, ◌<◌, ◌≤◌, List, [], IfOk, OnOk};
 ghost use Rattle.dt_proc.specs.Tree.{ProcTree};
-ghost use Rattle.dt_round.specs.Rounds.{CanRound};
+ghost use Rattle.dt_region.specs.Rounds.{CanRound};
 ghost use Rattle.dt_table.specs.Table.{opening};
 ghost use Rattle.dt_test_round.specs.BegunRegion.{begun_region, begun_rows};
 ghost use Rattle.dt_test_round.specs.FedRegion.{WasFed};
@@ -17,8 +17,7 @@ use dt_graph::QueueSched;
 use dt_lock::{Gate, NoGate, round};
 use dt_plain::PlainSched;
 use dt_proc::{Procs, builtin_procs};
-use dt_region::Region;
-use dt_round::{Alone, Rounds};
+use dt_region::{Alone, Region, Rounds};
 use dt_sched::Scheduler;
 use dt_table::Table;
 use dt_text::{Key, Value, put_u64};

@@ -1,7 +1,7 @@
 //! The steps under the lock of a region, one after another: what was worked earlier, in this region or in its twin, is not committed.
 //! Regions are left to the end of the process: that they may be dropped would be proved again in each function that owns one.
 ghost use Rattle.std.specs.Prelude.{◌≡◌};
-ghost use Rattle.dt_round.specs.Rounds.{CanRound};
+ghost use Rattle.dt_region.specs.Rounds.{CanRound};
 
 use crate::calls::Call;
 use crate::rounds::{Story, begun, feed, put_events};

@@ -3,7 +3,7 @@ ghost use Rattle.std.specs.Prelude.{◌≡◌, ◌+◌, ◌<◌, IfOk, OnOk};
 ghost use Rattle.dt_events.specs.declared.Event.TheVariants.{Submit};
 ghost use Rattle.dt_txn.specs.Transaction.{BodyFits};
 ghost use Rattle.dt_region.specs.Rules.{after_submit, with_event};
-ghost use Rattle.dt_round.specs.Rounds.{CanRound};
+ghost use Rattle.dt_region.specs.Rounds.{CanRound};
 ghost use Rattle.dt_test_round.specs.FedRegion.{WasFed};
 
 use crate::feeding::{Row, next};

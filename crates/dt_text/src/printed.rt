@@ -1,5 +1,5 @@
 ghost use Rattle.std.specs.Prelude.{◌≡◌, ◌++◌, OnOk, OnErr};
-ghost use Rattle.dt_text.specs.Printed.{text_word, value_text};
+ghost use Rattle.dt_text.specs.Printed.{text_word, text_item, value_text};
 
 use crate::no_memory::NoMemory;
 use crate::numbers::put_i64;
@@ -15,13 +15,21 @@ pub fn put_text(alloc: Global, out: &mut Vec<u8>, text: &Str) -> Result<(), NoMe
     let mut word = Vec::new(alloc);
     word.push(b'"')?;
     for byte in text.bytes() {
-        if *byte == b'"' || *byte == b'\\' {
-            word.push(b'\\')?;
-        }
-        word.push(*byte)?;
+        put_item(&mut word, *byte)?;
     }
     word.push(b'"')?;
     out.extend_from_slice(word.as_slice())?;
+    Ok(())
+}
+
+/// Appends a byte as it stands in a text word.
+fn put_item(word: &mut Vec<u8>, byte: u8) -> Result<(), NoMemory>
+    ensures { OnOk result (word.new.items ≡ word.old.items ++ text_item byte) }
+{
+    if byte == b'"' || byte == b'\\' {
+        word.push(b'\\')?;
+    }
+    word.push(byte)?;
     Ok(())
 }
 

@@ -1,6 +1,6 @@
 use Rattle.std.proofs.Common.{sym, subst}
-use Rattle.dt_round.specs.Rounds.{Continues}
-use Rattle.dt_round.specs.Underway.{IsUnderway}
+use Rattle.dt_region.specs.Rounds.{Continues}
+use Rattle.dt_region.specs.Underway.{IsUnderway}
 use Rattle.dt_lock.proofs.by_threads.finish_held.Goals as goal
 
 pub finish-result-requires-clause-on_way : goal.finish-result-requires-clause-on_way

@@ -26,4 +26,4 @@ loop-rest-preserved c = record {
 pub returns-clause-right : goal.returns-clause-right
 returns-clause-right c = λ ps good cut.
     going_end c.args.tokens.now c.loop-rest.procs.items c.loop-rest.rest.now (none_left c.loop-rest.rest.now c.loop-rest-test.ensures) c.loop-rest.invariant.going.told ps good cut
-    ∙ ap Ok (sym c.from_vec.ensures)
+    ∙ ap Ok (sym c.in_ok-from_vec.ensures)

@@ -1,7 +1,7 @@
 use Rattle.std.proofs.Common.{◌≡◌, ◌≤◌, ◌+◌, ap, ◌∙◌, arith}
 use Rattle.std.specs.Prelude.{sum_by}
 use Rattle.dt_region.specs.Region.{RegionView}
-use Rattle.dt_sum.specs.Summary.{kept_answers}
+use Rattle.dt_gen.specs.Summary.{kept_answers}
 use Rattle.dt_run.specs.SeatsInner.{answers_at, events_at}
 use Rattle.dt_run.proofs.SeatCounts.{sum_next, sum_within}
 use Rattle.dt_run.proofs.Summaries.{answers_within}

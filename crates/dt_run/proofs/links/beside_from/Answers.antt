@@ -1,7 +1,14 @@
-use Rattle.std.proofs.Common.{◌∙◌, drop, length, sym}
+use Rattle.std.proofs.Common.{◌∙◌, ◌<◌, drop, length, subst, sym}
+use Rattle.std.proofs.Math.ListN.{length-set}
 use Rattle.dt_run.proofs.SliceOffsets.{written_back}
 use Rattle.dt_run.proofs.RowBeside.{row_put, row_taken}
 use Rattle.dt_run.proofs.links.beside_from.Goals as goal
+
+pub bounds-seats-source : goal.bounds-seats-source
+bounds-seats-source g c = c.requires.within
+
+pub bounds-seats-source-2 : goal.bounds-seats-source-2
+bounds-seats-source-2 g c = subst (λ n. c.args.source < n) (sym (c.beside_row.ensures.many ∙ length-set c.args.seats.now c.args.source c.take_outlets-row.new.self)) c.requires.within
 
 pub beside_row-requires : goal.beside_row-requires
 beside_row-requires g c =

@@ -4,7 +4,7 @@ use Rattle.dt_sched.specs.Sched.{CanExecute}
 use Rattle.dt_region.specs.Region.{sched_of}
 use Rattle.dt_region.specs.Conditions.{CanMove, ComesTo, HasRun}
 use Rattle.dt_region.specs.Rules.{after_finishing}
-use Rattle.dt_round.proofs.Callers.{moves_left, stamp_left}
+use Rattle.dt_region.proofs.Callers.{moves_left, stamp_left}
 use Rattle.dt_lock.specs.Held.{Commits, HeldView, IsHeld, as_running, without_claim}
 use Rattle.dt_lock.proofs.HeldSteps.{can_commit, committed, comes_now, found_running, has_run}
 use Rattle.dt_lock.proofs.held.Held.commit.Goals as goal

@@ -1,7 +1,7 @@
 use Rattle.std.proofs.Common.{◌<◌, [], sym, subst}
 use Rattle.dt_events.specs.declared.Event.TheVariants.{Insert}
 use Rattle.dt_region.specs.Rules.{MakesStep}
-use Rattle.dt_round.proofs.Callers.{stamp_left}
+use Rattle.dt_region.proofs.Callers.{stamp_left}
 use Rattle.dt_lock.specs.Held.{HeldView}
 use Rattle.dt_lock.proofs.HeldSteps.{inserted, regions_stay}
 use Rattle.dt_lock.proofs.held.Held.insert.Goals as goal

@@ -1,4 +1,4 @@
-use Rattle.dt_round.proofs.Callers.{stamp_left}
+use Rattle.dt_region.proofs.Callers.{stamp_left}
 use Rattle.dt_lock.proofs.HeldSteps.{resolved}
 use Rattle.dt_lock.proofs.held.Held.resolve.Goals as goal
 

@@ -13,8 +13,8 @@ invariant_of-self-2 g c =
     record {
       well = deliver_keeps _ _ _ _ _ _ (seen_as c.self.view_is c.self.invariant.well) c.args.home c.args.first c.args.entries.items c.requires.home c.requires.can
           c.in_ok-parts.parts.items c.in_ok-parts.txns.items c.len-end.result (c.len-end.ensures ∙ ap length c.log.ensures) c.if-end-first.false past
-          (c.in_ok-parts.ensures.parts ∙ ap (λ (l : List Entry). map (λ e. e.part) l) c.in_ok-split_off.ensures.tail)
-          (c.in_ok-parts.ensures.txns ∙ ap (λ (l : List Entry). map (λ e. e.txn) l) c.in_ok-split_off.ensures.tail)
+          c.in_ok-parts.ensures.parts
+          c.in_ok-parts.ensures.txns
           _ _ c.in_ok-add.ensures.ok (λ submitted counted own. c.keep_all.ensures submitted counted own ∙ ap (λ f. keep_all submitted f c.in_ok-parts.txns.items) c.reserve_all.ensures.same);
       stock = stock_kept c.self.invariant.stock c.in_ok-reserve.ensures.room c.keep.ensures.spare (omega arith);
     }
@@ -24,8 +24,8 @@ returns-clause-makes g c =
     let past : c.len-end.result < c.args.first + length c.args.entries.items = omega (arith, c.if-len-known.false, c.len.ensures, c.args.entries.ok.0) in
     deliver_made _ _ _ _ _ _ (seen_as c.self.view_is c.self.invariant.well) c.args.home c.args.first c.args.entries.items c.requires.home c.requires.can
     c.in_ok-parts.parts.items c.in_ok-parts.txns.items c.len-end.result (c.len-end.ensures ∙ ap length c.log.ensures) c.if-end-first.false past
-    (c.in_ok-parts.ensures.parts ∙ ap (λ (l : List Entry). map (λ e. e.part) l) c.in_ok-split_off.ensures.tail)
-    (c.in_ok-parts.ensures.txns ∙ ap (λ (l : List Entry). map (λ e. e.txn) l) c.in_ok-split_off.ensures.tail)
+    c.in_ok-parts.ensures.parts
+    c.in_ok-parts.ensures.txns
     _ _ c.in_ok-add.ensures.ok (λ submitted counted own. c.keep_all.ensures submitted counted own ∙ ap (λ f. keep_all submitted f c.in_ok-parts.txns.items) c.reserve_all.ensures.same)
     c.len-new.result (c.len-new.ensures ∙ c.in_ok-parts.txns.ok.0) c.args.begin _ c.next_stamp-stamp.ensures _
     (c.keep.ensures.kept ∙ ap (λ es. es ++ under c.next_stamp-stamp.result (Deliver c.self.inside.number c.args.home c.args.begin (c.len-end.result + c.len-new.result)) ∷ []) c.reserve.ensures.same)

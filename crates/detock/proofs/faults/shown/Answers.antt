@@ -1,8 +1,0 @@
-use Rattle.std.proofs.Common.{rules}
-use Rattle.detock.specs.Statuses.{visible_byte}
-use Rattle.detock.proofs.FaultLines.{next_shown}
-use Rattle.detock.proofs.faults.shown.Goals as goal
-
-pub loop-place-preserved : goal.loop-place-preserved
-loop-place-preserved c =
-    (search rules, next_shown visible_byte c.loop-place.shown c.args.run.now c.loop-place.place _ _ (search rules) (search rules) c.loop-place.invariant.1 c.visible_byte.ensures)

@@ -1,2 +1,0 @@
--- What the proofs of crates above may cite of this crate, and nothing else of its proofs: that the summary of a finished run is known.
-pub use Rattle.dt_sum.proofs.KnownSummary.{each_summary}

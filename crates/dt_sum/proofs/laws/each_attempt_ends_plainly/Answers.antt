@@ -1,5 +1,0 @@
-use Rattle.dt_sum.proofs.LoadWorlds.{each_end}
-use Rattle.dt_sum.proofs.laws.each_attempt_ends_plainly.Goals as goal
-
-pub returns : goal.returns
-returns c = each_end

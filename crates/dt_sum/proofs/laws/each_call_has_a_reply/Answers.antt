@@ -1,5 +1,0 @@
-use Rattle.dt_sum.proofs.CountedAnswers.{each_reply}
-use Rattle.dt_sum.proofs.laws.each_call_has_a_reply.Goals as goal
-
-pub returns : goal.returns
-returns c = each_reply

@@ -1,5 +1,0 @@
-use Rattle.dt_sum.proofs.CountedAnswers.{each_answered}
-use Rattle.dt_sum.proofs.laws.each_call_is_answered_once.Goals as goal
-
-pub returns : goal.returns
-returns c = each_answered

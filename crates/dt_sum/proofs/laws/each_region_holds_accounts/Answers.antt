@@ -1,5 +1,0 @@
-use Rattle.dt_sum.proofs.LoadWorlds.{each_region}
-use Rattle.dt_sum.proofs.laws.each_region_holds_accounts.Goals as goal
-
-pub returns : goal.returns
-returns c = each_region
