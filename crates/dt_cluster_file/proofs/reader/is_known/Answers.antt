@@ -17,6 +17,7 @@ turned : (a b : List ℕ) → same a b ≡ same b a
 turned a b = nat_list_eq_equiv.symm a b
 
 pub returns : goal.returns
-returns c =
-    (λ t. listed_has same tells told turned known_names c.args.name.now (sym c.contains.ensures.value ∙ t),
-        λ h. c.contains.ensures.value ∙ has_listed same tells told turned known_names c.args.name.now h)
+returns c = (
+  λ t. listed_has same tells told turned known_names c.args.name.now (sym c.contains.ensures.value ∙ t),
+  λ h. c.contains.ensures.value ∙ has_listed same tells told turned known_names c.args.name.now h,
+)
