@@ -22,5 +22,5 @@ pub fn is_long(procs: &Procs, number: u32) -> bool
     }
 }
 
-// Threads for calls of a procedure with fewer statements cost more than they save: `bench/README.md` has the figures.
+// So many statements are some 0.13 ms of work, about what starting a thread and waiting for it costs: `bench/FIGURES.md` has the figures.
 const LONG: usize = 4000;

@@ -172,9 +172,9 @@ impl<S: Scheduler + Drop> Nodes<S> {
 }
 
 impl<S: Scheduler + Drop + Send> Nodes<S> {
-    /// Runs one turn of every node, by a parallel call over the list of nodes. Rounds are made by as many workers as the cluster
-    /// says, each of which passes the gate between its work and its commit. It fails only if memory runs out; then some turns
-    /// may be made in part, and links and marks are given up.
+    /// Runs one turn of every node, by a parallel call over the list of nodes. Long calls of a round, or all where the gate may hold
+    /// a worker, are made by at most as many workers as the cluster says, each of which passes the gate between its work and its
+    /// commit. It fails only if memory runs out; then some turns may be made in part, and links and marks are given up.
     pub fn phase<R: Threads + Wait + Sync, G: Gate>(
         &mut self,
         rt: &R,

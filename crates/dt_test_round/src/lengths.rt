@@ -2,6 +2,7 @@
 
 use crate::calls::{Call, procs_of};
 use crate::feeding::Row;
+use crate::meeting::Meeting;
 use crate::rounds::{Telling, parts, told_of};
 use crate::wrong;
 use dt_access::TxnId;
@@ -24,6 +25,22 @@ struct Count {
 impl Gate for Count {
     fn between(&self, _id: TxnId) {
         self.passed.fetch_add(1, Ordering::SeqCst);
+    }
+
+    fn holds(&self) -> bool {
+        false
+    }
+}
+
+/// A meeting of two workers at a gate that is taken for one which holds nobody, as the program's is.
+#[derive(Drop)]
+struct Passing {
+    meeting: Meeting,
+}
+
+impl Gate for Passing {
+    fn between(&self, id: TxnId) {
+        self.meeting.between(id);
     }
 
     fn holds(&self) -> bool {
@@ -65,12 +82,11 @@ fn passes<R: Threads + Wait + Sync>(
     let gate = Count {
         passed: AtomicU64::new(0),
     };
-    let rows: [Row<'static>; 2] = [(0, 1, 0, CLIMB_D), (0, 2, 0, CLIMB_H)];
     let _told = told_of::<R, QueueSched, Count>(
         rt,
         alloc,
         procs,
-        parts(&rows),
+        parts(&APART),
         Some(workers),
         &gate,
         Telling::Events,
@@ -81,6 +97,26 @@ fn passes<R: Threads + Wait + Sync>(
 const CLIMB_D: Call<'static> = (b"climb", &[b"d"]);
 
 const CLIMB_H: Call<'static> = (b"climb", &[b"h"]);
+
+/// Two calls, of which neither waits for the other.
+const APART: [Row<'static>; 2] = [(0, 1, 0, CLIMB_D), (0, 2, 0, CLIMB_H)];
+
+/// Whether the workers of two calls of this procedure meet, though the gate says that it holds nobody.
+fn meet<R: Threads + Wait + Sync>(rt: &R, alloc: Global, procs: &Procs) -> Result<bool, Fail> {
+    let gate = Passing {
+        meeting: Meeting::new(),
+    };
+    let _told = told_of::<R, QueueSched, Passing>(
+        rt,
+        alloc,
+        procs,
+        parts(&APART),
+        Some(2),
+        &gate,
+        Telling::Events,
+    )?;
+    Ok(gate.meeting.has_seen_two())
+}
 
 /// The statements behind the `if`, those of its two blocks, the workers that there may be, and how many pass the gate. The `if` and
 /// 3,999 statements behind it are 4,000. The rows have no value, so its second block is executed, and its first is not.
@@ -121,4 +157,13 @@ fn check<R: Threads + Wait + Sync>(rt: &R, alloc: Global) -> Result<(), Fail> {
 fn long_calls_get_workers(rt: HostRuntime) -> Result<(), Fail> {
     assert!(rt; !NoGate.holds());
     check(&rt, rt.alloc())
+}
+
+#[test]
+fn workers_of_long_calls_are_at_work_at_once(rt: HostRuntime) -> Result<(), Fail> {
+    let procs = climb(rt.alloc(), 3999, 2, 2)?;
+    let met = meet(&rt, rt.alloc(), &procs);
+    forget(procs);
+    assert!(rt; met?);
+    Ok(())
 }
