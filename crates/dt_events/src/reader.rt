@@ -10,7 +10,7 @@ ghost use Rattle.dt_events.specs.ReadingInner.{AreIds, AreShort, Reads, ReadsEve
 use crate::event::Event;
 use crate::words::bare_words;
 use dt_access::{Ids, read_id};
-use dt_text::{Common, Lines, Name, NoMemory, are_same, read_u32};
+use dt_text::{Common, Lines, Name, NoMemory, read_u32};
 use std::alloc::{AllocFailed, Global};
 use std::fmt;
 
@@ -123,19 +123,19 @@ fn event_of_kind(
     requires { AreShort (spelled arguments.now) }
     ensures { IfOk result (ReadsEvent (kind.now ∷ decimal region ∷ spelled arguments.now)) }
 {
-    if are_same(kind, b"submit") {
+    if kind == b"submit".as_slice() {
         submit(alloc, region, arguments)
-    } else if are_same(kind, b"append") {
+    } else if kind == b"append".as_slice() {
         Ok(append(region, arguments))
-    } else if are_same(kind, b"deliver") {
+    } else if kind == b"deliver".as_slice() {
         Ok(deliver(region, arguments))
-    } else if are_same(kind, b"insert") {
+    } else if kind == b"insert".as_slice() {
         Ok(insert(region, arguments))
-    } else if are_same(kind, b"resolve") {
+    } else if kind == b"resolve".as_slice() {
         resolve(alloc, region, arguments)
-    } else if are_same(kind, b"execute") {
+    } else if kind == b"execute".as_slice() {
         Ok(execute(region, arguments))
-    } else if are_same(kind, b"answer") {
+    } else if kind == b"answer".as_slice() {
         answer(alloc, region, arguments)
     } else {
         Ok(None)
