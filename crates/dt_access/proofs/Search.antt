@@ -10,9 +10,9 @@ use Rattle.std.specs.declared.cmp.Ordering.TheVariants.{Less, Equal, Greater}
 use Rattle.std.specs.Cmp.Lexicographic.{slice_cmp, pointwise, nat_list_cmp_total, bytes_decides}
 use Rattle.std.proofs.lemmas.Map.Lookups.{exact_unsigned}
 use Rattle.std.proofs.lemmas.Bool.{or_left, or_right}
-use Rattle.std.proofs.lemmas.List.{take-append-drop, append-nil, take_all, length-drop}
+use Rattle.std.proofs.lemmas.List.{take-append-drop, append-nil}
 use Rattle.dt_lists.specs.Lists.{AnyIn, Has}
-use Rattle.dt_lists.proofs.Callers.{all_get, any_get, any_append_right, any_of_test, test_of_any, all_index, either_side}
+use Rattle.dt_lists.proofs.Callers.{all_get, any_get, any_append_right, any_of_test, test_of_any, all_index, either_side, rest_from}
 use Rattle.dt_access.specs.declared.access.Mode.{Mode}
 use Rattle.dt_access.specs.Granules.{Bytes, granule_of}
 use Rattle.dt_access.specs.Clash.{same_key}
@@ -176,10 +176,6 @@ found xs i j g asc ends rows = same_tests (begins_with (drop i xs) g || begins_w
       | inl s ↦ or_left _ _ (itself_first xs i g asc ends r.0 r.1 of (s ∙ of))
       | inr s ↦ or_right _ _ (row_first xs j g s.0 asc rows r.0 r.1 of (s.1 ∙ ap (λ t. t ++ 47 ∷ s.0) of))
     ])
-
--- the rest of a list from a place on, as a slice is seen
-pub rest_from : (xs : List (Bytes × Mode)) (i : ℕ) → take (length xs - i) (drop i xs) ≡ drop i xs
-rest_from xs i = take_all (length xs - i) (drop i xs) (omega (arith, length-drop i xs))
 
 -- the same of the slices that the code looks at, by the order in which it looks
 pub found_at_first : (xs : List (Bytes × Mode)) (i j : ℕ) (g : Bytes) (first : Bool) → HasAscendingKeys xs → EndsAt g xs i → EndsAt (g ++ 47 ∷ []) xs j

@@ -1,34 +1,14 @@
 -- A key expression compared part by part with the bytes of a key.
-use Rattle.std.proofs.Common.{◌≡◌, ◌<◌, ◌+◌, ℕ, suc, true, false, Some, List, ◌∷◌, ◌++◌, length, get_or, drop, take, add-one, sym, ap, ap₂, subst, ◌∙◌}
-use Rattle.std.specs.Prelude.{◌↔◌, MatchOption, Option, None}
-use Rattle.std.specs.Cmp.Lexicographic.{bytes_decides}
-use Rattle.std.proofs.lemmas.Bool.{true≢false}
-use Rattle.std.proofs.lemmas.List.{take-append-drop}
-use Rattle.std.proofs.Math.Seq.{drop-cons, take-append_seam}
+use Rattle.std.proofs.Common.{◌≡◌, ◌<◌, ◌+◌, ℕ, suc, List, ◌∷◌, ◌++◌, length, get_or, drop, add-one, sym, ap, subst, ◌∙◌}
+use Rattle.std.specs.Prelude.{◌↔◌}
+use Rattle.std.proofs.Math.Seq.{drop-cons}
 use Rattle.dt_lists.specs.Lists.{AllIn}
 use Rattle.dt_lists.proofs.Callers.{same_rest}
 use Rattle.dt_text.specs.declared.Value.{Value}
-use Rattle.dt_access.specs.Clash.{Bytes, same_key}
+use Rattle.dt_access.specs.Clash.{Bytes}
 use Rattle.dt_proc.specs.declared.tree.KeyItem.{KeyItem}
 use Rattle.dt_eval.specs.FrameInner.{IsItemWithin}
 use Rattle.dt_eval.specs.Keys.{item_text, key_text}
-
--- fronts
-
-pub front_absent : (front bytes : Bytes) → same_key (take (length front) bytes) front ≡ false → (rest : Bytes) → ¬ (bytes ≡ front ++ rest)
-front_absent front bytes differ rest e =
-    true≢false (sym ((bytes_decides (take (length front) bytes) front).1 (ap (take (length front)) e ∙ take-append_seam front rest)) ∙ differ)
-
-pub front_there : (front bytes rest : Bytes) → same_key (take (length front) bytes) front ≡ true → rest ≡ drop (length front) bytes → bytes ≡ front ++ rest
-front_there front bytes rest same r =
-    sym (take-append-drop (length front) bytes) ∙ ap₂ ◌++◌ ((bytes_decides (take (length front) bytes) front).0 same) (sym r)
-
--- what `strip_prefix` says of a front and what is left
-pub front_cases : {X : Type 0} (front bytes : Bytes) (now : X → Bytes) (r : Option X)
-    → MatchOption r (same_key (take (length front) bytes) front ≡ false) (λ x. (same_key (take (length front) bytes) front ≡ true) × (now x ≡ drop (length front) bytes) × (length (now x) + length front ≡ length bytes))
-    → MatchOption r ((rest : Bytes) → ¬ (bytes ≡ front ++ rest)) (λ x. bytes ≡ front ++ now x)
-front_cases front bytes now None h = front_absent front bytes h
-front_cases front bytes now (Some x) h = front_there front bytes (now x) h.0 h.1
 
 -- what is known after the first parts of a key expression
 pub record Giving (args : List Value) (items : List KeyItem) (bytes : Bytes) (index : ℕ) (rest : Bytes) : Type 0 where

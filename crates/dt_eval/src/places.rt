@@ -65,9 +65,17 @@ fn after_argument<'a>(bytes: &'a [u8], argument: &Value) -> Option<&'a [u8]>
     }
 }
 
-/// What follows this front, where the bytes begin with it.
-fn after<'a>(bytes: &'a [u8], front: &[u8]) -> Option<&'a [u8]>
+/// What follows this front, where the bytes begin with it. Fronts are short: for so few bytes, a loop takes a third of what a
+/// comparison of long slices does.
+fn after<'a>(mut bytes: &'a [u8], mut front: &[u8]) -> Option<&'a [u8]>
     ensures { MatchOption result ((rest : List ℕ) → ¬ (bytes.now ≡ front.now ++ rest)) (λ rest. bytes.now ≡ front.now ++ rest.now) }
 {
-    bytes.strip_prefix(front)
+    while let Some((first, others)) = front.split_first() {
+        let (byte, rest) = bytes.split_first()?;
+        if byte != first {
+            return None;
+        }
+        (bytes, front) = (rest, others);
+    }
+    Some(bytes)
 }

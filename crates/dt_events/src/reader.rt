@@ -10,7 +10,7 @@ ghost use Rattle.dt_events.specs.ReadingInner.{AreIds, AreShort, Reads, ReadsEve
 use crate::event::Event;
 use crate::words::bare_words;
 use dt_access::{Ids, read_id};
-use dt_text::{Common, Lines, Name, NoMemory, read_u32};
+use dt_text::{Common, Lines, Name, NoMemory, are_same, read_u32};
 use std::alloc::{AllocFailed, Global};
 use std::fmt;
 
@@ -123,19 +123,19 @@ fn event_of_kind(
     requires { AreShort (spelled arguments.now) }
     ensures { IfOk result (ReadsEvent (kind.now ∷ decimal region ∷ spelled arguments.now)) }
 {
-    if kind == b"submit".as_slice() {
+    if are_same(kind, b"submit") {
         submit(alloc, region, arguments)
-    } else if kind == b"append".as_slice() {
+    } else if are_same(kind, b"append") {
         Ok(append(region, arguments))
-    } else if kind == b"deliver".as_slice() {
+    } else if are_same(kind, b"deliver") {
         Ok(deliver(region, arguments))
-    } else if kind == b"insert".as_slice() {
+    } else if are_same(kind, b"insert") {
         Ok(insert(region, arguments))
-    } else if kind == b"resolve".as_slice() {
+    } else if are_same(kind, b"resolve") {
         resolve(alloc, region, arguments)
-    } else if kind == b"execute".as_slice() {
+    } else if are_same(kind, b"execute") {
         Ok(execute(region, arguments))
-    } else if kind == b"answer".as_slice() {
+    } else if are_same(kind, b"answer") {
         answer(alloc, region, arguments)
     } else {
         Ok(None)

@@ -1,5 +1,6 @@
--- Lists of which an item was replaced, and what equal lists and equal options have in common.
-use Rattle.std.proofs.Common.{◌≡◌, ◌≢◌, ◌<◌, ℕ, zero, suc, List, [], ◌∷◌, ◌++◌, length, set, slice_get, Some, refl, ap, arith}
+-- Lists of which an item was replaced, what equal lists and equal options have in common, and lists that may be missing.
+use Rattle.std.proofs.Common.{◌≡◌, ◌≢◌, ◌<◌, ℕ, zero, suc, List, [], ◌∷◌, ◌++◌, length, set, slice_get, Option, Some, None, refl, ap, arith, append_assoc}
+use Rattle.std.specs.Option.{option_map}
 
 -- an item was put at a place: it stands there, and what stands at each other place is as before
 
@@ -44,3 +45,16 @@ same_rest (b ∷ front) xs ys e = same_rest front xs ys (same_tail e)
 -- equal options hold one thing
 pub some_same : {A : Type 0} {x y : A} → Some x ≡ Some y → x ≡ y
 some_same e = cc
+
+-- an option that holds nothing holds no thing
+pub none_some : {A : Type 0} {x : A} {o : Option A} → o ≡ None → o ≡ Some x → ⊥
+none_some e f = cc
+
+-- lists that may be missing: nothing in front changes none, and an item behind the front may as well stand before the rest
+pub joined_none : {A : Type 0} (rest : Option (List A)) → option_map (λ xs. [] ++ xs) rest ≡ rest
+joined_none None = refl
+joined_none (Some xs) = refl
+
+pub joined_more : {A : Type 0} (front : List A) (x : A) (rest : Option (List A)) → option_map (λ xs. (front ++ x ∷ []) ++ xs) rest ≡ option_map (λ xs. front ++ xs) (option_map (λ xs. x ∷ xs) rest)
+joined_more front x None = refl
+joined_more front x (Some xs) = ap Some (append_assoc front (x ∷ []) xs)

@@ -1,8 +1,9 @@
 -- Lists by place: an item is put in or added at the end; and what is said of a list by its last item.
 use Rattle.std.proofs.Common.{◌≡◌, ◌<◌, ◌⊎◌, ℕ, zero, suc, Bool, true, false, List, [], ◌∷◌, ◌++◌, length, get_or, drop, set, replicate, slice_index_or, map}
-use Rattle.std.proofs.Common.{flat_map, slice_get, Some, refl, sym, ap, subst, inl, inr, append_assoc, append-nil, arith}
+use Rattle.std.proofs.Common.{flat_map, slice_get, take, ◌+◌, ◌-◌, Some, refl, sym, ap, subst, inl, inr, append_assoc, append-nil, length-append, length-drop, arith}
 use Rattle.std.specs.Prelude.{filter}
 use Rattle.std.proofs.lemmas.Bool.{cases_Bool}
+use Rattle.std.proofs.lemmas.List.{take_all}
 use Rattle.dt_lists.specs.Lists.{AnyIn, AllIn, Has, Distinct}
 use Rattle.dt_lists.proofs.Words.{any_append, any_append_left, any_append_right, all_append, all_get, all_put}
 use Rattle.dt_lists.proofs.Filters.{has_filter, of_filter}
@@ -14,6 +15,14 @@ from_right {A = A} P none more xs = go [] xs none
     go : (front rest : List A) → P front → P (front ++ rest)
     go front [] p = subst P (sym (append-nil front)) p
     go front (x ∷ rest) p = subst P (append_assoc front (x ∷ []) rest) (go (front ++ x ∷ []) rest (more front x p))
+
+-- a list with one more item at its end is longer by one
+pub length_more : {A : Type 0} (xs : List A) (x : A) → length (xs ++ x ∷ []) ≡ length xs + 1
+length_more xs x = length-append xs (x ∷ [])
+
+-- the rest of a list from a place on, as a slice has it
+pub rest_from : {A : Type 0} (xs : List A) (i : ℕ) → take (length xs - i) (drop i xs) ≡ drop i xs
+rest_from xs i = take_all (length xs - i) (drop i xs) (omega (arith, length-drop i xs))
 
 -- what an item that is put in has in common with the one before
 

@@ -3,7 +3,7 @@
 -- A sink may show the bytes that it holds, and counts its faults. It is given a text piece after piece, and where it
 -- fails, it has taken some first bytes of the text and no others: so a report that was cut short is told apart from every
 -- other. A sink in memory is defined whole here, for tests; a stream of the system shows nothing of what it holds, and is
--- described by what its writer took. Read next: src/sinks.rt, the calls; or `Answers` of the program, for what is written
+-- described by what its writer took. Read next: src/sinks.rt, the calls; or `Answers` of the command, for what is written
 -- in the end.
 use Rattle.std.specs.Prelude.{◌≡◌, ℕ, ◌≤◌, List, ◌++◌, take, Option, None, Some, Result, OnOk, OnErr}
 use Rattle.dt_outside.specs.Faults.{Rose}

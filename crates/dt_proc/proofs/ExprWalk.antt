@@ -17,7 +17,8 @@ use Rattle.dt_proc.specs.WalkInner.{WalkAnswers}
 use Rattle.dt_syntax.specs.Grammar.{at, Bracketed, bracketed_tokens, Syntax, chain, minus, denial, int, text, truth, name, parens, of_key, made, Links, no_link}
 use Rattle.dt_syntax.specs.Grammar.{link, syntax_tokens, links_tokens, level_of, IsLevel, AreLinks, reads_int, reads_text, reads_presence, makes_length}
 use Rattle.dt_syntax.specs.Grammar.{makes_text}
-use Rattle.dt_syntax.proofs.Callers.{cut_first, head_is, inner, after_first, tail_is}
+use Rattle.dt_syntax.proofs.Callers.{cut_first, inner, after_first}
+use Rattle.dt_lists.proofs.Callers.{same_head, same_tail}
 
 pub ok_then : {A B : Type 0} (told : Checked A) (a : A) (next : A → Checked B) (rest : List Placed) (r : Checked (B × List Placed)) →
     told ≡ Ok a → WalkAnswers (next a) rest r → WalkAnswers (after_ok told next) rest r
@@ -58,8 +59,8 @@ Shape n scope t p ts x rest = ⊥
 shape_at : (n : ℕ) (scope : Scope) (t u : Placed) (ts us : List Placed) (x : Syntax) (rest : List Placed) → t ∷ ts ≡ u ∷ us →
     Shape n scope t.token t.place ts x rest → Shape n scope u.token u.place us x rest
 shape_at n scope t u ts us x rest e h =
-    subst (λ v. Shape n scope u.token u.place v x rest) (tail_is t u ts us e)
-    (subst (λ v. Shape n scope v.token v.place ts x rest) (head_is t u ts us e) h)
+    subst (λ v. Shape n scope u.token u.place v x rest) (same_tail e)
+    (subst (λ v. Shape n scope v.token v.place ts x rest) (same_head e) h)
 
 pub operand_shape : (n : ℕ) (scope : Scope) (x : Syntax) (rest : List Placed) (t : Placed) (ts : List Placed) → 5 ≤ n → IsLevel n x →
     syntax_tokens x ++ rest ≡ t ∷ ts → Shape n scope t.token t.place ts x rest

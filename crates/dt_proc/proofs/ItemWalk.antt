@@ -10,15 +10,16 @@ use Rattle.dt_proc.specs.Names.{Scope}
 use Rattle.dt_proc.specs.SecondPass.{Checked, after_ok, check, key_of, needs_stored, check_item, check_items, check_all_items}
 use Rattle.dt_syntax.specs.Grammar.{front_place, at, Bracketed, bracketed_tokens, Syntax, syntax_tokens, IsLevel, Item, row_item, value_item, item_tokens, IsItem}
 use Rattle.dt_proc.specs.WalkInner.{WalkAnswers}
-use Rattle.dt_syntax.proofs.Callers.{head_is, tail_is, AreItems, front_token, next_item}
+use Rattle.dt_syntax.proofs.Callers.{AreItems, front_token, next_item}
+use Rattle.dt_lists.proofs.Callers.{same_head, same_tail}
 
 -- an item that begins with `row`
 pub item_row : (scope : Scope) (i : Item) (rest : List Placed) (t : Placed) (ts : List Placed) → item_tokens i ++ rest ≡ t ∷ ts → t.token ≡ tok.Row →
     (b : Bracketed) × (check_item scope i ≡ after_ok (key_of scope b) (λ k. Ok (tree.row k))) × (bracketed_tokens b ++ rest ≡ ts)
-item_row scope (row_item p b) rest t ts e is = (b, refl, tail_is (at p tok.Row) t (bracketed_tokens b ++ rest) ts e)
+item_row scope (row_item p b) rest t ts e is = (b, refl, same_tail e)
 item_row scope (value_item x) rest t ts e is =
     let f = front_token x in
-    let same : f.0 ≡ t = head_is f.0 t (f.1 ++ rest) ts (ap (λ v. v ++ rest) (sym f.2) ∙ e) in
+    let same : f.0 ≡ t = same_head (ap (λ v. v ++ rest) (sym f.2) ∙ e) in
     absurd (f.4 (ap (λ v. v.token) same ∙ is))
 
 -- an item that begins with another token
@@ -26,10 +27,10 @@ pub item_value : (scope : Scope) (i : Item) (rest : List Placed) (t : Placed) (t
     ¬ (t.token ≡ tok.Row) →
     (x : Syntax) × IsLevel 0 x × (check_item scope i ≡ after_ok (check scope x) (λ a. needs_stored t.place a (tree.value a.0))) × (syntax_tokens x ++ rest ≡ t ∷ ts)
 item_value scope (row_item p b) rest t ts e h other =
-    absurd (other (sym (ap (λ v. v.token) (head_is (at p tok.Row) t (bracketed_tokens b ++ rest) ts e))))
+    absurd (other (sym (ap (λ v. v.token) (same_head e))))
 item_value scope (value_item x) rest t ts e h other =
     let f = front_token x in
-    let same : f.0 ≡ t = head_is f.0 t (f.1 ++ rest) ts (ap (λ v. v ++ rest) (sym f.2) ∙ e) in
+    let same : f.0 ≡ t = same_head (ap (λ v. v ++ rest) (sym f.2) ∙ e) in
     let place : front_place x ≡ t.place = sym f.3 ∙ ap (λ v. v.place) same in
     (x, h, ap (λ p. after_ok (check scope x) (λ a. needs_stored p a (tree.value a.0))) place, e)
 
@@ -60,7 +61,7 @@ pub record IsNextItem (scope : Scope) (told : Checked (List GiveTree)) (gifts : 
 pub after_comma_next : (scope : Scope) (told : Checked (List GiveTree)) (gifts : List GiveTree) (left : List Placed) (e : ℕ) (rest : List Placed) (p : ℕ) (after : List Placed) →
     at p tok.Comma ∷ after ≡ left → ItemsLeft scope told gifts left e rest → IsNextItem scope told gifts after e rest
 after_comma_next scope told gifts left e rest p after comma ([], good, cut, is) =
-    absurd (differ (ap (λ v. v.token) (head_is _ _ _ _ (comma ∙ sym cut))))
+    absurd (differ (ap (λ v. v.token) (same_head (comma ∙ sym cut))))
   where
     differ : tok.Comma ≡ tok.Semicolon → ⊥
     differ h = cc
@@ -71,7 +72,7 @@ after_comma_next scope told gifts left e rest p after comma (m ∷ more, good, c
       more = more;
       good = good.0;
       others = good.1;
-      cut = sym (append_assoc (item_tokens m.1) (flat_map next_item more) (at e tok.Semicolon ∷ rest)) ∙ tail_is _ _ _ _ joined;
+      cut = sym (append_assoc (item_tokens m.1) (flat_map next_item more) (at e tok.Semicolon ∷ rest)) ∙ same_tail joined;
       told_as = is;
     }
 

@@ -5,7 +5,7 @@ use Rattle.std.specs.List.{list_any}
 use Rattle.std.specs.Cmp.Lexicographic.{pointwise, bytes_decides}
 use Rattle.std.proofs.lemmas.List.{length-append, map-append}
 use Rattle.dt_lists.specs.Lists.{AllIn, Has, Distinct}
-use Rattle.dt_lists.proofs.Callers.{distinct_push}
+use Rattle.dt_lists.proofs.Callers.{all_more, distinct_push}
 use Rattle.dt_syntax.specs.declared.token.Placed.{Placed}
 use Rattle.dt_proc.specs.declared.error.ProcError.{ProcError}
 use Rattle.dt_proc.specs.declared.error.ProcError.TheVariants as fault
@@ -128,10 +128,6 @@ next_told tokens before item ts after some so right ps good cut = first (so ps g
               ∙ one_more (check_procs (before ++ item ∷ []) qs) before item,
         )
 
-all_more : (xs : List ProcTree) (x : ProcTree) → AllIn IsSoundProc xs → IsSoundProc x → AllIn IsSoundProc (xs ++ x ∷ [])
-all_more [] x h k = (k, tt)
-all_more (y ∷ xs) x h k = (h.0, all_more xs x h.1 k)
-
 next_distinct : (before : List ProcTree) (item : ProcTree) (ts after : List Placed) → ¬ (ts ≡ []) → Left (length before) ts → Distinct (map (λ p. p.name) before) →
     Right before ts (Ok (item, after)) → Distinct (map (λ p. p.name) (before ++ item ∷ []))
 unfolding names
@@ -147,7 +143,7 @@ next_distinct before item ts after some l d right = first l.all l.good l.cut
 pub going_next : (tokens : List Placed) (before : List ProcTree) (item : ProcTree) (ts after : List Placed) → ¬ (ts ≡ []) → Going tokens before ts → IsSoundProc item →
     Right before ts (Ok (item, after)) → Going tokens (before ++ item ∷ []) after
 going_next tokens before item ts after some g fits right = record {
-  sound = all_more before item g.sound fits;
+  sound = all_more IsSoundProc before item g.sound fits;
   distinct = next_distinct before item ts after some g.left g.distinct right;
   left = next_left before item ts after some g.left right;
   told = next_told tokens before item ts after some g.told right;

@@ -15,9 +15,6 @@ use Rattle.dt_proc.specs.contracts.tree.Stmts as stmts
 use Rattle.dt_proc.proofs.tree.Expr.TheLaws.TheKnot.{send-Expr, sync-Expr}
 use Rattle.dt_proc.proofs.tree.Stmts.TheLaws.TheKnot.{send-Stmts, sync-Stmts}
 
-str_sync : IsSync str.the_row
-str_sync = search (crosses, sendable) depth 30
-
 spelling_send : IsSend spelling.the_row
 spelling_send = search (crosses, sendable) depth 30
 
@@ -27,6 +24,12 @@ spelling_sync = search (crosses, sendable) depth 30
 name_sync : IsSync name.the_row
 name_sync = search (spelling_send, spelling_sync, crosses, sendable) depth 30
 
+str_send : IsSend str.the_row
+str_send = search (spelling_send, spelling_sync, crosses, sendable) depth 30
+
+str_sync : IsSync str.the_row
+str_sync = search (spelling_send, spelling_sync, crosses, sendable) depth 30
+
 kinds_sync : IsSync (listed.the_row kind.the_row)
 kinds_sync = search (crosses, sendable) depth 30
 
@@ -34,10 +37,10 @@ decls_sync : IsSync (listed.the_row decl.the_row)
 decls_sync = search (crosses, sendable) depth 50 fits 10000
 
 expr_sync : IsSync expr.the_row
-expr_sync = search (sync-Expr, crosses, sendable) depth 40
+expr_sync = search (str_send, str_sync, sync-Expr, crosses, sendable) depth 40
 
 gives_sync : IsSync (listed.the_row give.the_row)
-gives_sync = search (sync-Expr, crosses, sendable) depth 100 fits 100000
+gives_sync = search (str_send, str_sync, sync-Expr, crosses, sendable) depth 100 fits 100000
 
 stmts_sync : IsSync stmts.the_row
 stmts_sync = search (expr_sync, str_sync, gives_sync, sync-Stmts, crosses, sendable) depth 20
@@ -46,9 +49,6 @@ proc_sync : IsSync proc.the_row
 proc_sync = search (name_sync, kinds_sync, decls_sync, stmts_sync, crosses, sendable) depth 30
 
 -- copies of procedures have them in common, so that whoever drops the last of them may be another thread
-
-str_send : IsSend str.the_row
-str_send = search (crosses, sendable) depth 30
 
 name_send : IsSend name.the_row
 name_send = search (spelling_send, spelling_sync, crosses, sendable) depth 30
@@ -60,10 +60,10 @@ decls_send : IsSend (listed.the_row decl.the_row)
 decls_send = search (crosses, sendable) depth 50 fits 10000
 
 expr_send : IsSend expr.the_row
-expr_send = search (send-Expr, crosses, sendable) depth 40
+expr_send = search (str_send, str_sync, send-Expr, crosses, sendable) depth 40
 
 gives_send : IsSend (listed.the_row give.the_row)
-gives_send = search (send-Expr, crosses, sendable) depth 100 fits 100000
+gives_send = search (str_send, str_sync, send-Expr, crosses, sendable) depth 100 fits 100000
 
 stmts_send : IsSend stmts.the_row
 stmts_send = search (expr_send, str_send, gives_send, send-Stmts, crosses, sendable) depth 20

@@ -16,7 +16,8 @@ use Rattle.dt_proc.specs.declared.tree.Sort.TheVariants as sort
 use Rattle.dt_proc.specs.WalkInner.{WalkAnswers, StartsBlock, StartsElse, StartsIf}
 use Rattle.dt_syntax.specs.FrontsInner.{NoElse, EndsBlock}
 use Rattle.dt_syntax.specs.Grammar.{at, Syntax, syntax_tokens, IsLevel, Statement, let_new, set_key, clear_key, when, choose, abort, give, Statements, nothing, first, statement_tokens, statements_tokens, IsStatement, AreStatements}
-use Rattle.dt_syntax.proofs.Callers.{head_is, tail_is, begins_other, no_else}
+use Rattle.dt_syntax.proofs.Callers.{begins_other, no_else}
+use Rattle.dt_lists.proofs.Callers.{same_head, same_tail}
 
 -- what was visible is visible still, before anything new
 pub record Grown (old new : Scope) : Type 0 where
@@ -53,7 +54,7 @@ pub record IsFirstStatement (scope : Scope) (told : Checked BlockTree) (block : 
 pub step_next : (outer scope : Scope) (told : Checked BlockTree) (block : BlockTree) (t : Placed) (ts : List Placed) (e : ℕ) (rest : List Placed) →
     ¬ (t.token ≡ tok.End) → StepsLeft outer scope told block (t ∷ ts) e rest → IsFirstStatement scope told block (t ∷ ts) e rest
 step_next outer scope told block t ts e rest other (nothing, good, cut, is, grown) =
-    absurd (other (sym (ap (λ v. v.token) (head_is (at e tok.End) t rest ts cut))))
+    absurd (other (sym (ap (λ v. v.token) (same_head cut))))
 step_next outer scope told block t ts e rest other (first s ss, good, cut, is, grown) = record {
   step = s;
   more = ss;
@@ -193,4 +194,4 @@ if_starts ts rest alone (inr (x, b, ss, e, w, o, rs, f, level, good, others, cut
 pub else_starts : (tail left after : List Placed) (p : ℕ) → NoElse tail ⊎ StartsElse tail → left ≡ tail → at p tok.Else ∷ after ≡ left →
     (o : ℕ) × (inside : List Placed) × StartsBlock inside × (at o tok.Begin ∷ inside ≡ after)
 else_starts tail left after p (inl alone) is cut = absurd (subst NoElse (sym (cut ∙ is)) alone refl)
-else_starts tail left after p (inr s) is cut = (s.begin_at, s.after, s.block, tail_is _ _ _ _ (s.cut ∙ sym (cut ∙ is)))
+else_starts tail left after p (inr s) is cut = (s.begin_at, s.after, s.block, same_tail (s.cut ∙ sym (cut ∙ is)))

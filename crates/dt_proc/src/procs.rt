@@ -72,14 +72,6 @@ impl Proc {
         self.keys.as_slice()
     }
 
-    /// The statements as they are kept.
-    pub(crate) fn statements(&self) -> &Stmts
-        ensures same { result.now ≡ self.now.body }
-        ensures sound { IsSoundProc self.now }
-    {
-        &self.body
-    }
-
     /// The statements, in order.
     pub fn body(&self) -> &[Stmt]
         ensures same { block_tree result.now ≡ self.now.body }

@@ -1,6 +1,6 @@
 -- Workloads that cannot deadlock. Where no call is a move, and the keys of each call have one home in the opening table,
 -- every transaction has one home for good, since nothing is ever moved. Then each class has one member and rule 5 never
--- applies: the law `one_home_each_call` of the crate of laws says so. Read next: that law in src/laws.rt of dt_agreement.
+-- applies: the law `one_home_each_call` of dt_agreement says so. Read next: that law in src/laws.rt of that crate.
 use Rattle.std.specs.Prelude.{◌≡◌, ℕ, List, length}
 use Rattle.dt_lists.specs.Lists.{AllIn}
 use Rattle.dt_txn.specs.declared.Body.{Body}

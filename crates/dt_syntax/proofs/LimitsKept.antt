@@ -19,6 +19,7 @@ use Rattle.dt_syntax.specs.FrontsInner.{comma_param, joined_part}
 use Rattle.dt_syntax.specs.Limits.{IsSmall}
 use Rattle.dt_syntax.specs.FirstPass.{is_proc, is_mode, is_comma, is_close, procs_begun, in_proc, is_proc_too_many, is_param_too_many, is_key_too_many}
 use Rattle.dt_syntax.specs.FirstPass.{is_token_too_many, is_bracket_too_many, is_too_many, NoneTooMany, backwards}
+use Rattle.dt_lists.proofs.Callers.{all_append}
 
 few_left : (e xs ys : List Placed) → NoneTooMany e (xs ++ ys) → NoneTooMany e xs
 few_left e [] ys h = tt
@@ -35,10 +36,6 @@ NoProc t = is_proc t.token ≡ false
 -- nor a key
 abbrev Quiet : Placed → Type 0
 Quiet t = (is_proc t.token ≡ false) × (is_mode t.token ≡ false)
-
-join : (P : Placed → Type 0) (xs ys : List Placed) → AllIn P xs → AllIn P ys → AllIn P (xs ++ ys)
-join P [] ys h k = k
-join P (x ∷ xs) ys h k = (h.0, join P xs ys h.1 k)
 
 no_procs : (ts : List Placed) → AllIn Quiet ts → AllIn NoProc ts
 no_procs [] h = tt
@@ -57,11 +54,11 @@ bracketed_quiet : (b : Bracketed) → AllIn Quiet (bracketed_tokens b)
 bracketed_quiet b = ((refl, refl), ((refl, refl), ((refl, refl), tt)))
 
 last_quiet : (xs : List Placed) (t : Placed) → AllIn Quiet xs → Quiet t → AllIn Quiet (xs ++ t ∷ [])
-last_quiet xs t h q = join Quiet xs (t ∷ []) h (q, tt)
+last_quiet xs t h q = all_append Quiet xs (t ∷ []) h (q, tt)
 
 mutual
   syntax_quiet : (x : Syntax) → AllIn Quiet (syntax_tokens x)
-  syntax_quiet (chain head links) = join Quiet (syntax_tokens head) (links_tokens links) (syntax_quiet head) (links_quiet links)
+  syntax_quiet (chain head links) = all_append Quiet (syntax_tokens head) (links_tokens links) (syntax_quiet head) (links_quiet links)
   syntax_quiet (minus p x) = ((refl, refl), syntax_quiet x)
   syntax_quiet (denial p x) = ((refl, refl), syntax_quiet x)
   syntax_quiet (int p z) = ((refl, refl), tt)
@@ -74,7 +71,7 @@ mutual
 
   links_quiet : (ls : Links) → AllIn Quiet (links_tokens ls)
   links_quiet no_link = tt
-  links_quiet (link p o x more) = ((refl, refl), join Quiet (syntax_tokens x) (links_tokens more) (syntax_quiet x) (links_quiet more))
+  links_quiet (link p o x more) = ((refl, refl), all_append Quiet (syntax_tokens x) (links_tokens more) (syntax_quiet x) (links_quiet more))
 
 part_quiet : (i : KeyPart) → AllIn Quiet (part_tokens i)
 part_quiet (text_part p t) = ((refl, refl), tt)
@@ -83,7 +80,7 @@ part_quiet (show_part p b) = ((refl, refl), bracketed_quiet b)
 
 parts_quiet : (more : List (ℕ × KeyPart)) → AllIn Quiet (flat_map joined_part more)
 parts_quiet [] = tt
-parts_quiet (m ∷ more) = ((refl, refl), join Quiet (part_tokens m.1) (flat_map joined_part more) (part_quiet m.1) (parts_quiet more))
+parts_quiet (m ∷ more) = ((refl, refl), all_append Quiet (part_tokens m.1) (flat_map joined_part more) (part_quiet m.1) (parts_quiet more))
 
 item_quiet : (i : Item) → AllIn Quiet (item_tokens i)
 item_quiet (row_item p b) = ((refl, refl), bracketed_quiet b)
@@ -92,7 +89,7 @@ item_quiet (value_item x) = syntax_quiet x
 more_items_quiet : (more : List (ℕ × Item)) → AllIn Quiet (flat_map (λ m. at m.0 tok.Comma ∷ item_tokens m.1) more)
 more_items_quiet [] = tt
 more_items_quiet (m ∷ more) =
-    ((refl, refl), join Quiet (item_tokens m.1) (flat_map (λ m. at m.0 tok.Comma ∷ item_tokens m.1) more) (item_quiet m.1) (more_items_quiet more))
+    ((refl, refl), all_append Quiet (item_tokens m.1) (flat_map (λ m. at m.0 tok.Comma ∷ item_tokens m.1) more) (item_quiet m.1) (more_items_quiet more))
 
 -- what a `let` and a `set` have in common
 setting_quiet : (q : ℕ) (n : List ℕ) (i : ℕ) (x : Syntax) (e : ℕ) → AllIn Quiet (at q (tok.Name n) ∷ at i tok.Is ∷ (syntax_tokens x ++ at e tok.Semicolon ∷ []))
@@ -105,14 +102,14 @@ mutual
   statement_quiet (clear_key p q n e) = ((refl, refl), ((refl, refl), ((refl, refl), tt)))
   statement_quiet (when p x b ss e) = (
     (refl, refl),
-    join Quiet (syntax_tokens x) (at b tok.Begin ∷ (statements_tokens ss ++ at e tok.End ∷ [])) (syntax_quiet x)
+    all_append Quiet (syntax_tokens x) (at b tok.Begin ∷ (statements_tokens ss ++ at e tok.End ∷ [])) (syntax_quiet x)
         ((refl, refl), last_quiet (statements_tokens ss) (at e tok.End) (statements_quiet ss) (refl, refl)),
   )
   statement_quiet (choose p x b ss e w c rs f) = (
     (refl, refl),
-    join Quiet (syntax_tokens x) (at b tok.Begin ∷ (statements_tokens ss ++ at e tok.End ∷ at w tok.Else ∷ at c tok.Begin ∷ (statements_tokens rs ++ at f tok.End ∷ []))) (syntax_quiet x) (
+    all_append Quiet (syntax_tokens x) (at b tok.Begin ∷ (statements_tokens ss ++ at e tok.End ∷ at w tok.Else ∷ at c tok.Begin ∷ (statements_tokens rs ++ at f tok.End ∷ []))) (syntax_quiet x) (
       (refl, refl),
-      join Quiet (statements_tokens ss) (at e tok.End ∷ at w tok.Else ∷ at c tok.Begin ∷ (statements_tokens rs ++ at f tok.End ∷ [])) (statements_quiet ss)
+      all_append Quiet (statements_tokens ss) (at e tok.End ∷ at w tok.Else ∷ at c tok.Begin ∷ (statements_tokens rs ++ at f tok.End ∷ [])) (statements_quiet ss)
           ((refl, refl), ((refl, refl), ((refl, refl), last_quiet (statements_tokens rs) (at f tok.End) (statements_quiet rs) (refl, refl)))),
     ),
   )
@@ -120,12 +117,12 @@ mutual
   statement_quiet (give p i more e) = (
     (refl, refl),
     last_quiet (items_tokens i more) (at e tok.Semicolon)
-        (join Quiet (item_tokens i) (flat_map (λ m. at m.0 tok.Comma ∷ item_tokens m.1) more) (item_quiet i) (more_items_quiet more)) (refl, refl),
+        (all_append Quiet (item_tokens i) (flat_map (λ m. at m.0 tok.Comma ∷ item_tokens m.1) more) (item_quiet i) (more_items_quiet more)) (refl, refl),
   )
 
   statements_quiet : (ss : Statements) → AllIn Quiet (statements_tokens ss)
   statements_quiet nothing = tt
-  statements_quiet (first s ss) = join Quiet (statement_tokens s) (statements_tokens ss) (statement_quiet s) (statements_quiet ss)
+  statements_quiet (first s ss) = all_append Quiet (statement_tokens s) (statements_tokens ss) (statement_quiet s) (statements_quiet ss)
 
 kind_token_quiet : (k : Kind) → (is_proc (kind_token k) ≡ false) × (is_mode (kind_token k) ≡ false)
 kind_token_quiet kind.Int = (refl, refl)
@@ -136,11 +133,11 @@ param_quiet p = ((refl, refl), ((refl, refl), (kind_token_quiet p.kind, tt)))
 
 more_params_quiet : (more : List (ℕ × Param)) → AllIn Quiet (flat_map comma_param more)
 more_params_quiet [] = tt
-more_params_quiet (m ∷ more) = ((refl, refl), join Quiet (param_tokens m.1) (flat_map comma_param more) (param_quiet m.1) (more_params_quiet more))
+more_params_quiet (m ∷ more) = ((refl, refl), all_append Quiet (param_tokens m.1) (flat_map comma_param more) (param_quiet m.1) (more_params_quiet more))
 
 params_quiet : (ps : Params) → AllIn Quiet (params_tokens ps)
 params_quiet no_param = tt
-params_quiet (params p more) = join Quiet (param_tokens p) (flat_map comma_param more) (param_quiet p) (more_params_quiet more)
+params_quiet (params p more) = all_append Quiet (param_tokens p) (flat_map comma_param more) (param_quiet p) (more_params_quiet more)
 
 -- what is after the name of a key
 abbrev key_rest : KeySyntax → List Placed
@@ -149,7 +146,7 @@ key_rest k = at k.is_at tok.Is ∷ (part_tokens k.first ++ (flat_map joined_part
 key_rest_quiet : (k : KeySyntax) → AllIn Quiet (key_rest k)
 key_rest_quiet k = (
   (refl, refl),
-  join Quiet (part_tokens k.first) (flat_map joined_part k.more ++ at k.end_at tok.Semicolon ∷ []) (part_quiet k.first)
+  all_append Quiet (part_tokens k.first) (flat_map joined_part k.more ++ at k.end_at tok.Semicolon ∷ []) (part_quiet k.first)
       (last_quiet (flat_map joined_part k.more) (at k.end_at tok.Semicolon) (parts_quiet k.more) (refl, refl)),
 )
 
@@ -162,7 +159,7 @@ key_no_proc k = (mode_no_proc k.write, (refl, no_procs (key_rest k) (key_rest_qu
 
 keys_no_proc : (ks : List KeySyntax) → AllIn NoProc (flat_map key_tokens ks)
 keys_no_proc [] = tt
-keys_no_proc (k ∷ ks) = join NoProc (key_tokens k) (flat_map key_tokens ks) (key_no_proc k) (keys_no_proc ks)
+keys_no_proc (k ∷ ks) = all_append NoProc (key_tokens k) (flat_map key_tokens ks) (key_no_proc k) (keys_no_proc ks)
 
 procs_same : (ts e : List Placed) → AllIn NoProc ts → procs_begun (backwards ts e) ≡ procs_begun e
 procs_same [] e h = refl
@@ -251,11 +248,11 @@ proc_rest p =
 
 proc_rest_plain : (p : ProcSyntax) → AllIn NoProc (proc_rest p)
 proc_rest_plain p =
-    join NoProc (params_tokens p.params) _ (no_procs (params_tokens p.params) (params_quiet p.params)) (
+    all_append NoProc (params_tokens p.params) _ (no_procs (params_tokens p.params) (params_quiet p.params)) (
       refl,
-      join NoProc (key_tokens p.key) _ (key_no_proc p.key)
-          (join NoProc (flat_map key_tokens p.more_keys) _ (keys_no_proc p.more_keys)
-          (refl, join NoProc (statements_tokens p.body) (at p.end_at tok.End ∷ []) (no_procs (statements_tokens p.body) (statements_quiet p.body)) (refl, tt))),
+      all_append NoProc (key_tokens p.key) _ (key_no_proc p.key)
+          (all_append NoProc (flat_map key_tokens p.more_keys) _ (keys_no_proc p.more_keys)
+          (refl, all_append NoProc (statements_tokens p.body) (at p.end_at tok.End ∷ []) (no_procs (statements_tokens p.body) (statements_quiet p.body)) (refl, tt))),
     )
 
 proc_small : (e : List Placed) (p : ProcSyntax) → NoneTooMany e (proc_tokens p) → IsSmall p

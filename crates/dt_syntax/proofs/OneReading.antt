@@ -13,6 +13,7 @@ use Rattle.dt_syntax.specs.Grammar.{name_part, show_part, part_tokens, KeySyntax
 use Rattle.dt_syntax.specs.Grammar.{procs_tokens, IsProc, AreProcSyntaxes}
 use Rattle.dt_syntax.proofs.Shapes.{key_cut, mode_is, mode_begin, no_comma_close, no_join_semicolon, proc_cut}
 use Rattle.dt_syntax.proofs.OneSyntax.{front_place_is, front_token_is, after_front, same_name, same_text, one_bracketed, one_list, one_statements}
+use Rattle.dt_lists.proofs.Callers.{same_head, same_tail}
 
 same_kind : (k l : Kind) → kind_token k ≡ kind_token l → k ≡ l
 same_kind kind.Int kind.Int e = refl
@@ -114,22 +115,6 @@ one_keys (k ∷ ks) (l ∷ ls) b c r s e =
     let t = one_keys ks ls b c r s a.1 in
     ((λ i. a.0 i ∷ t.0 i), t.1, t.2)
 
-first_key : KeySyntax → List KeySyntax → KeySyntax
-first_key d [] = d
-first_key d (k ∷ ks) = k
-
-other_keys : List KeySyntax → List KeySyntax
-other_keys [] = []
-other_keys (k ∷ ks) = ks
-
-same_first : (k l : KeySyntax) (ks ls : List KeySyntax) → k ∷ ks ≡ l ∷ ls → k ≡ l
-unfolding first_key
-same_first k l ks ls e = ap (first_key k) e
-
-same_others : (k l : KeySyntax) (ks ls : List KeySyntax) → k ∷ ks ≡ l ∷ ls → ks ≡ ls
-unfolding other_keys
-same_others k l ks ls e = ap other_keys e
-
 one_proc : (p q : ProcSyntax) (r s : List Placed) → IsProc p → IsProc q → proc_tokens p ++ r ≡ proc_tokens q ++ s → (p ≡ q) × (r ≡ s)
 one_proc p q r s h k e =
     let body_p = statements_tokens p.body ++ at p.end_at tok.End ∷ r in
@@ -149,8 +134,8 @@ one_proc p q r s h k e =
     let open_at = front_place_is p.open_at q.open_at tok.Open tok.Open head_p head_q two in
     let ps = one_params p.params q.params p.close_at q.close_at keys_p keys_q (after_front p.open_at q.open_at tok.Open tok.Open head_p head_q two) in
     let ks = one_keys (p.key ∷ p.more_keys) (q.key ∷ q.more_keys) p.begin_at q.begin_at body_p body_q ps.2 in
-    let key = same_first p.key q.key p.more_keys q.more_keys ks.0 in
-    let others = same_others p.key q.key p.more_keys q.more_keys ks.0 in
+    let key = same_head ks.0 in
+    let others = same_tail ks.0 in
     let b = one_statements p.body q.body p.end_at q.end_at r s h k ks.2 in (
       (λ i. record {
         word_at = word_at i;

@@ -4,6 +4,7 @@ use Rattle.dt_syntax.specs.declared.token.Placed.{Placed}
 use Rattle.dt_syntax.specs.Tokens.{tokens_of}
 use Rattle.dt_syntax.specs.Grammar.{InGrammar, Begins}
 use Rattle.dt_syntax.specs.FirstPass.{is_too_many, NoneTooMany, backwards, StartsWell, FaultAfter}
+use Rattle.dt_lists.proofs.Callers.{same_head, same_tail}
 
 -- where a text stops being read, and why: with the front of its tokens that was read, and the rest
 pub data Stop : Type 0 where
@@ -75,12 +76,6 @@ Further xs us ys vs = (t : Placed) × (more : List Placed) × (ys ≡ xs ++ t �
 abbrev Cuts : List Placed → List Placed → List Placed → List Placed → Type 0
 Cuts xs us ys vs = ((xs ≡ ys) × (us ≡ vs)) ⊎ (Further xs us ys vs ⊎ Further ys vs xs us)
 
-head_of : (x y : Placed) (xs ys : List Placed) → x ∷ xs ≡ y ∷ ys → x ≡ y
-head_of x y xs ys e = cc
-
-tail_of : (x y : Placed) (xs ys : List Placed) → x ∷ xs ≡ y ∷ ys → xs ≡ ys
-tail_of x y xs ys e = cc
-
 one_more : (x y : Placed) (xs us ys vs : List Placed) → x ≡ y → Cuts xs us ys vs → Cuts (x ∷ xs) us (y ∷ ys) vs
 unfolding Further
 one_more x y xs us ys vs same (inl (e, f)) = inl ((λ i. same i ∷ e i), f)
@@ -93,7 +88,7 @@ cuts [] us [] vs e = inl (refl, e)
 cuts [] us (y ∷ ys) vs e = inr (inl (y, ys, refl, e))
 cuts (x ∷ xs) us [] vs e = inr (inr (x, xs, refl, sym e))
 cuts (x ∷ xs) us (y ∷ ys) vs e =
-    one_more x y xs us ys vs (head_of x y (xs ++ us) (ys ++ vs) e) (cuts xs us ys vs (tail_of x y (xs ++ us) (ys ++ vs) e))
+    one_more x y xs us ys vs (same_head e) (cuts xs us ys vs (same_tail e))
 
 -- where some tokens of the text are read, and then it stops
 pub record Read (text : List ℕ) (a : Stop) : Type 0 where

@@ -12,18 +12,19 @@ use Rattle.dt_syntax.specs.Grammar.{at, Bracketed, bracketed_tokens, Syntax, cha
 use Rattle.dt_syntax.specs.Grammar.{link, syntax_tokens, links_tokens, level_of, IsLevel, AreLinks, reads_int, reads_text, reads_presence, makes_length}
 use Rattle.dt_syntax.specs.Grammar.{makes_text, Item, row_item, value_item, item_tokens, items_tokens, IsItem, Statement, let_new, set_key, clear_key, when}
 use Rattle.dt_syntax.specs.Grammar.{choose, abort, give, Statements, nothing, first, statement_tokens, statements_tokens, IsStatement, AreStatements}
-use Rattle.dt_syntax.proofs.Shapes.{inner, up, chain_shape, links_stop, head_is, tail_is, placed_is, six_stop, front_token, next_item, AreItems, items_stop}
+use Rattle.dt_syntax.proofs.Shapes.{inner, up, chain_shape, links_stop, placed_is, six_stop, front_token, next_item, AreItems, items_stop}
 use Rattle.dt_syntax.proofs.Shapes.{items_cut, StepShape, setting_cut, step_shape, no_else, begins_other}
+use Rattle.dt_lists.proofs.Callers.{same_head, same_tail}
 
 -- two tokens in front are the same one
 pub front_place_is : (p q : ℕ) (s t : Token) (us vs : List Placed) → at p s ∷ us ≡ at q t ∷ vs → p ≡ q
-front_place_is p q s t us vs e = (placed_is p q s t (head_is (at p s) (at q t) us vs e)).0
+front_place_is p q s t us vs e = (placed_is p q s t (same_head e)).0
 
 pub front_token_is : (p q : ℕ) (s t : Token) (us vs : List Placed) → at p s ∷ us ≡ at q t ∷ vs → s ≡ t
-front_token_is p q s t us vs e = (placed_is p q s t (head_is (at p s) (at q t) us vs e)).1
+front_token_is p q s t us vs e = (placed_is p q s t (same_head e)).1
 
 pub after_front : (p q : ℕ) (s t : Token) (us vs : List Placed) → at p s ∷ us ≡ at q t ∷ vs → us ≡ vs
-after_front p q s t us vs e = tail_is (at p s) (at q t) us vs e
+after_front p q s t us vs e = same_tail e
 
 name_of : Token → List ℕ
 name_of (tok.Name n) = n
@@ -79,8 +80,8 @@ Form t p ts x rest = ⊥
 
 form_at : (t u : Placed) (ts us : List Placed) (x : Syntax) (rest : List Placed) → t ∷ ts ≡ u ∷ us → Form t.token t.place ts x rest → Form u.token u.place us x rest
 form_at t u ts us x rest e h =
-    subst (λ v. Form u.token u.place v x rest) (tail_is t u ts us e)
-    (subst (λ v. Form v.token v.place ts x rest) (head_is t u ts us e) h)
+    subst (λ v. Form u.token u.place v x rest) (same_tail e)
+    (subst (λ v. Form v.token v.place ts x rest) (same_head e) h)
 
 operand_form : (n : ℕ) (x : Syntax) (rest : List Placed) (t : Placed) (ts : List Placed) → 5 ≤ n → IsLevel n x → syntax_tokens x ++ rest ≡ t ∷ ts →
     Form t.token t.place ts x rest
@@ -213,13 +214,13 @@ one_item (row_item p b) (value_item y) r s h k fr fs e = absurd (not_row p (brac
     not_row : (p : ℕ) (us : List Placed) (x : Syntax) (s : List Placed) → at p tok.Row ∷ us ≡ syntax_tokens x ++ s → ⊥
     not_row p us x s e =
         let f = front_token x in
-        f.4 (sym (ap (λ v. v.token) (head_is (at p tok.Row) f.0 us (f.1 ++ s) (e ∙ ap (λ v. v ++ s) f.2))))
+        f.4 (sym (ap (λ v. v.token) (same_head (e ∙ ap (λ v. v ++ s) f.2))))
 one_item (value_item x) (row_item q c) r s h k fr fs e = absurd (not_row q (bracketed_tokens c ++ s) x r (sym e))
   where
     not_row : (p : ℕ) (us : List Placed) (x : Syntax) (s : List Placed) → at p tok.Row ∷ us ≡ syntax_tokens x ++ s → ⊥
     not_row p us x s e =
         let f = front_token x in
-        f.4 (sym (ap (λ v. v.token) (head_is (at p tok.Row) f.0 us (f.1 ++ s) (e ∙ ap (λ v. v ++ s) f.2))))
+        f.4 (sym (ap (λ v. v.token) (same_head (e ∙ ap (λ v. v ++ s) f.2))))
 one_item (value_item x) (value_item y) r s h k fr fs e = let a = one_syntax x y 0 r s h k fr fs e in (ap value_item a.0, a.1)
 
 no_comma : ¬ (tok.Comma ≡ tok.Semicolon)

@@ -15,6 +15,7 @@ use Rattle.dt_syntax.specs.Grammar.{set_key, clear_key, when, choose, abort, giv
 use Rattle.dt_syntax.specs.FrontsInner.{Stops, FrontStops, joined_part, NoElse}
 use Rattle.std.specs.List.{flat_map}
 use Rattle.dt_lists.specs.Lists.{AllIn}
+use Rattle.dt_lists.proofs.Callers.{same_head, same_tail}
 
 pub up : (n : ℕ) (x : Syntax) → IsLevel (suc n) x → IsLevel (n + 1) x
 up n x h = subst (λ m. IsLevel m x) (sym (add-one n)) h
@@ -57,12 +58,6 @@ pub chain_cut : (head : Syntax) (links : Links) (rest ts : List Placed) → synt
     syntax_tokens head ++ (links_tokens links ++ rest) ≡ ts
 chain_cut head links rest ts e = sym (append_assoc (syntax_tokens head) (links_tokens links) rest) ∙ e
 
-pub head_is : (t u : Placed) (ts us : List Placed) → t ∷ ts ≡ u ∷ us → t ≡ u
-head_is t u ts us e = cc
-
-pub tail_is : (t u : Placed) (ts us : List Placed) → t ∷ ts ≡ u ∷ us → ts ≡ us
-tail_is t u ts us e = cc
-
 pub inner : (xs : List Placed) (y : Placed) (us : List Placed) → xs ++ y ∷ us ≡ (xs ++ y ∷ []) ++ us
 inner xs y us = sym (append_assoc xs (y ∷ []) us)
 
@@ -97,12 +92,12 @@ pub link_first : (n p : ℕ) (o : Op) (after : List Placed) (ls : Links) (rest t
     level_of o ≡ n → at p (tok.Op o) ∷ after ≡ ts → links_tokens ls ++ rest ≡ ts → IsFirstLink n p o after ls rest
 link_first n p o after no_link [] ts h stop is e f = absurd stop
 link_first n p o after no_link (t ∷ rest) ts h stop is e f =
-    let same : at p (tok.Op o) ≡ t = head_is _ _ _ _ (e ∙ sym f) in
+    let same : at p (tok.Op o) ≡ t = same_head (e ∙ sym f) in
     let lower : level_of o < n = subst (λ v. Stops n v.token) (sym same) stop in
     absurd (omega arith)
 link_first n p o after (link q u x more) rest ts h stop is e f =
     let joined = f ∙ sym e in
-    let same = placed_is q p (tok.Op u) (tok.Op o) (head_is _ _ _ _ joined) in
+    let same = placed_is q p (tok.Op u) (tok.Op o) (same_head joined) in
     let operator = operator_is u o same.1 in
     record {
       x = x;
@@ -110,7 +105,7 @@ link_first n p o after (link q u x more) rest ts h stop is e f =
       is = ap (λ v. link v u x more) same.0 ∙ ap (λ v. link p v x more) operator;
       level = up n x h.1;
       good = h.3;
-      cut = sym (append_assoc (syntax_tokens x) (links_tokens more) rest) ∙ tail_is _ _ _ _ joined;
+      cut = sym (append_assoc (syntax_tokens x) (links_tokens more) rest) ∙ same_tail joined;
     }
 
 pub six_stop : (us : List Placed) (n : ℕ) → n ≡ 5 → FrontStops n us → FrontStops 6 us
@@ -153,9 +148,9 @@ items_cut i more e rest ts h = sym (append_assoc (item_tokens i) (flat_map next_
 -- a part that begins with `show`
 pub part_show : (i : KeyPart) (rest : List Placed) (t : Placed) (ts : List Placed) → part_tokens i ++ rest ≡ t ∷ ts → t.token ≡ tok.Show →
     (p : ℕ) × (b : Bracketed) × (i ≡ show_part p b) × (bracketed_tokens b ++ rest ≡ ts)
-part_show (text_part p t) rest u ts e is = let h = ap (λ v. v.token) (head_is _ _ _ _ e) in absurd cc
-part_show (name_part p n) rest u ts e is = let h = ap (λ v. v.token) (head_is _ _ _ _ e) in absurd cc
-part_show (show_part p b) rest u ts e is = (p, b, refl, tail_is _ _ _ _ e)
+part_show (text_part p t) rest u ts e is = let h = ap (λ v. v.token) (same_head e) in absurd cc
+part_show (name_part p n) rest u ts e is = let h = ap (λ v. v.token) (same_head e) in absurd cc
+part_show (show_part p b) rest u ts e is = (p, b, refl, same_tail e)
 
 -- one more of a list, after the token that joins it to the others
 pub record IsMore {A : Type 0} (joint : Token) (spelled : A → List Placed) (all : List (ℕ × A)) (last after : List Placed) : Type 0 where
@@ -169,14 +164,14 @@ pub more_next : {A : Type 0} (joint : Token) (spelled : A → List Placed) (all 
     ¬ (joint ≡ end) → flat_map (λ m. at m.0 joint ∷ spelled m.1) all ++ at q end ∷ rest ≡ left → at p joint ∷ after ≡ left →
     IsMore joint spelled all (at q end ∷ rest) after
 more_next joint spelled [] q end rest p after left differ e f =
-    absurd (differ (ap (λ v. v.token) (head_is (at p joint) (at q end) after rest (f ∙ sym e))))
+    absurd (differ (ap (λ v. v.token) (same_head (f ∙ sym e))))
 more_next joint spelled (m ∷ more) q end rest p after left differ e f = record {
   one = m.1;
   joined_at = m.0;
   more = more;
   is = refl;
   cut = sym (append_assoc (spelled m.1) (flat_map (λ m. at m.0 joint ∷ spelled m.1) more) (at q end ∷ rest))
-      ∙ tail_is (at m.0 joint) (at p joint) ((spelled m.1 ++ flat_map (λ m. at m.0 joint ∷ spelled m.1) more) ++ at q end ∷ rest) after (e ∙ sym f);
+      ∙ same_tail (e ∙ sym f);
 }
 
 pub more_end : {A : Type 0} (joint : Token) (spelled : A → List Placed) (all : List (ℕ × A)) (q : ℕ) (end : Token) (rest left : List Placed) →
@@ -221,7 +216,7 @@ mode_begin false e = cc
 
 pub key_first : (all : List KeySyntax) (b : ℕ) (rest : List Placed) (t : Placed) (ts : List Placed) (w : Bool) → t.token ≡ mode_token w →
     flat_map key_tokens all ++ at b tok.Begin ∷ rest ≡ t ∷ ts → IsFirstKey all w t.place (at b tok.Begin ∷ rest) ts
-key_first [] b rest t ts w is e = absurd (mode_begin w (ap (λ v. v.token) (head_is _ _ _ _ e) ∙ is))
+key_first [] b rest t ts w is e = absurd (mode_begin w (ap (λ v. v.token) (same_head e) ∙ is))
 key_first (k ∷ ks) b rest t ts w is e =
     let whole = sym (key_cut k (flat_map key_tokens ks ++ at b tok.Begin ∷ rest))
     ∙ sym (append_assoc (key_tokens k) (flat_map key_tokens ks) (at b tok.Begin ∷ rest)) ∙ e in
@@ -229,14 +224,14 @@ key_first (k ∷ ks) b rest t ts w is e =
       key = k;
       more = ks;
       is = refl;
-      mode = mode_is k.write w (ap (λ v. v.token) (head_is _ _ _ _ whole) ∙ is);
-      cut = tail_is _ _ _ _ whole;
+      mode = mode_is k.write w (ap (λ v. v.token) (same_head whole) ∙ is);
+      cut = same_tail whole;
     }
 
 pub key_none : (all : List KeySyntax) (b : ℕ) (rest : List Placed) (t : Placed) (ts : List Placed) → ¬ (t.token ≡ tok.Read) → ¬ (t.token ≡ tok.Write) →
     flat_map key_tokens all ++ at b tok.Begin ∷ rest ≡ t ∷ ts → (all ≡ []) × (ts ≡ rest)
-key_none [] b rest t ts r w e = (refl, sym (tail_is _ _ _ _ e))
-key_none (k ∷ ks) b rest t ts r w e = absurd (neither k.write (ap (λ v. v.token) (head_is _ _ _ _ whole)))
+key_none [] b rest t ts r w e = (refl, sym (same_tail e))
+key_none (k ∷ ks) b rest t ts r w e = absurd (neither k.write (ap (λ v. v.token) (same_head whole)))
   where
     whole : at k.word_at (mode_token k.write) ∷ at k.name_at (tok.Name k.name) ∷ at k.is_at tok.Is
         ∷ (part_tokens k.first ++ (flat_map joined_part k.more ++ at k.end_at tok.Semicolon ∷ (flat_map key_tokens ks ++ at b tok.Begin ∷ rest))) ≡ t ∷ ts
@@ -278,13 +273,13 @@ no_else (first (abort p q t f) ss) e rest = λ h. cc
 no_else (first (give p i more f) ss) e rest = λ h. cc
 
 pub begins_other : (s : Statement) (us : List Placed) (t : Placed) (ts : List Placed) → statement_tokens s ++ us ≡ t ∷ ts → ¬ (t.token ≡ tok.End)
-begins_other (let_new p q n i x f) us t ts e = λ h. let a = ap (λ v. v.token) (head_is _ _ _ _ e) in cc
-begins_other (set_key p q n i x f) us t ts e = λ h. let a = ap (λ v. v.token) (head_is _ _ _ _ e) in cc
-begins_other (clear_key p q n f) us t ts e = λ h. let a = ap (λ v. v.token) (head_is _ _ _ _ e) in cc
-begins_other (when p x b ss f) us t ts e = λ h. let a = ap (λ v. v.token) (head_is _ _ _ _ e) in cc
-begins_other (choose p x b ss f w c rs g) us t ts e = λ h. let a = ap (λ v. v.token) (head_is _ _ _ _ e) in cc
-begins_other (abort p q x f) us t ts e = λ h. let a = ap (λ v. v.token) (head_is _ _ _ _ e) in cc
-begins_other (give p i more f) us t ts e = λ h. let a = ap (λ v. v.token) (head_is _ _ _ _ e) in cc
+begins_other (let_new p q n i x f) us t ts e = λ h. let a = ap (λ v. v.token) (same_head e) in cc
+begins_other (set_key p q n i x f) us t ts e = λ h. let a = ap (λ v. v.token) (same_head e) in cc
+begins_other (clear_key p q n f) us t ts e = λ h. let a = ap (λ v. v.token) (same_head e) in cc
+begins_other (when p x b ss f) us t ts e = λ h. let a = ap (λ v. v.token) (same_head e) in cc
+begins_other (choose p x b ss f w c rs g) us t ts e = λ h. let a = ap (λ v. v.token) (same_head e) in cc
+begins_other (abort p q x f) us t ts e = λ h. let a = ap (λ v. v.token) (same_head e) in cc
+begins_other (give p i more f) us t ts e = λ h. let a = ap (λ v. v.token) (same_head e) in cc
 
 -- what the first token of a statement says of it
 abbrev pub StepShape : Token → ℕ → List Placed → Statement → List Placed → Type 0
@@ -312,8 +307,8 @@ StepShape t p ts s rest = ⊥
 shape_at : (t u : Placed) (ts us : List Placed) (s : Statement) (rest : List Placed) → t ∷ ts ≡ u ∷ us →
     StepShape t.token t.place ts s rest → StepShape u.token u.place us s rest
 shape_at t u ts us s rest e h =
-    subst (λ v. StepShape u.token u.place v s rest) (tail_is t u ts us e)
-    (subst (λ v. StepShape v.token v.place ts s rest) (head_is t u ts us e) h)
+    subst (λ v. StepShape u.token u.place v s rest) (same_tail e)
+    (subst (λ v. StepShape v.token v.place ts s rest) (same_head e) h)
 
 -- the tokens of what a `let` and a `set` have in common, and those behind it
 pub setting_cut : (q : ℕ) (n : List ℕ) (i : ℕ) (x : Syntax) (e : ℕ) (rest : List Placed) →

@@ -11,6 +11,7 @@ use Rattle.dt_syntax.specs.declared.token.Token.{Token}
 use Rattle.dt_syntax.specs.declared.token.Token.TheVariants.{Text}
 use Rattle.dt_syntax.specs.Tokens.{items_of, escaped, with_item, text_found, text_after, Sized}
 use Rattle.dt_syntax.specs.TextTokens.{IsTextWordBefore, TextTokensAreTextWords}
+use Rattle.dt_lists.proofs.Callers.{same_tail}
 
 pair_or : Option (List ℕ × List ℕ) → List ℕ × List ℕ
 pair_or None = ([], [])
@@ -169,13 +170,10 @@ text_tokens_are_text_words bs t n = (λ e. forth (sized bs t n (items_of bs) e),
           counted = s.size ∙ size_is bs t s.rest p.1;
         }
 
-    tail_of : (a b : ℕ) (xs ys : List ℕ) → a ∷ xs ≡ b ∷ ys → xs ≡ ys
-    tail_of a b xs ys e = cc
-
     back : IsTextWordBefore bs t n → text_after bs ≡ Some (Text t, n)
     back w =
         let cut : bs ≡ text_items t ++ 34 ∷ w.rest =
-        tail_of 34 34 bs ((text_items t ++ 34 ∷ []) ++ w.rest) w.cut ∙ append_assoc (text_items t) (34 ∷ []) w.rest in
+        same_tail w.cut ∙ append_assoc (text_items t) (34 ∷ []) w.rest in
         let is : items_of bs ≡ Some (t, w.rest) = ap items_of cut ∙ printed t w.rest w.text.1 in
         let few : nat_le (length t) 256 ≡ true = grind (arith, nat_tests, w.text.0) in
         ap (text_found bs) is ∙ ap (λ b. cond {A = Option Sized} b (Some (Text t, length bs - length w.rest + 1)) None) few

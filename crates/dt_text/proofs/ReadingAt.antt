@@ -1,14 +1,15 @@
 -- What the words from a place of a line on are, by the byte at that place of the line.
 use Rattle.std.proofs.Common.{◌≡◌, ◌≢◌, ℕ, ◌+◌, ◌<◌, ◌≤◌, Bool, true, false, cond, ◌==◌, ◌||◌, ◌&&◌, nat_lt, List, []}
-use Rattle.std.proofs.Common.{◌∷◌, ◌++◌, length, get_or, drop, Option, Some, None, refl, sym, ◌∙◌, ap, arith, append_assoc, append-nil}
+use Rattle.std.proofs.Common.{◌∷◌, ◌++◌, length, get_or, drop, Option, Some, None, refl, sym, ◌∙◌, ap, arith, append-nil}
 use Rattle.std.specs.Option.{option_map}
 use Rattle.std.proofs.lemmas.Bool.Decides.{nat_tests}
 use Rattle.std.proofs.lemmas.Grind.{common_steps}
 use Rattle.std.proofs.lemmas.List.{drop_more}
+use Rattle.dt_lists.proofs.Callers.{joined_more, joined_none}
 use Rattle.dt_text.specs.Texts.{is_text_byte, IsStr}
 use Rattle.dt_text.specs.Words.{is_visible}
 use Rattle.dt_text.specs.Reading.{with_word, words_from, text_from, after_text, BareEndsAt, words_of}
-use Rattle.dt_text.specs.ReadingParts.{WordAt, TextEndsAt, ItemAt}
+use Rattle.dt_text.specs.ReadingInner.{WordAt, TextEndsAt, ItemAt}
 use Rattle.dt_text.proofs.ReadingSteps as step
 use Rattle.dt_text.specs.declared.word.Word.{Word}
 use Rattle.dt_text.specs.declared.word.Word.TheVariants.{Bare, Text}
@@ -102,14 +103,6 @@ pub text_word_at : (line text : List ℕ) (at close : ℕ) (found : Option (Word
 text_word_at line text at close None after inside quote allowed begun ended = begun ∙ (text_closes line text close inside quote ∙ ended)
 text_word_at line text at close (Some (word, end)) after inside quote allowed begun (is, there, ended) =
     rw (is, there) (omega arith, omega arith, allowed, begun ∙ (text_closes line text close inside quote ∙ ended))
-
-joined_none : (words : Option (List Word)) → option_map (λ ws. [] ++ ws) words ≡ words
-joined_none None = refl
-joined_none (Some ws) = refl
-
-joined_more : (found : List Word) (word : Word) (words : Option (List Word)) → option_map (λ ws. (found ++ word ∷ []) ++ ws) words ≡ option_map (λ ws. found ++ ws) (with_word word words)
-joined_more found word None = refl
-joined_more found word (Some ws) = ap Some (append_assoc found (word ∷ []) ws)
 
 -- no word is found yet, and only spaces stand before the place
 pub words_begin : (line : List ℕ) (found : List Word) (at : ℕ) → found ≡ [] → words_from 0 (drop 0 line) ≡ words_from at (drop at line) → option_map (λ ws. found ++ ws) (words_from at (drop at line)) ≡ words_of line

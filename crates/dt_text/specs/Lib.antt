@@ -2,6 +2,6 @@ pub mod Lines
 pub mod Numbers
 pub mod Printed
 pub mod Reading
-pub mod ReadingParts
+pub mod ReadingInner
 pub mod Texts
 pub mod Words

@@ -1,5 +1,4 @@
 ghost use Rattle.std.specs.Prelude.{◌≡◌, ◌↔◌, ◌<◌, ◌≤◌, ◌^◌, ℕ, [], List, length, IfOk, IsTrue, Some};
-ghost use Rattle.std.specs.List.{list_all};
 ghost use Rattle.dt_text.specs.Texts.{IsName, is_name_byte, first_outside};
 
 use crate::bytes::is_name_byte;
@@ -60,10 +59,11 @@ impl Name {
     }
 
     /// Whether the bytes are those of a name.
+    #[tactic(auto, using(crate::proofs::FirstBadByte::none_outside, crate::proofs::FirstBadByte::byte_outside))]
     pub fn is_name(bytes: &[u8]) -> bool
         ensures { IsTrue result ↔ IsName bytes.now }
     {
-        !bytes.is_empty() && bytes.len() <= Name::LONGEST && are_allowed(bytes)
+        !bytes.is_empty() && bytes.len() <= Name::LONGEST && first_bad(bytes).is_none()
     }
 
     /// The name that has these bytes.
@@ -100,11 +100,4 @@ fn first_bad(bytes: &[u8]) -> Option<usize>
     ensures { result ≡ first_outside is_name_byte bytes.now }
 {
     bytes.iter().position(|byte| !is_name_byte(*byte))
-}
-
-/// Whether a name may have each of the bytes.
-fn are_allowed(bytes: &[u8]) -> bool
-    ensures { result ≡ list_all is_name_byte bytes.now }
-{
-    bytes.iter().all(|byte| is_name_byte(*byte))
 }

@@ -5,6 +5,7 @@ ghost use Rattle.std.specs.Cmp.Lexicographic.{pointwise, slice_cmp, nat_list_eq_
 ghost use Rattle.std.specs.Hash as fed;
 ghost use Rattle.std.proofs.Common.{ap};
 
+use crate::bytes::are_same;
 use crate::no_memory::NoMemory;
 use smallvec::SmallVec;
 use std::alloc::Global;
@@ -117,20 +118,4 @@ impl Hash for Spelling {
         state.write(self.bytes.as_slice());
         state.write_u8(0xff);
     }
-}
-
-/// Whether the bytes are the same. A key has some ten: for so few, a loop takes a third of what a comparison of long slices does.
-fn are_same(mut left: &[u8], mut right: &[u8]) -> bool
-    ensures { result ≡ pointwise nat_eq left.now right.now }
-{
-    while let Some((one, others)) = left.split_first() {
-        let Some((other, rest)) = right.split_first() else {
-            return false;
-        };
-        if one != other {
-            return false;
-        }
-        (left, right) = (others, rest);
-    }
-    right.is_empty()
 }

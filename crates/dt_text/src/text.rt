@@ -2,6 +2,7 @@ ghost use Rattle.std.specs.Prelude.{◌≡◌, ◌↔◌, ◌<◌, ◌≤◌, �
 ghost use Rattle.dt_text.specs.Texts.{IsStr, is_text_byte, first_outside};
 
 use crate::bytes::is_text_byte;
+use crate::common::Common;
 use crate::errors::StrError;
 use crate::no_memory::NoMemory;
 use crate::spelling::Spelling;
@@ -10,10 +11,11 @@ use std::marker::Model;
 
 /// A text: 0 to 256 bytes, each a space or a visible character of ASCII (0x20 to 0x7E).
 ///
-/// Contracts see its bytes. Texts are ordered by their bytes, a proper prefix being less.
+/// Contracts see its bytes. Texts are ordered by their bytes, a proper prefix being less. A text takes the room of an address,
+/// and a copy of it no memory.
 #[derive(Debug, PartialEq, Eq, PartialOrd, Ord, Hash, Drop)]
 pub struct Str {
-    spelling: Spelling,
+    spelling: Common<Spelling>,
 }
 
 impl Model for Str {
@@ -48,9 +50,7 @@ impl Str {
         }
         match first_bad(bytes) {
             Some(place) => Err(StrError::BadByte(place as u32)),
-            None => Ok(Str {
-                spelling: Spelling::of(alloc, bytes)?,
-            }),
+            None => Ok(Str::new(alloc, bytes)?),
         }
     }
 
@@ -59,28 +59,17 @@ impl Str {
         requires { IsStr bytes.now }
         ensures { IfOk result (λ text. text ≡ bytes.now) }
     {
+        Str::spelled(alloc, Spelling::of(alloc, bytes)?)
+    }
+
+    /// The text that is spelled so.
+    pub(crate) fn spelled(alloc: Global, spelling: Spelling) -> Result<Self, NoMemory>
+        requires { IsStr spelling }
+        ensures { IfOk result (λ text. text ≡ spelling) }
+    {
         Ok(Str {
-            spelling: Spelling::of(alloc, bytes)?,
+            spelling: Common::new(alloc, spelling)?,
         })
-    }
-
-    /// The text of no bytes. Takes no memory.
-    pub(crate) fn empty(alloc: Global) -> Self
-        ensures { result ≡ [] }
-    {
-        Str {
-            spelling: Spelling::empty(alloc),
-        }
-    }
-
-    /// Adds a byte at the back; after `NoMemory` the text is as before.
-    pub(crate) fn push(&mut self, byte: u8) -> Result<(), NoMemory>
-        requires room { length self.old < 256 }
-        requires allowed { IsTrue (is_text_byte byte) }
-        ensures added { OnOk result (self.new ≡ self.old ++ byte ∷ []) }
-        ensures same { OnErr result (self.new ≡ self.old) }
-    {
-        self.spelling.push(byte)
     }
 
     /// The bytes of the text.
@@ -88,16 +77,16 @@ impl Str {
         ensures same { result.now ≡ self.now }
         ensures text { IsStr self.now }
     {
-        self.spelling.bytes()
+        self.spelling.get().bytes()
     }
 
-    /// A text with the same bytes.
-    pub fn copy(&self, alloc: Global) -> Result<Self, NoMemory>
+    /// A text with the same bytes. Takes no memory.
+    pub fn copy(&self, _alloc: Global) -> Result<Self, NoMemory>
         ensures same { IfOk result (λ text. text ≡ self.now) }
         ensures text { IsStr self.now }
     {
         Ok(Str {
-            spelling: self.spelling.copy(alloc)?,
+            spelling: self.spelling.copy()?,
         })
     }
 }

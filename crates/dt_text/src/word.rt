@@ -1,11 +1,13 @@
 ghost use Rattle.std.specs.Prelude.{◌≡◌, ◌≢◌, ◌+◌, ◌<◌, ◌≤◌, ◌^◌, length, drop, ◌==◌, ◌||◌, slice_index, IfOk, IfSome, MatchBool, All};
+ghost use Rattle.dt_text.specs.Texts.{IsStr};
 ghost use Rattle.dt_text.specs.Words.{is_visible};
 ghost use Rattle.dt_text.specs.Reading.{BareEndsAt, IsWordIn, words_from, words_of};
-ghost use Rattle.dt_text.specs.ReadingParts.{ItemAt, WordAt, TextEndsAt};
+ghost use Rattle.dt_text.specs.ReadingInner.{ItemAt, WordAt, TextEndsAt};
 
 use crate::bytes::is_text_byte;
 use crate::listed::Listed;
 use crate::no_memory::NoMemory;
+use crate::spelling::Spelling;
 use crate::text::Str;
 use std::alloc::Global;
 
@@ -119,11 +121,11 @@ fn read_text(alloc: Global, line: &[u8], at: usize) -> Result<Option<(Word, usiz
     requires quote { slice_index line.now at ≡ 34 }
     ensures { IfOk result (WordAt line.now at) }
 {
-    let mut text = Str::empty(alloc);
+    let mut text = Spelling::empty(alloc);
     let mut end = at + 1;
     while end < line.len() {
         if line[end] == b'"' {
-            return Ok(ended_text(line, text, end + 1));
+            return ended_text(alloc, line, text, end + 1);
         }
         let Some((byte, next)) = read_item(line, end) else {
             return Ok(None);
@@ -138,14 +140,20 @@ fn read_text(alloc: Global, line: &[u8], at: usize) -> Result<Option<(Word, usiz
 }
 
 /// The text word that ends before `end`, where a word may end there.
-fn ended_text(line: &[u8], text: Str, end: usize) -> Option<(Word, usize)>
-    requires { end ≤ length line.now }
-    ensures { TextEndsAt line.now text end result }
+fn ended_text(
+    alloc: Global,
+    line: &[u8],
+    text: Spelling,
+    end: usize,
+) -> Result<Option<(Word, usize)>, NoMemory>
+    requires text { IsStr text }
+    requires inside { end ≤ length line.now }
+    ensures { IfOk result (TextEndsAt line.now text end) }
 {
     if !may_end(line, end) {
-        return None;
+        return Ok(None);
     }
-    Some((Word::Text(text), end))
+    Ok(Some((Word::Text(Str::spelled(alloc, text)?), end)))
 }
 
 /// Whether a word may end before `end`: at the line's end, or before a space.

@@ -7,4 +7,4 @@ returns-then-not-may_end c =
     text_goes_on c.args.line.now c.args.text c.args.end goes_on.0 goes_on.1
 
 pub returns : goal.returns
-returns c = text_ends c.args.line.now c.args.text c.args.end c.requires c.if-not-may_end.ensures
+returns c = rw c.in_ok-spelled.ensures (text_ends c.args.line.now c.args.text c.args.end c.requires.inside c.if-not-may_end.ensures)

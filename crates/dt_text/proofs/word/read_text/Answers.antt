@@ -1,4 +1,6 @@
-use Rattle.std.proofs.Common.{◌∙◌, refl, arith}
+use Rattle.std.proofs.Common.{◌∙◌, ◌+◌, refl, arith}
+use Rattle.std.proofs.lemmas.Result.{IfOk-weaker}
+use Rattle.dt_text.specs.ReadingInner.{TextEndsAt, WordAt}
 use Rattle.dt_text.proofs.ReadingAt.{text_begins, text_word_at, text_open}
 use Rattle.dt_text.proofs.word.read_text.Goals as goal
 
@@ -15,7 +17,9 @@ loop-end-init c =
 pub returns-then-line-end-eq34 : goal.returns-then-line-end-eq34
 returns-then-line-end-eq34 c =
     let begun = c.loop-end.invariant in
-    text_word_at c.args.line.now c.loop-end.text c.args.at c.loop-end.end _ begun.after c.loop-end-test.true c.if-line-end-eq34.true begun.allowed begun.same c.ended_text.ensures
+    IfOk-weaker c.ended_text.result (TextEndsAt c.args.line.now c.loop-end.text (c.loop-end.end + 1)) (WordAt c.args.line.now c.args.at)
+    (λ found. text_word_at c.args.line.now c.loop-end.text c.args.at c.loop-end.end found begun.after c.loop-end-test.true c.if-line-end-eq34.true begun.allowed begun.same)
+    c.ended_text.ensures
 
 pub returns : goal.returns
 returns c = c.loop-end.invariant.same ∙ text_open c.args.line.now c.loop-end.text c.loop-end.end c.loop-end-test.false

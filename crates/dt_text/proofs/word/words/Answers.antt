@@ -1,7 +1,7 @@
 use Rattle.std.proofs.Common.{arith, Some}
 use Rattle.std.proofs.lemmas.List.Elements.{All-push}
 use Rattle.dt_text.specs.Reading.{IsWordIn}
-use Rattle.dt_text.specs.ReadingParts.{WordAt}
+use Rattle.dt_text.specs.ReadingInner.{WordAt}
 use Rattle.std.proofs.lemmas.Grind.{common_steps}
 use Rattle.dt_text.proofs.ReadingAt.{words_begin, words_go_on, words_end}
 use Rattle.dt_text.proofs.word.words.Goals as goal
