@@ -2,9 +2,9 @@
 use Rattle.std.proofs.Common.{◌≡◌, true, ◌&&◌, ◌||◌, List, sym, inl, inr}
 use Rattle.std.specs.List.{list_any}
 use Rattle.std.specs.Cmp.Lexicographic.{bytes_decides}
-use Rattle.std.proofs.lemmas.Bool.{and_parts, and_from, or_left, or_right}
+use Rattle.std.proofs.lemmas.Bool.{and_parts, and_from, or_left, or_right, or_cases}
 use Rattle.dt_lists.specs.Lists.{AnyIn, Has}
-use Rattle.dt_lists.proofs.Callers.{any_get, any_put, any_of_test, test_of_any, either_side}
+use Rattle.dt_lists.proofs.Callers.{any_get, any_put, any_of_test, test_of_any}
 use Rattle.dt_access.specs.declared.access.Mode.{Mode}
 use Rattle.dt_access.specs.Granules.{granule_of}
 use Rattle.dt_access.specs.Clash.{Bytes, same_key, is_whole, rows_clash, uses_clash, clash}
@@ -43,8 +43,8 @@ taken_shown left right a b ha hb same whole =
 
 pub clash_parts : (left right : List (Bytes × Mode)) → ((meet_on_row left right || takes_from left right) || takes_from right left) ≡ clash left right
 clash_parts left right = same_tests ((meet_on_row left right || takes_from left right) || takes_from right left) (clash left right)
-    (λ e. elim (either_side (meet_on_row left right || takes_from left right) (takes_from right left) e) [
-      | inl h ↦ elim (either_side (meet_on_row left right) (takes_from left right) h) [ inl m ↦ row_shows left right m | inr t ↦ taken_shows left right t ]
+    (λ e. elim (or_cases (meet_on_row left right || takes_from left right) (takes_from right left) e) [
+      | inl h ↦ elim (or_cases (meet_on_row left right) (takes_from left right) h) [ inl m ↦ row_shows left right m | inr t ↦ taken_shows left right t ]
       | inr t ↦ clash_symmetric right left (taken_shows right left t)
     ])
     (λ e.
@@ -52,7 +52,7 @@ clash_parts left right = same_tests ((meet_on_row left right || takes_from left 
     let y : (b : Bytes × Mode) × Has right b × (uses_clash x.0 b ≡ true) = any_get _ right x.2 in
     elim (clash_cases x.0 y.0 y.2) [
       | inl r ↦ or_left _ _ (or_left _ _ (meet_shown left right x.0 y.0 x.1 y.1 (and_from _ _ ((bytes_decides _ _).1 r.0) r.1)))
-      | inr g ↦ elim (either_side (is_whole (x.0).1) (is_whole (y.0).1) g.1) [
+      | inr g ↦ elim (or_cases (is_whole (x.0).1) (is_whole (y.0).1) g.1) [
         | inl w ↦ or_left _ _ (or_right _ _ (taken_shown left right x.0 y.0 x.1 y.1 g.0 w))
         | inr w ↦ or_right _ _ (taken_shown right left y.0 x.0 y.1 x.1 (sym g.0) w)
       ]

@@ -3,12 +3,12 @@
 use Rattle.std.proofs.Common.{◌≡◌, ◌⊎◌, ℕ, suc, ◌+◌, ◌≤◌, Bool, true, false, not, cond, ◌==◌, nat_lt, [], ◌∷◌, ◌++◌}
 use Rattle.std.proofs.Common.{length, take, drop, position, Some, None, refl, ap, sym, ◌∙◌, inl, inr, eqb-true, arith}
 use Rattle.std.specs.List.{take_while, prefix_len, list_all}
-use Rattle.std.proofs.lemmas.Bool.{and_parts, and_from}
+use Rattle.std.proofs.lemmas.Bool.{and_parts, and_from, not-false}
 use Rattle.std.proofs.lemmas.Bool.Decides.{nat_tests}
 use Rattle.std.proofs.lemmas.List.{take_all, length-take, take-append-drop}
 use Rattle.std.proofs.lemmas.List.Folds.{list_all-append}
 use Rattle.std.proofs.lemmas.List.Sums.{take_while-cons}
-use Rattle.dt_lists.proofs.Callers.{same_tail, true_of_not}
+use Rattle.dt_lists.proofs.Callers.{same_tail}
 use Rattle.dt_text.specs.Texts.{IsKey, is_key_byte}
 use Rattle.dt_access.specs.Granules.{Bytes, granule_of, unit_of}
 
@@ -44,7 +44,7 @@ split_at_slash (b ∷ bs) =
       | inl s ↦ inl (ap (λ t. b ∷ t) s ∙ sym (step_inner b bs e))
       | inr s ↦ inr (s.0, ap (λ t. b ∷ t) s.1 ∙ ap (λ t. t ++ 47 ∷ s.0) (sym (step_inner b bs e)))
     ])
-    (λ e. inr (bs, ap (λ t. t ∷ bs) (eqb-true b 47 (true_of_not (b == 47) e)) ∙ ap (λ t. t ++ 47 ∷ bs) (sym (step_slash b bs e))))
+    (λ e. inr (bs, ap (λ t. t ∷ bs) (eqb-true b 47 (not-false (b == 47) e)) ∙ ap (λ t. t ++ 47 ∷ bs) (sym (step_slash b bs e))))
 
 -- before the first `/` of the bytes before the first `/` stand all of them
 before_slash_again : (bs : Bytes) → take_while inner (take_while inner bs) ≡ take_while inner bs

@@ -9,10 +9,10 @@ use Rattle.std.specs.declared.cmp.Ordering.{Ordering}
 use Rattle.std.specs.declared.cmp.Ordering.TheVariants.{Less, Equal, Greater}
 use Rattle.std.specs.Cmp.Lexicographic.{slice_cmp, pointwise, nat_list_cmp_total, bytes_decides}
 use Rattle.std.proofs.lemmas.Map.Lookups.{exact_unsigned}
-use Rattle.std.proofs.lemmas.Bool.{or_left, or_right}
+use Rattle.std.proofs.lemmas.Bool.{or_left, or_right, or_cases}
 use Rattle.std.proofs.lemmas.List.{take-append-drop, append-nil}
 use Rattle.dt_lists.specs.Lists.{AnyIn, Has}
-use Rattle.dt_lists.proofs.Callers.{all_get, any_get, any_append_right, any_of_test, test_of_any, all_index, either_side, rest_from}
+use Rattle.dt_lists.proofs.Callers.{all_get, any_get, any_append_right, any_of_test, test_of_any, all_index, rest_from}
 use Rattle.dt_access.specs.declared.access.Mode.{Mode}
 use Rattle.dt_access.specs.Granules.{Bytes, granule_of}
 use Rattle.dt_access.specs.Clash.{same_key}
@@ -168,7 +168,7 @@ row_first xs i g rest asc ends x here of is =
 pub found : (xs : List (Bytes × Mode)) (i j : ℕ) (g : Bytes) → HasAscendingKeys xs → EndsAt g xs i → EndsAt (g ++ 47 ∷ []) xs j
     → (begins_with (drop i xs) g || begins_with (drop j xs) g) ≡ has_granule xs g
 found xs i j g asc ends rows = same_tests (begins_with (drop i xs) g || begins_with (drop j xs) g) (has_granule xs g)
-    (λ e. elim (either_side (begins_with (drop i xs) g) (begins_with (drop j xs) g) e) [ inl h ↦ begins_has xs i g h | inr h ↦ begins_has xs j g h ])
+    (λ e. elim (or_cases (begins_with (drop i xs) g) (begins_with (drop j xs) g) e) [ inl h ↦ begins_has xs i g h | inr h ↦ begins_has xs j g h ])
     (λ e.
     let r : (x : Bytes × Mode) × Has xs x × (same_key g (granule_of x.0) ≡ true) = any_get _ xs (any_of_test (λ a. same_key g (granule_of a.0)) xs e) in
     let of : granule_of (r.0).0 ≡ g = sym ((bytes_decides g (granule_of (r.0).0)).0 r.2) in

@@ -1,10 +1,9 @@
 -- What clashes is of one unit, and what moves a unit clashes with all that uses it.
 use Rattle.std.proofs.Common.{◌≡◌, ◌≢◌, ◌⊎◌, ℕ, Bool, true, false, cond, ◌==◌, ◌&&◌, ◌||◌, refl, ap, ap₂, subst, inl, inr}
 use Rattle.std.proofs.Math.Bool.{or_comm}
-use Rattle.std.proofs.lemmas.Bool.{and_parts, and_from, or_left, or_right}
+use Rattle.std.proofs.lemmas.Bool.{and_parts, and_from, or_left, or_right, or_cases}
 use Rattle.std.specs.Cmp.Lexicographic.{bytes_decides}
 use Rattle.std.proofs.lemmas.Cmp.{nat_list_eq_equiv}
-use Rattle.dt_lists.proofs.Callers.{either_side}
 use Rattle.dt_access.specs.Granules.{Bytes, granule_of, unit_of, mode_of_move}
 use Rattle.dt_access.specs.Clash.{same_key, same_granule, may_change, is_whole, rows_clash, granules_clash, uses_clash}
 use Rattle.dt_access.specs.declared.access.Mode.{Mode}
@@ -27,7 +26,7 @@ uses_of_granule a b same w = or_right _ _ (and_from _ _ ((bytes_decides (granule
 -- uses clash on a row or on a granule, in words
 pub clash_cases : (a b : Bytes × Mode) → uses_clash a b ≡ true
     → ((a.0 ≡ b.0) × ((may_change a.1 || may_change b.1) ≡ true)) ⊎ ((granule_of a.0 ≡ granule_of b.0) × ((is_whole a.1 || is_whole b.1) ≡ true))
-clash_cases a b e = elim (either_side (rows_clash a b) (granules_clash a b) e) [
+clash_cases a b e = elim (or_cases (rows_clash a b) (granules_clash a b) e) [
   | inl r ↦ let p : (same_key a.0 b.0 ≡ true) × ((may_change a.1 || may_change b.1) ≡ true) = and_parts _ _ r in inl ((bytes_decides a.0 b.0).0 p.0, p.1)
   | inr g ↦ let p : (same_granule a.0 b.0 ≡ true) × ((is_whole a.1 || is_whole b.1) ≡ true) = and_parts _ _ g in inr ((bytes_decides (granule_of a.0) (granule_of b.0)).0 p.0, p.1)
 ]

@@ -3,7 +3,8 @@
 -- is executed, and tables. Rules 3 to 6 change a world so.
 use Rattle.std.proofs.Common.{◌≡◌, ◌≢◌, ◌<◌, ℕ, List, length, refl, sym, ap, subst, ◌∙◌}
 use Rattle.std.proofs.lemmas.List.{length-set, get_or-set_same, get_or-set_other}
-use Rattle.dt_lists.proofs.Callers.{field_of_set, map_of_set, flat_map_of_set, each_of_set}
+use Rattle.std.proofs.Math.Seq.{map-set_same}
+use Rattle.dt_lists.proofs.Callers.{field_of_set, flat_map_of_set, each_of_set}
 use Rattle.dt_access.specs.declared.TxnId.{TxnId}
 use Rattle.dt_cluster.specs.declared.Cluster.{Cluster}
 use Rattle.dt_workload.specs.declared.Workload.{Workload}
@@ -54,7 +55,7 @@ module _ {cluster : Cluster} {workload : Workload} {w : World} {order : List Txn
   nodes_now = length-set w.nodes region n ∙ i.nodes
 
   logs_same : logs_of (with_node w region n) ≡ logs_of w
-  logs_same = map_of_set (λ x. x.log) w.nodes region n no_node same.log
+  logs_same = map-set_same (λ x. x.log) w.nodes region n no_node same.log
 
   subs_same : submissions (with_node w region n) ≡ submissions w
   subs_same = flat_map_of_set (λ x. x.submitted) w.nodes region n no_node same.submitted

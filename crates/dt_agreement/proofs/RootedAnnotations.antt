@@ -1,9 +1,10 @@
 -- Each legal event keeps every annotation rooted in the one history of moves.
 use Rattle.std.proofs.Common.{◌≡◌, ◌<◌, ◌≤◌, ◌+◌, ℕ, zero, suc, List, [], ◌++◌, length, take, slice_get, Some, refl, sym, ap, ap₂, subst, subst₂, ◌∙◌, inl, inr, arith}
 use Rattle.std.proofs.lemmas.List.{take_at, take-append-le}
+use Rattle.std.proofs.lemmas.Option.{slice_get_within}
 use Rattle.dt_lists.specs.Lists.{AllIn, Has, IsFront}
 use Rattle.dt_lists.proofs.Callers.{any_from_at, all_map, all_get, all_put}
-use Rattle.dt_lists.proofs.Callers.{has_place, place_within, at_place, place_in_longer}
+use Rattle.dt_lists.proofs.Callers.{has_place, at_place, place_in_longer}
 use Rattle.dt_access.specs.Clash.{Bytes}
 use Rattle.dt_access.specs.Granules.{unit_of}
 use Rattle.dt_access.specs.declared.Mode.{Mode}
@@ -47,7 +48,7 @@ rooted_kept cluster w v order e f k r = subst (AllIn (λ s. AllIn (λ a. IsRoote
 
 root_within : (logs : View) (t : TxnId) (home : ℕ) (moves : List Moved) (c : ℕ) → HasRoot logs t home moves c → c ≤ length moves
 root_within logs t home moves zero r = omega arith
-root_within logs t home moves (suc c) r = let lt : c < length moves = place_within moves c r.0 r.1 in omega arith
+root_within logs t home moves (suc c) r = let lt : c < length moves = slice_get_within moves c r.0 r.1 in omega arith
 
 root_longer : (logs : View) (t : TxnId) (home : ℕ) (moves rest : List Moved) (c : ℕ) → HasRoot logs t home moves c → HasRoot logs t home (moves ++ rest) c
 root_longer logs t home moves rest zero r = tt
@@ -77,7 +78,7 @@ module _ {cluster : Cluster} {workload : Workload} {w : World} {order : List Txn
       let same : upcoming_id w region ≡ record { seq = p.1 + 1; region = p.0 } = sym r.3 ∙ p.4 in
       let seq : length (node_at w region).submitted + 1 ≡ p.1 + 1 = ap (λ x. x.seq) same in
       let home : region ≡ p.0 = ap (λ x. x.region) same in
-      let lt : p.1 < length (node_at w p.0).submitted = place_within (node_at w p.0).submitted p.1 r.0 p.3 in
+      let lt : p.1 < length (node_at w p.0).submitted = slice_get_within (node_at w p.0).submitted p.1 r.0 p.3 in
       let there : p.1 < length (node_at w region).submitted = subst (λ x. p.1 < length (node_at w x).submitted) (sym home) lt in
       omega arith
 

@@ -3,11 +3,12 @@ use Rattle.std.proofs.Common.{◌≡◌, ◌<◌, ◌⊎◌, ℕ, zero, suc, Boo
 use Rattle.std.proofs.Common.{Some, None, refl, sym, ap, subst, subst₂, ◌∙◌, inl, inr, arith}
 use Rattle.std.specs.Prelude.{Option}
 use Rattle.std.proofs.lemmas.List.{map_push, get_or-set_same, get_or-set_other, set_past}
+use Rattle.std.proofs.Math.Seq.{map-set_same}
 use Rattle.dt_lists.specs.Lists.{AllIn, Has, IsFront, Either}
 use Rattle.dt_lists.proofs.Callers.{any_append, any_image, some_append_left, all_map, all_get, all_put, all_image}
 use Rattle.dt_lists.proofs.Callers.{either_nat, either_le}
 use Rattle.dt_lists.proofs.Callers.{has_before}
-use Rattle.dt_lists.proofs.Callers.{from_right, field_of_set, map_of_set, flat_map_of_set}
+use Rattle.dt_lists.proofs.Callers.{from_right, field_of_set, flat_map_of_set}
 use Rattle.dt_access.specs.Ids.{is_among, StandsBefore}
 use Rattle.dt_access.specs.Clash.{Bytes}
 use Rattle.dt_access.specs.Granules.{unit_of}
@@ -179,13 +180,13 @@ module _ {cluster : Cluster} {workload : Workload} {w : World} {order : List Txn
   -- a step by which a region changes only what it made of the logs
   step_roots : (region : ℕ) (h : Replica) → Rooted cluster (with_node w region (record (node_at w region) { here = h })) order
   step_roots region h = rooted_kept cluster w (with_node w region (record (node_at w region) { here = h })) order
-      (map_of_set (λ n. n.log) w.nodes region (record (node_at w region) { here = h }) no_node refl)
+      (map-set_same (λ n. n.log) w.nodes region (record (node_at w region) { here = h }) no_node refl)
       (flat_map_of_set (λ n. n.submitted) w.nodes region (record (node_at w region) { here = h }) no_node refl)
       (field_of_set (λ n. n.submitted) w.nodes region (record (node_at w region) { here = h }) no_node refl) rooted
 
   received_roots : (region home last : ℕ) → Rooted cluster (received w region home last) order
   received_roots region home last = rooted_kept cluster w (received w region home last) order
-      (map_of_set (λ n. n.log) w.nodes region (record (node_at w region) { received = set (node_at w region).received home last }) no_node refl)
+      (map-set_same (λ n. n.log) w.nodes region (record (node_at w region) { received = set (node_at w region).received home last }) no_node refl)
       (flat_map_of_set (λ n. n.submitted) w.nodes region (record (node_at w region) { received = set (node_at w region).received home last }) no_node refl)
       (field_of_set (λ n. n.submitted) w.nodes region (record (node_at w region) { received = set (node_at w region).received home last }) no_node refl) rooted
 
@@ -219,7 +220,7 @@ module _ {cluster : Cluster} {workload : Workload} (ok : IsValidCluster cluster)
       let k : WasSubmitted w id = executable_known i region id lr may in
       let now : Node = record (node_at w region) { here = stepped cluster.procs (txn_of w) (node_at w region).here (Execute region id) } in
       rooted_kept cluster w (moved_on cluster w region (Execute region id)) (cond (is_among order id) order (order ++ id ∷ []))
-      (map_of_set (λ n. n.log) w.nodes region now no_node refl)
+      (map-set_same (λ n. n.log) w.nodes region now no_node refl)
       (flat_map_of_set (λ n. n.submitted) w.nodes region now no_node refl)
       (field_of_set (λ n. n.submitted) w.nodes region now no_node refl)
       (go (is_among order id) k)

@@ -5,10 +5,11 @@ use Rattle.std.specs.Prelude.{Option, option_map, unwrap_or, slice_index, filter
 use Rattle.std.proofs.lemmas.Bool.{cases_Bool, false_from_ne_true}
 use Rattle.std.proofs.lemmas.List.{length-set, length-append, take-append-le, get_or-set_same, get_or-set_other}
 use Rattle.std.proofs.lemmas.List.Elements.{filter-append}
+use Rattle.std.proofs.Math.Seq.{map-set_same}
 use Rattle.dt_lists.specs.Lists.{AnyIn, AllIn, Has, Either}
 use Rattle.dt_lists.proofs.Callers.{any_put, all_get, all_put}
 use Rattle.dt_lists.proofs.Callers.{either_nat}
-use Rattle.dt_lists.proofs.Callers.{field_of_set, map_of_set, each_of_set, all_more, has_more, has_last, has_longer, has_place, at_place}
+use Rattle.dt_lists.proofs.Callers.{field_of_set, each_of_set, all_more, has_more, has_last, has_longer, has_place, at_place}
 use Rattle.dt_access.specs.Clash.{Bytes, same_key}
 use Rattle.dt_access.specs.declared.TxnId.{TxnId}
 use Rattle.dt_sched.specs.Views.{ids_of}
@@ -110,7 +111,7 @@ module _ {cluster : Cluster} {workload : Workload} {w : World} {order : List Txn
 
   logs_same : logs_of v ≡ logs_of w
   unfolding v n'
-  logs_same = map_of_set (λ n. n.log) w.nodes region n' no_node refl
+  logs_same = map-set_same (λ n. n.log) w.nodes region n' no_node refl
 
   node : node_at v region ≡ n'
   unfolding v n'

@@ -5,10 +5,10 @@ use Rattle.std.specs.Prelude.{Option, slice_index, option_and_then}
 use Rattle.std.proofs.lemmas.Bool.{false_from_ne_true}
 use Rattle.std.proofs.lemmas.List.{length-set, length_push, map-set, map_push, take_more, get_or-set_same, get_or-set_other}
 use Rattle.std.proofs.lemmas.List.Elements.{filter-append}
-use Rattle.std.proofs.lemmas.Option.{get_or_from_slice_get}
+use Rattle.std.proofs.lemmas.Option.{get_or_from_slice_get, slice_get_within}
 use Rattle.dt_lists.specs.Lists.{AllIn, Has, Either}
 use Rattle.dt_lists.proofs.Callers.{either_nat}
-use Rattle.dt_lists.proofs.Callers.{field_of_set, flat_map_of_set, each_of_set, all_more, place_of, has_place, at_place, place_within}
+use Rattle.dt_lists.proofs.Callers.{field_of_set, flat_map_of_set, each_of_set, all_more, place_of, has_place, at_place}
 use Rattle.dt_access.specs.declared.TxnId.{TxnId}
 use Rattle.dt_access.specs.declared.Part.{Part}
 use Rattle.dt_sched.specs.Views.{ids_of, log_at, IsLonger, IsWellFormed}
@@ -120,7 +120,7 @@ module _ {cluster : Cluster} {workload : Workload} {w : World} {order : List Txn
     asked_same s = ap (λ l. get_or l home []) (keeps (λ n. n.here.asked) refl s)
 
     within : taken_of w home source < length (asked_of w source home)
-    within = place_within (asked_of w source home) (taken_of w home source) txn.id next_one
+    within = slice_get_within (asked_of w source home) (taken_of w home source) txn.id next_one
 
     given_now : (s : ℕ) → s < cluster.regions → given_by s (ids_of (log_of v home)) ≡ take (taken_of v home s) (asked_of v s home)
     unfolding part

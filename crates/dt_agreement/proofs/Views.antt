@@ -2,9 +2,9 @@
 use Rattle.std.proofs.Common.{◌≡◌, ◌≢◌, ◌<◌, ◌≤◌, ℕ, zero, suc, List, [], ◌∷◌, ◌++◌, length, set, take, refl, ap, ap₂, subst, ◌∙◌, arith}
 use Rattle.std.specs.Prelude.{slice_index}
 use Rattle.std.proofs.lemmas.List.{take-take, length-map, get_or-set_same, get_or-set_other}
+use Rattle.std.proofs.Math.ListN.{get_or-map}
 use Rattle.dt_lists.specs.Lists.{IsFront}
 use Rattle.dt_lists.proofs.Callers.{front_refl, front_take, front_takes, front_empty, front_append, pairwise_refl}
-use Rattle.dt_lists.proofs.Callers.{get_of_map}
 use Rattle.dt_access.specs.declared.Part.{Part}
 use Rattle.dt_sched.specs.Views.{View, log_at, IsLonger}
 use Rattle.dt_txn.specs.Replica.{fronts}
@@ -39,7 +39,7 @@ grown_longer (log ∷ logs) (suc home) rest = (front_refl log, grown_longer logs
 -- the logs of a world
 
 pub log_is : (w : World) (home : ℕ) → log_at (logs_of w) home ≡ log_of w home
-log_is w home = get_of_map (λ n. n.log) w.nodes home no_node
+log_is w home = get_or-map (λ n. n.log) w.nodes home no_node
 
 pub logs_length : (w : World) → length (logs_of w) ≡ length w.nodes
 logs_length w = length-map w.nodes (λ n. n.log)

@@ -1,6 +1,6 @@
 -- How links hang together after one more: the newest of those that lead from a vertex.
-use Rattle.std.proofs.Common.{◌≡◌, ◌≢◌, ℕ, ◌+◌, ◌<◌, ◌≤◌, ◌∙◌, List, [], ◌∷◌, ◌++◌, length, get_or, set, Option, Some, None, refl, sym, subst, inl, inr, arith, length-append, length-set}
-use Rattle.std.proofs.lemmas.List.{get_or_append_left, get_or_at, get_or-set_same, get_or-set_other}
+use Rattle.std.proofs.Common.{◌≡◌, ◌≢◌, ℕ, ◌+◌, ◌<◌, ◌≤◌, ◌∙◌, List, [], ◌∷◌, ◌++◌, length, get_or, set, Option, Some, None, refl, sym, subst, inl, inr, arith, length-set}
+use Rattle.std.proofs.lemmas.List.{get_or_append_left, get_or_at, get_or-set_same, get_or-set_other, length_push}
 use Rattle.dt_lists.specs.Lists.{Either}
 use Rattle.dt_lists.proofs.Callers.{all_more, either_nat}
 use Rattle.dt_class.specs.LinksInner.{near_end, earlier_link, link_at, IsNewest, AreChained, IsKept}
@@ -14,9 +14,6 @@ link_before links link i lt = get_or_append_left links (link ∷ []) _ i lt
 
 link_last : (links : List Link) (link : Link) → link_at (links ++ link ∷ []) (length links) ≡ link
 link_last links link = get_or_at links link [] _ (length links) refl
-
-length_more : (links : List Link) (link : Link) → length (links ++ link ∷ []) ≡ length links + 1
-length_more links link = length-append links (link ∷ [])
 
 -- among the first n links one more changes nothing
 newest_kept : (way : Way) (links : List Link) (link : Link) (v n : ℕ) (o : Option ℕ) → n ≤ length links → IsNewest way links v n o → IsNewest way (links ++ link ∷ []) v n o
@@ -46,7 +43,7 @@ pub chained_more : (way : Way) (links : List Link) (newest : List (Option ℕ)) 
 chained_more way links newest link v chained near lt earlier =
     record {
       newest_first = λ u within. first u (either_nat u v) (omega (arith, within, length-set newest v (Some (length links))));
-      earlier_next = λ i within. next i (either_nat i (length links)) (omega (arith, within, length_more links link));
+      earlier_next = λ i within. next i (either_nat i (length links)) (omega (arith, within, length_push links link));
     }
   where
     first : (u : ℕ) → Either (u ≡ v) → u < length newest → IsNewest way (links ++ link ∷ []) u (length (links ++ link ∷ [])) (get_or (set newest v (Some (length links))) u None)
@@ -54,10 +51,10 @@ chained_more way links newest link v chained near lt earlier =
         subst
         (λ w. IsNewest way (links ++ link ∷ []) w (length (links ++ link ∷ [])) (get_or (set newest v (Some (length links))) w None))
         (sym e)
-        (rw (get_or-set_same newest v (Some (length links)) None lt) (newest_last way links link v _ near (length_more links link)))
+        (rw (get_or-set_same newest v (Some (length links)) None lt) (newest_last way links link v _ near (length_push links link)))
     first u (inr ne) within =
         rw
-        (get_or-set_other newest v u (Some (length links)) None ne, length_more links link)
+        (get_or-set_other newest v u (Some (length links)) None ne, length_push links link)
         (newest_past way (links ++ link ∷ []) u (length links) (get_or newest u None) (rw (link_last links link) (λ e. ne (sym e ∙ near)))
         (newest_kept way links link u (length links) (get_or newest u None) (omega arith) (chained.newest_first u within)))
 

@@ -4,9 +4,9 @@ use Rattle.std.proofs.Common.{refl, sym, ap, subst, ◌∙◌}
 use Rattle.std.specs.Prelude.{Result}
 use Rattle.std.proofs.lemmas.List.{map-append}
 use Rattle.std.proofs.Math.Seq.{take-append_seam, drop-cons}
+use Rattle.std.proofs.lemmas.Option.{slice_get_within}
 use Rattle.dt_lists.specs.Lists.{AllIn, IsFront}
 use Rattle.dt_lists.proofs.Callers.{front_refl, front_trans, front_append}
-use Rattle.dt_lists.proofs.Callers.{place_within}
 use Rattle.dt_access.specs.Clash.{Bytes}
 use Rattle.dt_proc.specs.declared.tree.Sort.{Sort}
 use Rattle.dt_proc.specs.declared.tree.Stmt.{Stmt}
@@ -28,13 +28,13 @@ pub step_let : (f : Frame) (e : ExprTree) → IsSoundStep f (let_new e) → IsSo
 step_let f e s = (s.2.0, subst (λ n. HasSort (map sort_of_datum f.variables) n e s.2.0) s.1 s.2.1)
 
 pub step_set_key : (f : Frame) (k : ℕ) (e : ExprTree) → IsSoundStep f (set_row k e) → k < length f.rows.0
-step_set_key f k e s = subst (λ n. k < n) s.1 (place_within s.0 k true s.2.0)
+step_set_key f k e s = subst (λ n. k < n) s.1 (slice_get_within s.0 k true s.2.0)
 
 pub step_set_value : (f : Frame) (k : ℕ) (e : ExprTree) → IsSoundStep f (set_row k e) → (s : Sort) × IsStoredSort s × HasSortIn f e s
 step_set_value f k e s = (s.2.1.0, s.2.1.1, subst (λ n. HasSort (map sort_of_datum f.variables) n e s.2.1.0) s.1 s.2.1.2)
 
 pub step_clear_key : (f : Frame) (k : ℕ) → IsSoundStep f (clear_row k) → k < length f.rows.0
-step_clear_key f k s = subst (λ n. k < n) s.1 (place_within s.0 k true s.2.0)
+step_clear_key f k s = subst (λ n. k < n) s.1 (slice_get_within s.0 k true s.2.0)
 
 pub step_gifts : (f : Frame) (gs : List GiveTree) → IsSoundStep f (give_all gs) → AllIn (IsSoundGift (map sort_of_datum f.variables) (length f.rows.0)) gs
 step_gifts f gs s = subst (λ n. AllIn (IsSoundGift (map sort_of_datum f.variables) n) gs) s.1 s.2.0

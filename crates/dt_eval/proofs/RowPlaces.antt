@@ -2,8 +2,8 @@
 use Rattle.std.proofs.Common.{◌≡◌, ℕ, zero, suc, ◌<◌, cond, List, [], ◌∷◌, map, length, get_or, set, refl, sym, ap, ap₂, subst, ◌∙◌, arith}
 use Rattle.std.specs.Prelude.{Option}
 use Rattle.std.proofs.lemmas.List.{get_or-map, length-map, length-set}
+use Rattle.std.proofs.Math.Seq.{map-set_same}
 use Rattle.dt_lists.specs.Lists.{AllIn, EachThen}
-use Rattle.dt_lists.proofs.Callers.{map_of_set}
 use Rattle.dt_text.specs.declared.Value.{Value}
 use Rattle.dt_access.specs.Clash.{Bytes}
 use Rattle.dt_access.specs.Orders.{KeyBefore}
@@ -67,7 +67,7 @@ module _ (rows : List Row) (places : List ℕ) (k p : ℕ) (d : Row) (all : AllI
   change_is v = ap (λ n. with_value n v rows) name_at_place ∙ with_value_at rows p d v place_in_rows each
 
   pub keys_after : (v : Option Value) → keys_in (set rows p (changed v (get_or rows p d))) ≡ keys_in rows
-  keys_after v = map_of_set (λ (r : Row). r.key) rows p (changed v (get_or rows p d)) d refl
+  keys_after v = map-set_same (λ (r : Row). r.key) rows p (changed v (get_or rows p d)) d refl
 
 module _ (rows : List Row) (places : List ℕ) (k p : ℕ) (d : Row) (v : Option Value)
     (all : AllIn (λ q. q < length rows) places) (each : EachThen KeyBefore (keys_in rows)) (below : k < length (names_at places rows)) (is : p ≡ get_or places k p) (item : d ≡ get_or rows p d) where

@@ -2,9 +2,9 @@
 use Rattle.std.proofs.Common.{◌≡◌, ◌+◌, ◌<◌, ◌≤◌, ◌^◌, ◌↔◌, ◌∙◌, ℕ, Bool, true, false, IsTrue, List, [], ◌∷◌, length, get_or, map, slice_get, Some, refl, sym, ap, subst, true≢false, arith}
 use Rattle.std.proofs.Common.{◌==◌, eqb-true, eq-eqb}
 use Rattle.std.proofs.lemmas.List.{length-map}
-use Rattle.std.proofs.lemmas.Option.{get_or_from_slice_get, slice_get-get_or}
+use Rattle.std.proofs.lemmas.Option.{get_or_from_slice_get, slice_get-get_or, slice_get_within}
 use Rattle.dt_lists.specs.Lists.{AnyIn, AllIn, Has, Distinct, EachThen}
-use Rattle.dt_lists.proofs.Callers.{all_get, all_image, all_map, all_put, any_get, any_of_image, any_put, at_place, distinct_within, each_map, each_of_image, few_below, has_map, has_place, place_of, place_within}
+use Rattle.dt_lists.proofs.Callers.{all_get, all_image, all_map, all_put, any_get, any_of_image, any_put, at_place, distinct_within, each_map, each_of_image, few_below, has_map, has_place, place_of}
 use Rattle.dt_access.specs.Ids.{AreAscending}
 use Rattle.dt_access.specs.declared.TxnId.{TxnId}
 use Rattle.dt_access.proofs.Callers.{before_differs}
@@ -54,7 +54,7 @@ no_items (x ∷ xs) e = absurd (omega (arith, e))
 pub blocked_within : (waiting : List Waiting) (list : List ℕ) (graph : AdjView) (blocked : List ℕ) → IsAmong waiting list graph blocked → AllIn (λ v. v < graph.vertices) blocked
 blocked_within waiting list graph blocked a = all_put _ blocked (λ p h.
     let r : (v : ℕ) × (slice_get list p ≡ Some v) × WaitsOutside waiting list v = (a.are_blocked p).0 h in
-    subst (λ n. p < n) (sym a.vertices) (place_within list p r.0 r.1))
+    subst (λ n. p < n) (sym a.vertices) (slice_get_within list p r.0 r.1))
 
 -- so there are few of them
 pub vertices_few : (g : GraphView) (list : List ℕ) → length g.ids < 2 ^ 32 → AllIn (λ v. v < length g.ids) g.stuck → Distinct list → AllIn (Has g.stuck) list → length list < 2 ^ 32
@@ -134,14 +134,14 @@ module _ (view : View) (resolved : List (List TxnId)) (done : List TxnId) (k : I
         }
           where
             by : (u : ℕ) → Leads graph u 0 → (v : ℕ) × (slice_get list 0 ≡ Some v) → u < length list
-            by u l v = let r = place_leads view resolved done k g is list once (λ w h. all_get _ list are.stuck w h) graph blocked a l v.0 v.1 in place_within list u r.0 r.1
+            by u l v = let r = place_leads view resolved done k g is list once (λ w h. all_get _ list are.stuck w h) graph blocked a l v.0 v.1 in slice_get_within list u r.0 r.1
 
         resolved_of : IsResolvable view resolved done ids
         resolved_of = source_resolvable view resolved done k g is list once (λ v h. all_get _ list are.stuck v h) graph blocked a 0 source ids ascending
             (λ t. (
               λ h. let v : (v : ℕ) × Has list v × (id_at g.ids v ≡ t) = any_get _ list (any_of_image (λ y. y ≡ t) (id_at g.ids) list ((members t).1 h)) in
                   let q : (q : ℕ) × (slice_get list q ≡ Some v.0) = place_of list v.0 v.1 in
-                  (q.0, v.0, q.1, v.2, in_class q.0 (place_within list q.0 v.0 q.1)),
+                  (q.0, v.0, q.1, v.2, in_class q.0 (slice_get_within list q.0 v.0 q.1)),
               λ r. (members t).0 (subst (Has (map (id_at g.ids) list)) r.3 (has_map (id_at g.ids) list r.1 (has_place list r.0 r.1 r.2))),
             ))
 

@@ -1,9 +1,9 @@
 -- What a call of finish may do, and what is said of what it did, by what is kept alone.
 use Rattle.std.proofs.Common.{◌≡◌, ◌+◌, ◌<◌, ◌≤◌, ◌⊎◌, ◌↔◌, ◌∙◌, ◌^◌, ℕ, suc, List, [], ◌∷◌, length, map, get_or, set, slice_get, Option, None, Some, refl, sym, ap, subst, inl, inr, arith}
 use Rattle.std.proofs.lemmas.List.{length-map}
-use Rattle.std.proofs.lemmas.Option.{get_or_from_slice_get}
+use Rattle.std.proofs.lemmas.Option.{get_or_from_slice_get, slice_get_within}
 use Rattle.dt_lists.specs.Lists.{Has}
-use Rattle.dt_lists.proofs.Callers.{all_get, few_below, has_place, place_within}
+use Rattle.dt_lists.proofs.Callers.{all_get, few_below, has_place}
 use Rattle.dt_access.specs.declared.TxnId.{TxnId}
 use Rattle.dt_sched.specs.Views.{View, IsClass}
 use Rattle.dt_sched.specs.Decide.{IsExecutable}
@@ -71,7 +71,7 @@ module _ (g : GraphView) (id : TxnId) (r : MayFinish g id) where
   number_there n e i = subst (IsNumberOf g.ids id) e i ((r.5.present id).1 left.0)
 
   pub may_leave_one : (v : ℕ) → slice_get g.ids v ≡ Some id → MayLeave g (v ∷ [])
-  may_leave_one v at = may_leave r.0 r.1 r.2 g r.5 (v ∷ []) (tt, tt) (place_within g.ids v id at, tt) leaves
+  may_leave_one v at = may_leave r.0 r.1 r.2 g r.5 (v ∷ []) (tt, tt) (slice_get_within g.ids v id at, tt) leaves
     where
       leaves : (u : ℕ) → Has (v ∷ []) u → IsLeft r.0 r.2 (id_at g.ids u)
       leaves u (inl e) = subst (λ w. IsLeft r.0 r.2 (id_at g.ids w)) e (subst (IsLeft r.0 r.2) (sym (at_named g.ids v id at)) left)
@@ -81,7 +81,7 @@ module _ (g : GraphView) (id : TxnId) (r : MayFinish g id) where
   may_finish v place at some = record { kept = kept.0; at_place = kept.1; waits = waits; leaves = leaves }
     where
       lt : v < length g.ids
-      lt = place_within g.ids v id at
+      lt = slice_get_within g.ids v id at
 
       named : id_at g.ids v ≡ id
       named = at_named g.ids v id at
@@ -94,7 +94,7 @@ module _ (g : GraphView) (id : TxnId) (r : MayFinish g id) where
 
       waits : kept.0.next < length kept.0.members
       waits = subst (λ n. kept.0.next < n) (length-map kept.0.members (id_at g.ids))
-          (place_within (map (id_at g.ids) kept.0.members) kept.0.next id (next_is r.0 r.1 r.2 id r.3 r.4 g g r.5 v lt named place class.0 kept.0 class.1 kept.1 class.2))
+          (slice_get_within (map (id_at g.ids) kept.0.members) kept.0.next id (next_is r.0 r.1 r.2 id r.3 r.4 g g r.5 v lt named place class.0 kept.0 class.1 kept.1 class.2))
 
       of_class : IsClass r.0 id class.0
       of_class = class_of_resolved r.0 r.1 r.2 class.0 id r.3.sound (has_place r.1 place class.0 class.1) class.2

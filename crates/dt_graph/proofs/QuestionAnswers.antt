@@ -2,9 +2,9 @@
 use Rattle.std.proofs.Common.{◌≡◌, ◌+◌, ◌<◌, ◌≤◌, ◌↔◌, ◌∙◌, ℕ, Bool, true, false, IsTrue, List, [], ◌∷◌, ◌++◌, length, get_or, slice_get, take, Some, sym, ap, subst, true≢false}
 use Rattle.std.specs.List.{list_any}
 use Rattle.std.proofs.lemmas.List.{map_push, take_all, take_more}
-use Rattle.std.proofs.lemmas.Option.{get_or_from_slice_get, slice_get-get_or}
+use Rattle.std.proofs.lemmas.Option.{get_or_from_slice_get, slice_get-get_or, slice_get_within}
 use Rattle.dt_lists.specs.Lists.{AllIn, Has, Distinct}
-use Rattle.dt_lists.proofs.Callers.{all_get, all_more, any_get, has_listed, has_place, listed_has, place_within}
+use Rattle.dt_lists.proofs.Callers.{all_get, all_more, any_get, has_listed, has_place, listed_has}
 use Rattle.dt_access.specs.Ids.{same_id}
 use Rattle.dt_access.specs.declared.TxnId.{TxnId}
 use Rattle.dt_access.proofs.Callers.{id_of_test, same_id_turned, test_of_id}
@@ -63,5 +63,5 @@ module _ (g : GraphView) (ids : List TxnId) (i : ℕ) (t : TxnId) (within : AllI
   pub named_not_stuck : (v : ℕ) → Distinct g.ids → slice_get g.ids v ≡ Some t → ¬ (Has g.stuck v) → AllAreStuck g ids → ⊥
   named_not_stuck v once named out all =
       let u : (u : ℕ) × Has g.stuck u × (id_at g.ids u ≡ t) = stuck_of_all all in
-      out (subst (Has g.stuck) (same_place g.ids u.0 v once (all_get _ g.stuck within u.0 u.1) (place_within g.ids v t named)
+      out (subst (Has g.stuck) (same_place g.ids u.0 v once (all_get _ g.stuck within u.0 u.1) (slice_get_within g.ids v t named)
       (u.2 ∙ sym (get_or_from_slice_get g.ids v t (record { seq = 0; region = 0 }) named))) u.1)

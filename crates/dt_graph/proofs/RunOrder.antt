@@ -7,8 +7,9 @@ use Rattle.std.proofs.lemmas.List.{append-nil, map-append, take_more}
 use Rattle.std.proofs.lemmas.List.Sorted.{IsPermutation-map}
 use Rattle.std.specs.Ordering.{nat_cmp, ordering_then, is_lt}
 use Rattle.std.specs.declared.cmp.Ordering.{Ordering}
+use Rattle.std.proofs.lemmas.Option.{slice_get_within}
 use Rattle.dt_lists.specs.Lists.{AllIn, Has, Distinct, EachThen}
-use Rattle.dt_lists.proofs.Callers.{all_append, all_get, all_put, each_map, each_of_image, each_of_sorted, has_at, permuted_distinct, permuted_has, place_within}
+use Rattle.dt_lists.proofs.Callers.{all_append, all_get, all_put, each_map, each_of_image, each_of_sorted, has_at, permuted_distinct, permuted_has}
 use Rattle.dt_access.specs.Ids.{Before, same_id}
 use Rattle.dt_access.specs.declared.TxnId.{TxnId}
 use Rattle.dt_access.proofs.Callers.{by_parts, compare_less, compare_same, id_of_test, same_by_parts, same_id_turned, test_of_id}
@@ -119,7 +120,7 @@ module _ (g : GraphView) (ids : List TxnId) (members sorted : List Member) (once
 
   within : (ms : List Member) → AllIn (IsMemberOf g) ms → AllIn (λ v. v < length g.ids) (map (λ m. m.vertex) ms)
   within [] all = tt
-  within (m ∷ ms) all = (place_within g.ids m.vertex m.id all.0.0, within ms all.1)
+  within (m ∷ ms) all = (slice_get_within g.ids m.vertex m.id all.0.0, within ms all.1)
 
   distinct_members : Distinct sorted
   distinct_members = permuted_distinct same_member tells told turned members sorted p

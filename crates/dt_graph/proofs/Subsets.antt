@@ -4,9 +4,10 @@ use Rattle.std.proofs.Common.{◌≡◌, ◌≢◌, ◌+◌, ◌<◌, ◌≤◌,
 use Rattle.std.proofs.Common.{None, Some, refl, sym, ap, subst, inl, inr, Bool, true, false, not, is_some, IsTrue, true≢false, arith}
 use Rattle.std.proofs.lemmas.List.{get_or-set_same, get_or-set_other, length-append, length-set}
 use Rattle.std.proofs.Math.ListN.{get_or-append}
+use Rattle.std.proofs.lemmas.Option.{slice_get_within}
 use Rattle.dt_lists.specs.Lists.{AllIn, Has, Distinct}
 use Rattle.dt_lists.proofs.Callers.{all_append, all_append_left, all_get, all_map, all_put, distinct_push, each_append_left, each_across, either_nat, has_last, has_longer, has_more}
-use Rattle.dt_lists.proofs.Callers.{all_set, few_below, has_place, last_place, place_in_longer, place_in_more, place_of, place_within, set_beside, set_here, some_same}
+use Rattle.dt_lists.proofs.Callers.{all_set, few_below, has_place, last_place, place_in_longer, place_in_more, place_of, set_beside, set_here, some_same}
 use Rattle.dt_waits.proofs.Callers.{one_place}
 use Rattle.dt_graph.specs.SubsetInner.{PutsIn, StandsAtPlace, IsSubset, Removes}
 
@@ -116,7 +117,7 @@ module _ (items : List ℕ) (places : List (Option ℕ)) (room : ℕ) (s : IsSub
 
   -- the place of a number that is there, too
   pub found_fits : (place : ℕ) → get_or places number None ≡ Some place → place + 1 < 2 ^ 32
-  found_fits place e = less _ _ _ (place_within items place number (subst (StandsAtPlace items number) e (s.placed number lt))) (few_below (length places) items s.once s.within) s.few
+  found_fits place e = less _ _ _ (slice_get_within items place number (subst (StandsAtPlace items number) e (s.placed number lt))) (few_below (length places) items s.once s.within) s.few
     where
       less : (a b c : ℕ) → a < b → b ≤ c → c < 2 ^ 32 → a + 1 < 2 ^ 32
       less a b c e f g = omega (arith, e, f, g)
@@ -246,7 +247,7 @@ module _ (items : List ℕ) (places : List (Option ℕ)) (room : ℕ) (s : IsSub
             (subst (StandsAtPlace (set front place last) number) (sym (get_or-set_same (set places last (Some place)) number None None (subst (λ m. number < m) (sym (length-set places last (Some place))) lt))) number_gone)
         at n ln (inr ne) (inl l) = subst (StandsAtPlace (set front place last) n) (sym (get_or-set_other (set places last (Some place)) number n None None ne))
             (subst (λ n. StandsAtPlace (set front place last) n (get_or (set places last (Some place)) n None)) (sym l)
-            (subst (StandsAtPlace (set front place last) last) (sym (get_or-set_same places last (Some place) None last_within)) (set_here front place last (place_within front place number at_front))))
+            (subst (StandsAtPlace (set front place last) last) (sym (get_or-set_same places last (Some place) None last_within)) (set_here front place last (slice_get_within front place number at_front))))
         at n ln (inr ne) (inr nl) = subst (StandsAtPlace (set front place last) n) (sym (get_or-set_other (set places last (Some place)) number n None None ne ∙ get_or-set_other places last n (Some place) None nl))
             (beside n ne nl (get_or places n None) (subst (λ l. StandsAtPlace l n (get_or places n None)) is (s.placed n ln)))
 
@@ -265,7 +266,7 @@ module _ (items : List ℕ) (places : List (Option ℕ)) (room : ℕ) (s : IsSub
           | inl h ↦
               let p : (i : ℕ) × (slice_get front i ≡ Some n) = place_of front n h in
               has_place (set front place last) p.0 n (set_beside front place p.0 last (λ e. o.1 (some_same (sym p.1 ∙ ap (slice_get front) e ∙ at_front))) ∙ p.1)
-          | inr e ↦ subst (Has (set front place last)) e (has_place (set front place last) place last (set_here front place last (place_within front place number at_front)))
+          | inr e ↦ subst (Has (set front place last)) e (has_place (set front place last) place last (set_here front place last (slice_get_within front place number at_front)))
         ],
       );
     }

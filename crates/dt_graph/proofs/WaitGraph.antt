@@ -1,9 +1,9 @@
 -- The graph of what waits for what among the vertices of a list, as it is gathered place by place.
 use Rattle.std.proofs.Common.{◌≡◌, ◌+◌, ◌<◌, ◌≤◌, ◌⊎◌, ◌↔◌, ◌∙◌, ℕ, zero, suc, Bool, true, false, IsTrue, List, [], ◌∷◌, ◌++◌, length, get_or, slice_get, Some, refl, sym, ap, subst, inl}
 use Rattle.std.proofs.Common.{inr, true≢false, arith}
-use Rattle.std.proofs.lemmas.Option.{slice_get-get_or}
+use Rattle.std.proofs.lemmas.Option.{slice_get-get_or, slice_get_within}
 use Rattle.dt_lists.specs.Lists.{Has}
-use Rattle.dt_lists.proofs.Callers.{all_get, either_nat, has_last, has_longer, has_more, has_place, place_within, some_same}
+use Rattle.dt_lists.proofs.Callers.{all_get, either_nat, has_last, has_longer, has_more, has_place, some_same}
 use Rattle.dt_class.specs.Graphs.{AdjView, IsEdge}
 use Rattle.dt_queue.specs.Queues.{Waiting}
 use Rattle.dt_waits.specs.Waits.{slots_of}
@@ -46,8 +46,8 @@ pub gathered : (waiting : List Waiting) (list : List ℕ) (place : ℕ) (graph :
     → IsAmong waiting list graph blocked
 gathered waiting list place graph blocked past g = record {
   vertices = g.vertices;
-  edges = λ p q. (λ e. ((g.edges p q).0 e).1, λ r. (g.edges p q).1 (below q (place_within list q r.1 r.3), r));
-  are_blocked = λ p. (λ h. ((g.are_blocked p).0 h).1, λ r. (g.are_blocked p).1 (below p (place_within list p r.0 r.1), r));
+  edges = λ p q. (λ e. ((g.edges p q).0 e).1, λ r. (g.edges p q).1 (below q (slice_get_within list q r.1 r.3), r));
+  are_blocked = λ p. (λ h. ((g.are_blocked p).0 h).1, λ r. (g.are_blocked p).1 (below p (slice_get_within list p r.0 r.1), r));
 }
   where
     below : (q : ℕ) → q < length list → q < place

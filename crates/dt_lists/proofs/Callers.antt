@@ -8,7 +8,7 @@ pub use Rattle.dt_lists.proofs.Distinct.{distinct_push, distinct_within, few_bel
 pub use Rattle.dt_lists.proofs.Keys.{HasKeyBefore, key_before_irreflexive, key_before_transitive, key_first, key_second, some_in_front}
 pub use Rattle.dt_lists.proofs.Fronts.{all_front, any_front, each_front, front_append, front_empty, front_map, front_refl, front_take, front_takes}
 pub use Rattle.dt_lists.proofs.Fronts.{front_length, front_trans, pairwise_any, pairwise_at, pairwise_length, pairwise_more, pairwise_refl, some_back, some_front}
-pub use Rattle.dt_lists.proofs.Tests.{any_of_test, either_side, test_of_any, true_of_not}
+pub use Rattle.dt_lists.proofs.Tests.{any_of_test, test_of_any}
 pub use Rattle.dt_lists.proofs.Decided.{either_all, either_and, either_and3, either_any, either_has, either_implies, either_le, either_list}
 pub use Rattle.dt_lists.proofs.Decided.{either_nat, either_not, either_or, either_same, either_some, either_true}
 pub use Rattle.dt_lists.proofs.Least.{IsMinimal, least}
@@ -17,9 +17,9 @@ pub use Rattle.dt_lists.proofs.Before.{PassesAtFront, Spot, all_of_gets, before_
 pub use Rattle.dt_lists.proofs.Before.{get_filtered, get_front, get_seam, has_before, has_middle, if_passes, same_by_key, some_each, spot, spot_has}
 pub use Rattle.dt_lists.proofs.Filters.{filter_all, filter_before, filter_each, filter_whole, has_filter, of_filter}
 pub use Rattle.dt_lists.proofs.Places.{all_more, any_in_joined, any_of_joined, at_place, distinct_by_key, each_of_set, field_of_set, flat_map_of_set}
-pub use Rattle.dt_lists.proofs.Places.{from_right, get_of_map, get_of_replicate, has_at, has_last, has_longer, has_more, has_of_filtered, has_place, length_more}
-pub use Rattle.dt_lists.proofs.Places.{all_index, all_set, has_dropped, last_place, map_of_set, none_in_empty, rest_from, one_place, place_in_longer, place_in_more, place_of, place_within}
+pub use Rattle.dt_lists.proofs.Places.{from_right, get_of_replicate, has_at, has_last, has_longer, has_more, has_of_filtered, has_place}
+pub use Rattle.dt_lists.proofs.Places.{all_index, all_set, has_dropped, last_place, none_in_empty, rest_from, one_place, place_in_longer, place_in_more, place_of}
 pub use Rattle.dt_lists.proofs.Chains.{chain_before, chain_decided, chain_join, chain_keeps, chain_map, chain_step, chain_takes_back, chain_turned}
-pub use Rattle.dt_lists.proofs.Changes.{joined_more, joined_none, none_some, same_head, same_rest, same_tail, set_apart, set_beside, set_here, set_set, some_same}
+pub use Rattle.dt_lists.proofs.Changes.{joined_more, joined_none, none_some, same_head, same_rest, same_tail, set_beside, set_here, some_same}
 pub use Rattle.dt_lists.proofs.Sums.{sum_mapped}
 pub use Rattle.dt_lists.proofs.Sorted.{each_of_sorted, has_listed, listed_has, permuted_apart, permuted_distinct, permuted_has}

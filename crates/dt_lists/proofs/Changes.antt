@@ -16,20 +16,6 @@ set_beside (z ∷ xs) zero (suc j) y ne = refl
 set_beside (z ∷ xs) (suc i) zero y ne = refl
 set_beside (z ∷ xs) (suc i) (suc j) y ne = set_beside xs i j y (λ e. ne (ap suc e))
 
--- of two items put at one place the later one stays
-pub set_set : {A : Type 0} (xs : List A) (i : ℕ) (x y : A) → set (set xs i x) i y ≡ set xs i y
-set_set [] i x y = refl
-set_set (z ∷ xs) zero x y = refl
-set_set (z ∷ xs) (suc i) x y = ap (λ l. z ∷ l) (set_set xs i x y)
-
--- items are put at two places in either order
-pub set_apart : {A : Type 0} (xs : List A) (i j : ℕ) (x y : A) → i ≢ j → set (set xs i x) j y ≡ set (set xs j y) i x
-set_apart [] i j x y n = refl
-set_apart (z ∷ xs) zero zero x y n = absurd (n refl)
-set_apart (z ∷ xs) zero (suc j) x y n = refl
-set_apart (z ∷ xs) (suc i) zero x y n = refl
-set_apart (z ∷ xs) (suc i) (suc j) x y n = ap (λ l. z ∷ l) (set_apart xs i j x y (λ e. n (ap suc e)))
-
 -- equal lists begin alike and go on alike
 pub same_head : {A : Type 0} {x y : A} {xs ys : List A} → x ∷ xs ≡ y ∷ ys → x ≡ y
 same_head e = cc

@@ -1,6 +1,6 @@
 -- Lists by place: an item is put in or added at the end; and what is said of a list by its last item.
-use Rattle.std.proofs.Common.{◌≡◌, ◌<◌, ◌⊎◌, ℕ, zero, suc, Bool, true, false, List, [], ◌∷◌, ◌++◌, length, get_or, drop, set, replicate, slice_index_or, map}
-use Rattle.std.proofs.Common.{flat_map, slice_get, take, ◌+◌, ◌-◌, Some, refl, sym, ap, subst, inl, inr, append_assoc, append-nil, length-append, length-drop, arith}
+use Rattle.std.proofs.Common.{◌≡◌, ◌<◌, ◌⊎◌, ℕ, zero, suc, Bool, true, false, List, [], ◌∷◌, ◌++◌, length, get_or, drop, set, replicate, slice_index_or}
+use Rattle.std.proofs.Common.{flat_map, slice_get, take, ◌-◌, Some, refl, sym, ap, subst, inl, inr, append_assoc, append-nil, length-drop, arith}
 use Rattle.std.specs.Prelude.{filter}
 use Rattle.std.proofs.lemmas.Bool.{cases_Bool}
 use Rattle.std.proofs.lemmas.List.{take_all}
@@ -16,10 +16,6 @@ from_right {A = A} P none more xs = go [] xs none
     go front [] p = subst P (sym (append-nil front)) p
     go front (x ∷ rest) p = subst P (append_assoc front (x ∷ []) rest) (go (front ++ x ∷ []) rest (more front x p))
 
--- a list with one more item at its end is longer by one
-pub length_more : {A : Type 0} (xs : List A) (x : A) → length (xs ++ x ∷ []) ≡ length xs + 1
-length_more xs x = length-append xs (x ∷ [])
-
 -- the rest of a list from a place on, as a slice has it
 pub rest_from : {A : Type 0} (xs : List A) (i : ℕ) → take (length xs - i) (drop i xs) ≡ drop i xs
 rest_from xs i = take_all (length xs - i) (drop i xs) (omega (arith, length-drop i xs))
@@ -33,22 +29,11 @@ field_of_set f (y ∷ ys) zero x d e (suc j) = refl
 field_of_set f (y ∷ ys) (suc i) x d e zero = refl
 field_of_set f (y ∷ ys) (suc i) x d e (suc j) = field_of_set f ys i x d e j
 
-pub map_of_set : {A B : Type 0} (f : A → B) (xs : List A) (i : ℕ) (x d : A) → f x ≡ f (get_or xs i d) → map f (set xs i x) ≡ map f xs
-map_of_set f [] i x d e = refl
-map_of_set f (y ∷ ys) zero x d e = ap (λ z. z ∷ map f ys) e
-map_of_set f (y ∷ ys) (suc i) x d e = ap (λ zs. f y ∷ zs) (map_of_set f ys i x d e)
-
 pub flat_map_of_set : {A B : Type 0} (f : A → List B) (xs : List A) (i : ℕ) (x d : A) → f x ≡ f (get_or xs i d) → flat_map f (set xs i x) ≡ flat_map f xs
 flat_map_of_set f [] i x d e = refl
 flat_map_of_set f (y ∷ ys) zero x d e = ap (λ z. z ++ flat_map f ys) e
 flat_map_of_set f (y ∷ ys) (suc i) x d e = ap (λ zs. f y ++ zs) (flat_map_of_set f ys i x d e)
 
-pub get_of_map : {A B : Type 0} (f : A → B) (xs : List A) (i : ℕ) (d : A) → get_or (map f xs) i (f d) ≡ f (get_or xs i d)
-get_of_map f [] i d = refl
-get_of_map f (y ∷ ys) zero d = refl
-get_of_map f (y ∷ ys) (suc i) d = get_of_map f ys i d
-
--- where one item stands at every place, it is what is read at each, past the end too
 pub get_of_replicate : {A : Type 0} (n i : ℕ) (d : A) → get_or (replicate n d) i d ≡ d
 get_of_replicate zero i d = refl
 get_of_replicate (suc n) zero d = refl
@@ -83,11 +68,6 @@ pub has_at : {A : Type 0} (xs : List A) (i : ℕ) (d : A) → i < length xs → 
 has_at [] i d lt = absurd (omega arith)
 has_at (y ∷ ys) zero d lt = inl refl
 has_at (y ∷ ys) (suc i) d lt = inr (has_at ys i d (omega arith))
-
-pub place_within : {A : Type 0} (xs : List A) (i : ℕ) (x : A) → slice_get xs i ≡ Some x → i < length xs
-place_within [] i x e = cc
-place_within (y ∷ ys) zero x e = omega arith
-place_within (y ∷ ys) (suc i) x e = let r : i < length ys = place_within ys i x e in omega arith
 
 pub at_place : {A : Type 0} (xs : List A) (i : ℕ) → i < length xs → (x : A) × (slice_get xs i ≡ Some x)
 at_place [] i lt = absurd (omega arith)

@@ -3,10 +3,10 @@ use Rattle.std.proofs.Common.{◌≡◌, ◌≢◌, ◌<◌, ◌≤◌, ◌+◌,
 use Rattle.std.proofs.Common.{Some, None, refl, sym, ap, subst, ◌∙◌, inl, inr, arith, ltb-true}
 use Rattle.std.specs.Prelude.{Option, sum, sum_by, slice_index}
 use Rattle.std.proofs.lemmas.Bool.{and_parts}
-use Rattle.std.proofs.lemmas.List.{length_push, length-set}
+use Rattle.std.proofs.lemmas.List.{length_push, length-set, set_comm}
 use Rattle.std.proofs.lemmas.List.Sums.{sum_by-set}
 use Rattle.dt_lists.specs.Lists.{Either, Has}
-use Rattle.dt_lists.proofs.Callers.{either_nat, set_apart}
+use Rattle.dt_lists.proofs.Callers.{either_nat}
 use Rattle.dt_access.specs.Clash.{Bytes}
 use Rattle.dt_access.specs.declared.TxnId.{TxnId}
 use Rattle.dt_events.specs.declared.Event.{Event}
@@ -177,7 +177,7 @@ module _ (cluster : Cluster) (ok : IsValidCluster cluster) (workload : Workload)
               (sum (set (set (node_at w region).received home last) region (length (node_at w region).log)))
               (sum (node_at w region).here.inserted) (length (node_at w region).here.resolved) (length (node_at w region).here.done)
               (subst (λ xs. sum (set (node_at w region).received region (length (node_at w region).log)) < sum xs)
-              (sym (set_apart (node_at w region).received home region last (length (node_at w region).log) n))
+              (sym (set_comm (node_at w region).received home region last (length (node_at w region).log) n))
               (raise_at (set (node_at w region).received region (length (node_at w region).log)) home last
               (subst (λ m. home < m) (sym (length-set (node_at w region).received region (length (node_at w region).log) ∙ (g.inv.sized region lr).received)) l.regions.1) below)))
 

@@ -7,7 +7,7 @@ use Rattle.std.proofs.lemmas.Option.{same_Some, slice_get-get_or}
 use Rattle.slab.specs.Slab.{Updates, get, entries, entries_from}
 use Rattle.dt_lists.specs.Lists.{AnyIn, EachThen, Has, IsFront}
 use Rattle.dt_lists.proofs.Callers.{all_get, any_get, any_image, any_of_image, any_of_test, any_put, ascending_same, each_image, filter_each, has_filter, has_map, has_of_filtered, one_place}
-use Rattle.dt_lists.proofs.Callers.{test_of_any, either_side}
+use Rattle.dt_lists.proofs.Callers.{test_of_any}
 use Rattle.dt_access.specs.Clash.{Bytes, is_whole, may_change}
 use Rattle.dt_access.proofs.Callers.{clash_cases, uses_of_granule, uses_of_row}
 use Rattle.dt_queue.specs.declared.cell.Cell.{Cell}
@@ -16,6 +16,7 @@ use Rattle.dt_queue.specs.declared.kept.Kept.{Kept}
 use Rattle.dt_queue.specs.declared.rows.Rows.{Rows}
 use Rattle.dt_access.specs.declared.access.Mode.{Mode}
 use Rattle.std.proofs.lemmas.List.{get_or_append_left, map-append}
+use Rattle.std.proofs.lemmas.Bool.{and_from, and_parts, or_cases, or_left, or_right}
 use Rattle.dt_queue.specs.KeptInner.{AddsCell, CellsClash, AreQueuesKept, IsNearMark, IsNextMark, entry, in_order, mark_of, waiting_of}
 use Rattle.dt_queue.specs.LanesInner.{AreMarks}
 use Rattle.dt_queue.specs.NextInner.{IsFirstAfter}
@@ -23,25 +24,6 @@ use Rattle.dt_queue.specs.Queues.{IsQueued, Waiting, follower_of, followers_afte
 use Rattle.dt_queue.specs.RowsInner.{granule_at, granule_name, name_at}
 use Rattle.dt_queue.proofs.InOrder.{IsListed, Rise, listed, listed_less, listed_more, same_list}
 use Rattle.dt_queue.proofs.EntryLists.{Slots, after_is, before_is, entry_is, greater, lesser, meets, near_in, near_rises, nearest_is, of_near, slots_of_list, to_near, without_is}
-
-or_one : (s t : Bool) → (s ≡ true) ⊎ (t ≡ true) → (s || t) ≡ true
-or_one true t e = refl
-or_one false true e = refl
-or_one false false (inl e) = cc
-or_one false false (inr e) = cc
-
-and_both : (s t : Bool) → s ≡ true → t ≡ true → (s && t) ≡ true
-and_both true true e f = refl
-and_both true false e f = cc
-and_both false t e f = cc
-
-and_left : (s t : Bool) → (s && t) ≡ true → s ≡ true
-and_left true t e = refl
-and_left false t e = cc
-
-and_right : (s t : Bool) → (s && t) ≡ true → t ≡ true
-and_right true t e = e
-and_right false t e = cc
 
 module _ (k : Kept) (kept : AreQueuesKept k) where
   -- ---- cells clash where their entries do
@@ -64,19 +46,19 @@ module _ (k : Kept) (kept : AreQueuesKept k) where
   meets_of : (p q : ℕ × Cell) → p.1.row < length k.rows.names.keys → q.1.row < length k.rows.names.keys → CellsClash k.rows p.1 q.1 → meets k.rows.names.keys p q ≡ true
   meets_of p q a b (inl c) =
       let name : name_at k.rows.names.keys p.1.row ≡ name_at k.rows.names.keys q.1.row = ap (name_at k.rows.names.keys) c.0 in
-      and_both _ _ (eq-eqb _ _ (ap (λ (n : ℕ × Bytes). n.0) name))
-      (uses_of_row ((name_at k.rows.names.keys p.1.row).1, p.1.mode) ((name_at k.rows.names.keys q.1.row).1, q.1.mode) (ap (λ (n : ℕ × Bytes). n.1) name) (or_one (may_change p.1.mode) (may_change q.1.mode) c.1))
+      and_from _ _ (eq-eqb _ _ (ap (λ (n : ℕ × Bytes). n.0) name))
+      (uses_of_row ((name_at k.rows.names.keys p.1.row).1, p.1.mode) ((name_at k.rows.names.keys q.1.row).1, q.1.mode) (ap (λ (n : ℕ × Bytes). n.1) name) (elim c.1 [ inl e ↦ or_left _ (may_change q.1.mode) e | inr e ↦ or_right (may_change p.1.mode) _ e ]))
   meets_of p q a b (inr c) =
       let name = same_name p.1.row q.1.row a b c.0 in
-      and_both _ _ (eq-eqb _ _ (ap (λ (n : ℕ × Bytes). n.0) name))
-      (uses_of_granule ((name_at k.rows.names.keys p.1.row).1, p.1.mode) ((name_at k.rows.names.keys q.1.row).1, q.1.mode) (ap (λ (n : ℕ × Bytes). n.1) name) (or_one (is_whole p.1.mode) (is_whole q.1.mode) c.1))
+      and_from _ _ (eq-eqb _ _ (ap (λ (n : ℕ × Bytes). n.0) name))
+      (uses_of_granule ((name_at k.rows.names.keys p.1.row).1, p.1.mode) ((name_at k.rows.names.keys q.1.row).1, q.1.mode) (ap (λ (n : ℕ × Bytes). n.1) name) (elim c.1 [ inl e ↦ or_left _ (is_whole q.1.mode) e | inr e ↦ or_right (is_whole p.1.mode) _ e ]))
 
   of_meets : (p q : ℕ × Cell) → p.1.row < length k.rows.names.keys → q.1.row < length k.rows.names.keys → meets k.rows.names.keys p q ≡ true → CellsClash k.rows p.1 q.1
   of_meets p q a b e =
-      let home : (name_at k.rows.names.keys p.1.row).0 ≡ (name_at k.rows.names.keys q.1.row).0 = eqb-true _ _ (and_left _ _ e) in
-      elim (clash_cases ((name_at k.rows.names.keys p.1.row).1, p.1.mode) ((name_at k.rows.names.keys q.1.row).1, q.1.mode) (and_right _ _ e)) [
-        | inl c ↦ inl (one_row p.1.row q.1.row a b (λ i. (home i, c.0 i)), either_side (may_change p.1.mode) (may_change q.1.mode) c.1)
-        | inr c ↦ inr (one_granule p.1.row q.1.row a b (λ i. (home i, c.0 i)), either_side (is_whole p.1.mode) (is_whole q.1.mode) c.1)
+      let home : (name_at k.rows.names.keys p.1.row).0 ≡ (name_at k.rows.names.keys q.1.row).0 = eqb-true _ _ (and_parts _ _ e).0 in
+      elim (clash_cases ((name_at k.rows.names.keys p.1.row).1, p.1.mode) ((name_at k.rows.names.keys q.1.row).1, q.1.mode) (and_parts _ _ e).1) [
+        | inl c ↦ inl (one_row p.1.row q.1.row a b (λ i. (home i, c.0 i)), or_cases (may_change p.1.mode) (may_change q.1.mode) c.1)
+        | inr c ↦ inr (one_granule p.1.row q.1.row a b (λ i. (home i, c.0 i)), or_cases (is_whole p.1.mode) (is_whole q.1.mode) c.1)
       ]
 
   -- ---- the list of what waits

@@ -2,6 +2,7 @@
 use Rattle.std.proofs.Common.{◌≡◌, ◌≢◌, ℕ, ◌<◌, ◌≤◌, Bool, true, false, cond, not, ◌==◌, ◌&&◌, ◌||◌, eqb-true, lt-ltb}
 use Rattle.std.proofs.Common.{nat_lt, List, [], ◌∷◌, map, Some, refl, ap, sym, subst, inl, inr, arith, ◌∙◌}
 use Rattle.std.specs.List.{filter, list_any}
+use Rattle.std.proofs.lemmas.Bool.{and_from, and_parts}
 use Rattle.slab.specs.Slab.{Slab, get}
 use Rattle.dt_lists.specs.Lists.{AllIn, EachThen, Has}
 use Rattle.dt_lists.proofs.Callers.{all_get, all_map, all_put, any_of_test, any_put, any_get, test_of_any, filter_none}
@@ -174,19 +175,6 @@ module _ (names : List (ℕ × Bytes)) where
   abbrev pub IsFreeOfBoth : ℕ × Cell → List (ℕ × Cell) → ℕ × Cell → Type 0
   IsFreeOfBoth x B b = (m : ℕ × Cell) → Has B m → b.1.number < m.1.number → meets b m ≡ true → ¬ (meets m x ≡ true)
 
-  and_both : (s t : Bool) → s ≡ true → t ≡ true → (s && t) ≡ true
-  and_both true true e f = refl
-  and_both true false e f = cc
-  and_both false t e f = cc
-
-  and_left : (s t : Bool) → (s && t) ≡ true → s ≡ true
-  and_left true t e = refl
-  and_left false t e = cc
-
-  and_right : (s t : Bool) → (s && t) ≡ true → t ≡ true
-  and_right true t e = e
-  and_right false t e = cc
-
   not_true : (t : Bool) → not t ≡ true → t ≡ true → ⊥
   not_true true e f = cc
   not_true false e f = cc
@@ -197,11 +185,11 @@ module _ (names : List (ℕ × Bytes)) where
 
   free_of : (x b : ℕ × Cell) (later : List (ℕ × Cell)) → is_free x b later ≡ true → (m : ℕ × Cell) → Has later m → meets b m ≡ true → ¬ (meets m x ≡ true)
   free_of x b later e m h s t =
-      not_true _ e (test_of_any (λ m. meets b m && meets m x) later (any_put (λ m. (meets b m && meets m x) ≡ true) later m h (and_both (meets b m) (meets m x) s t)))
+      not_true _ e (test_of_any (λ m. meets b m && meets m x) later (any_put (λ m. (meets b m && meets m x) ≡ true) later m h (and_from (meets b m) (meets m x) s t)))
 
   free_to : (x b : ℕ × Cell) (later : List (ℕ × Cell)) → ((m : ℕ × Cell) → Has later m → meets b m ≡ true → ¬ (meets m x ≡ true)) → is_free x b later ≡ true
   free_to x b later f = true_of_not _ (λ e. let r = any_get (λ m. (meets b m && meets m x) ≡ true) later (any_of_test (λ m. meets b m && meets m x) later e) in
-      f r.0 r.1 (and_left (meets b r.0) (meets r.0 x) r.2) (and_right (meets b r.0) (meets r.0 x) r.2))
+      f r.0 r.1 (and_parts (meets b r.0) (meets r.0 x) r.2).0 (and_parts (meets b r.0) (meets r.0 x) r.2).1)
 
   pub of_near : (x : ℕ × Cell) (B : List (ℕ × Cell)) → EachThen Rise B → (b : ℕ × Cell) → Has (near_in x B) b → Has B b × (meets b x ≡ true) × IsFreeOfBoth x B b
   of_near x [] num b h = absurd h
@@ -220,8 +208,8 @@ module _ (names : List (ℕ × Bytes)) where
           → Has (y ∷ later) b × (meets b x ≡ true) × IsFreeOfBoth x (y ∷ later) b
       by true e (inl f) rest = (
         inl f,
-        subst (λ z. meets z x ≡ true) f (and_left _ _ e),
-        subst (IsFreeOfBoth x (y ∷ later)) f (λ m g lt s. elim g [ inl same ↦ absurd (self m same lt) | inr k ↦ free_of x y later (and_right (meets y x) _ e) m k s ]),
+        subst (λ z. meets z x ≡ true) f (and_parts _ _ e).0,
+        subst (IsFreeOfBoth x (y ∷ later)) f (λ m g lt s. elim g [ inl same ↦ absurd (self m same lt) | inr k ↦ free_of x y later (and_parts (meets y x) _ e).1 m k s ]),
       )
         where
           self : (m : ℕ × Cell) → y ≡ m → y.1.number < m.1.number → ⊥
@@ -234,7 +222,7 @@ module _ (names : List (ℕ × Bytes)) where
   to_near x (y ∷ later) num b h e free = by (meets y x && is_free x y later) refl h (λ g. to_near x later num.1 b g e (λ m k. free m (inr k)))
     where
       passes : y ≡ b → (meets y x && is_free x y later) ≡ true
-      passes f = and_both (meets y x) (is_free x y later) (subst (λ z. meets z x ≡ true) (sym f) e)
+      passes f = and_from (meets y x) (is_free x y later) (subst (λ z. meets z x ≡ true) (sym f) e)
           (free_to x y later (λ m k s. subst (λ z. z.1.number < m.1.number → meets z m ≡ true → ¬ (meets m x ≡ true)) (sym f) (free m (inr k)) (all_get (Rise y) later num.0 m k) s))
 
       by : (t : Bool) → (meets y x && is_free x y later) ≡ t → Has (y ∷ later) b → (Has later b → Has (near_in x later) b) → Has (cond t (y ∷ near_in x later) (near_in x later)) b

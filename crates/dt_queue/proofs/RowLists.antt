@@ -1,20 +1,17 @@
 -- How rows and granules stay tied when one of them is added.
 use Rattle.std.proofs.Common.{◌≡◌, ◌⊎◌, ℕ, suc, ◌+◌, ◌<◌, Bool, true, false, cond, ◌&&◌, ◌==◌, List, [], ◌∷◌}
-use Rattle.std.proofs.Common.{◌++◌, length, get_or, slice_get, Some, None, refl, ap, sym, subst, inl, inr, arith, ◌∙◌, length-append}
+use Rattle.std.proofs.Common.{◌++◌, length, get_or, slice_get, Some, None, refl, ap, sym, subst, inl, inr, arith, ◌∙◌}
 use Rattle.std.specs.List.{list_any, position, position_from}
 use Rattle.std.proofs.lemmas.Iterator.Adapters.{position_from-zero}
 use Rattle.std.specs.Cmp.Lexicographic.{bytes_decides}
-use Rattle.std.proofs.lemmas.Bool.{and_parts}
-use Rattle.std.proofs.lemmas.List.{get_or_append_left}
+use Rattle.std.proofs.lemmas.Bool.{and_from, and_parts}
+use Rattle.std.proofs.lemmas.List.{get_or_append_left, length_push}
 use Rattle.std.proofs.Math.Seq.{get_or-append_seam}
 use Rattle.dt_lists.specs.Lists.{Has}
 use Rattle.dt_lists.proofs.Callers.{any_get, any_of_test, distinct_push, place_in_longer}
 use Rattle.dt_access.specs.Clash.{Bytes, same_key}
 use Rattle.dt_access.proofs.Callers.{same_key_self}
 use Rattle.dt_queue.specs.RowsInner.{AreTied, granule_name, name_at}
-
-one_more : {A : Type 0} (xs : List A) (x : A) → length (xs ++ x ∷ []) ≡ length xs + 1
-one_more xs x = length-append xs (x ∷ [])
 
 -- a granule was added
 pub tied_granule : (names granules : List (ℕ × Bytes)) (gof : List ℕ) (name : ℕ × Bytes) → AreTied names granules gof → ¬ (Has granules name) → AreTied names (granules ++ name ∷ []) gof
@@ -31,12 +28,12 @@ pub tied_row : (names granules : List (ℕ × Bytes)) (gof : List ℕ) (name : �
 tied_row names granules gof name g t fresh there = record {
   names_once = distinct_push names name t.names_once fresh;
   granules_once = t.granules_once;
-  each_row = one_more gof g ∙ ap (λ n. n + 1) t.each_row ∙ sym (one_more names name);
+  each_row = length_push gof g ∙ ap (λ n. n + 1) t.each_row ∙ sym (length_push names name);
   granule = λ row lt. granule row (sides row lt);
 }
   where
     sides : (row : ℕ) → row < length (names ++ name ∷ []) → (row < length names) ⊎ (row ≡ length names)
-    sides row lt = grind (arith, lt, one_more names name)
+    sides row lt = grind (arith, lt, length_push names name)
 
     old_granule : (row : ℕ) → row < length names → get_or (gof ++ g ∷ []) row 0 ≡ get_or gof row 0
     old_granule row lt = get_or_append_left gof (g ∷ []) 0 row (omega (arith, lt, t.each_row))
@@ -65,12 +62,7 @@ same_of_test a b e =
     (λ i. (home i, key i))
 
 test_of_self : (a : ℕ × Bytes) → same_name a a ≡ true
-test_of_self a = both (a.0 == a.0) (same_key a.1 a.1) (grind arith) (same_key_self a.1)
-  where
-    both : (s t : Bool) → s ≡ true → t ≡ true → (s && t) ≡ true
-    both true true e f = refl
-    both true false e f = cc
-    both false t e f = cc
+test_of_self a = and_from (a.0 == a.0) (same_key a.1 a.1) (grind arith) (same_key_self a.1)
 
 -- the place that a search for a name gives
 named_from : (name : ℕ × Bytes) (xs : List (ℕ × Bytes)) (start i : ℕ) → Some i ≡ position_from (same_name name) start xs → (j : ℕ) × (i ≡ start + j) × (slice_get xs j ≡ Some name)

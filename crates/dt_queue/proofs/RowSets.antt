@@ -2,15 +2,17 @@
 use Rattle.std.proofs.Common.{◌≡◌, ◌≢◌, ◌⊎◌, ◌↔◌, ℕ, zero, suc, ◌<◌, ◌≤◌, List, [], ◌∷◌, ◌++◌, map, length, get_or, set, slice_get, slice_index_or}
 use Rattle.std.proofs.Common.{Option, None, Some, Bool, true, false, is_some, refl, ap, sym, subst, inl, inr, arith, ◌∙◌}
 use Rattle.std.proofs.lemmas.List.{get_or_read, get_or-set_other, get_or-set_same, length-map, map-set}
+use Rattle.std.proofs.Math.ListN.{get_or-map}
+use Rattle.std.proofs.lemmas.Option.{slice_get_within}
 use Rattle.dt_lists.specs.Lists.{Distinct, Has}
-use Rattle.dt_lists.proofs.Callers.{all_put, either_nat, get_of_map, has_last, has_longer, has_more, has_place, last_place, place_in_longer, place_in_more, place_of, place_within}
+use Rattle.dt_lists.proofs.Callers.{all_put, either_nat, has_last, has_longer, has_more, has_place, last_place, place_in_longer, place_in_more, place_of}
 use Rattle.dt_lists.proofs.Callers.{set_beside, set_here, some_same}
 use Rattle.dt_queue.specs.InUseInner.{AreAtSpots, InUseView, IsSpotOf, rows_at}
 use Rattle.dt_queue.specs.declared.spot.Spot.{Spot}
 
 -- what is said of an item of a list
 pub told_at : {A B : Type 0} (xs : List A) (f : A → B) (i : ℕ) (x : A) (d : B) → i < length xs → x ≡ slice_index_or xs i x → f x ≡ get_or (map f xs) i d
-told_at xs f i x d lt e = get_or_read (map f xs) i (f x) (rw (length-map xs f) lt) (ap f e ∙ sym (get_of_map f xs i x)) d
+told_at xs f i x d lt e = get_or_read (map f xs) i (f x) (rw (length-map xs f) lt) (ap f e ∙ sym (get_or-map f xs i x)) d
 
 -- an item took the place of another: what is said of it, and of the others
 pub told_here : {A B : Type 0} (xs : List A) (f : A → B) (i : ℕ) (x : A) (d : B) → i < length xs → get_or (map f (set xs i x)) i d ≡ f x
@@ -57,7 +59,7 @@ once_each (x ∷ xs) one = (
 
 -- what stands at a place does not stand past the end
 below_end : (xs : List ℕ) (i x : ℕ) → slice_get xs i ≡ Some x → i ≢ length xs
-below_end xs i x e s = let lt : i < length xs = place_within xs i x e in omega (arith, lt, s)
+below_end xs i x e s = let lt : i < length xs = slice_get_within xs i x e in omega (arith, lt, s)
 
 -- a test of a spot says whether its row is in use
 pub in_use_by : (u : InUseView) (row : ℕ) (r : Option Spot) (b : Bool) → IsSpotOf u row r → b ≡ is_some r → b ≡ true → (g : ℕ) × Has (rows_at u g) row
@@ -84,7 +86,7 @@ module _ (lists : List (List ℕ)) (spots : List Spot) (kept : AreAtSpots lists 
   pub no_spot : (row : ℕ) → length spots ≤ row → (g : ℕ) → ¬ (Has (get_or lists g []) row)
   no_spot row le g h =
       let p : (i : ℕ) × (slice_get (get_or lists g []) i ≡ Some row) = place_of (get_or lists g []) row h in
-      let lt : row < length spots = place_within spots row _ (kept g p.0 row p.1) in
+      let lt : row < length spots = slice_get_within spots row _ (kept g p.0 row p.1) in
       absurd (omega (arith, le, lt))
 
   pub not_at_spot : (row : ℕ) (s : Spot) → slice_get spots row ≡ Some s → slice_get (get_or lists s.granule []) s.place ≢ Some row → (g : ℕ) → ¬ (Has (get_or lists g []) row)
@@ -200,7 +202,7 @@ module _ (lists : List (List ℕ)) (spots : List Spot) (kept : AreAtSpots lists 
       in_front = elim (place_in_more front last s.place row (subst (λ l. slice_get l s.place ≡ Some row) split there)) [ inl e ↦ e | inr b ↦ absurd (ne b.1) ]
 
       fits : s.place < length front
-      fits = place_within front s.place row in_front
+      fits = slice_get_within front s.place row in_front
 
       here : slice_get new s.place ≡ Some last
       here = subst (λ l. slice_get l s.place ≡ Some last) (sym is) (set_here front s.place last fits)
@@ -215,7 +217,7 @@ module _ (lists : List (List ℕ)) (spots : List Spot) (kept : AreAtSpots lists 
       at_end = subst (λ l. slice_get l (length front) ≡ Some last) (sym split) (last_place front last)
 
       pub last_known : last < length spots
-      last_known = place_within spots last _ (kept s.granule (length front) last at_end)
+      last_known = slice_get_within spots last _ (kept s.granule (length front) last at_end)
 
       pub spots_moved : AreAtSpots (set lists s.granule new) (set spots last s)
       spots_moved = at_spots s.granule within new (set spots last s) (λ p r e. by p r e (either_nat p s.place))

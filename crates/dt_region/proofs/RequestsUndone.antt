@@ -1,8 +1,7 @@
 -- A home is asked by a push to its list, and asking homes can be taken back.
 use Rattle.std.proofs.Common.{◌≡◌, ◌<◌, ◌-◌, ℕ, suc, List, [], ◌∷◌, ◌++◌, length, get_or, set, take, ap, ap₂, subst, refl, ◌∙◌, arith, length-append, Result, Ok, Err, OnOk, OnErr}
-use Rattle.std.proofs.lemmas.List.{length-set, get_or-set_same, get_or_read_under, set-get_or, take-append-le}
+use Rattle.std.proofs.lemmas.List.{length-set, get_or-set_same, get_or_read_under, set-get_or, take-append-le, set-set}
 use Rattle.std.proofs.Math.Seq.{take-length}
-use Rattle.dt_lists.proofs.Callers.{set_set}
 
 -- an id that was asked last is taken back
 
@@ -14,7 +13,7 @@ taken_back lists items home x was now n lt e w l r =
     let long : n ≡ suc (length (get_or lists home [])) = omega (arith, l, ap length was_is, length-append (get_or lists home []) (x ∷ [])) in
     let now_is : now ≡ get_or lists home [] = r ∙ ap (take (n - 1)) was_is ∙ ap (λ k. take k (get_or lists home [] ++ x ∷ [])) (let e : n - 1 ≡ length (get_or lists home []) = omega (arith, long) in e)
     ∙ take-append-le (length (get_or lists home [])) (get_or lists home []) (x ∷ []) (omega arith) ∙ take-length (get_or lists home []) in
-    ap₂ (λ i y. set i home y) e now_is ∙ set_set lists home (get_or lists home [] ++ x ∷ []) (get_or lists home []) ∙ set-get_or lists home []
+    ap₂ (λ i y. set i home y) e now_is ∙ set-set lists home (get_or lists home [] ++ x ∷ []) (get_or lists home []) ∙ set-get_or lists home []
 
 -- the list of a home, read as it is there, is pushed to, or stays
 module _ {A T E : Type 0} (lists : List (List A)) (home : ℕ) (was now : List A) (lt : home < length lists) (w : was ≡ get_or lists home was) where

@@ -6,8 +6,9 @@ use Rattle.std.proofs.Common.{Option}
 use Rattle.std.proofs.lemmas.Bool.{false≢true}
 use Rattle.std.proofs.Common.{Bor}
 use Rattle.std.specs.Option.{is_some, option_copied}
+use Rattle.std.proofs.lemmas.Option.{slice_get_within}
 use Rattle.dt_lists.specs.Lists.{AllIn, Either, Has}
-use Rattle.dt_lists.proofs.Callers.{all_get, all_of_gets, at_place, either_le, either_nat, has_place, place_within}
+use Rattle.dt_lists.proofs.Callers.{all_get, all_of_gets, at_place, either_le, either_nat, has_place}
 use Rattle.dt_access.specs.declared.TxnId.{TxnId}
 use Rattle.dt_access.proofs.Callers.{id_of_test, same_by_parts, test_of_id, test_of_other}
 use Rattle.dt_access.specs.Ids.{same_id}
@@ -103,7 +104,7 @@ module _ {s : RegionState} (sound : IsSoundRegion s) {done : List TxnId} {id : T
           by (inr n) = let to = d.to in omega (arith, n, to)
 
       far : (k : ℕ) (x : Txn) → slice_get s.submitted k ≡ Some x → k + 1 < id.seq
-      far k x e = let lt : k < length s.submitted = place_within s.submitted k x e in omega (arith, lt, long)
+      far k x e = let lt : k < length s.submitted = slice_get_within s.submitted k x e in omega (arith, lt, long)
 
 -- what a region keeps as done, by its outcomes
 pub outcome_done : (s : RegionState) (id : TxnId) → outcome_of s id ≢ None → Has (done_ids s.here) id

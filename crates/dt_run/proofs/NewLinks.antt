@@ -1,9 +1,9 @@
 -- Links are made between new seats, those of each region with all before it.
 use Rattle.std.proofs.Common.{◌≡◌, ◌≢◌, ◌<◌, ◌+◌, ◌-◌, ◌++◌, ℕ, zero, suc, List, [], ◌∷◌, length, map, get_or, set, refl, sym, ap, subst, ◌∙◌, inl, inr, arith}
 use Rattle.std.proofs.lemmas.List.{get_or-set_same, get_or-set_other, get_or_append_left, length-set, length_push, length-map}
-use Rattle.std.proofs.Math.Seq.{get_or-append_seam}
+use Rattle.std.proofs.Math.Seq.{get_or-append_seam, map-set_same}
 use Rattle.dt_lists.specs.Lists.{AllIn, Either}
-use Rattle.dt_lists.proofs.Callers.{either_nat, map_of_set}
+use Rattle.dt_lists.proofs.Callers.{either_nat}
 use Rattle.dt_ring.specs.Rings.{AreEnds, RingInView, RingOutView}
 use Rattle.dt_run.specs.LinksInner.{AreFresh, HasEnds, IsJoined, LinkAdded, LinkedSoFar, in_at, out_at, without_links}
 use Rattle.dt_run.specs.NodesView.{link_to}
@@ -72,8 +72,8 @@ module _ (seats : List SeatView) {source target : ℕ} (ls : source < length sea
     inlet = inlet;
     fresh = fresh;
     seats =
-        map_of_set without_links mid target b' no_seat (ap without_links b_goes ∙ ap without_links second)
-        ∙ map_of_set without_links seats source a' no_seat (ap without_links a_goes ∙ ap without_links first);
+        map-set_same without_links mid target b' no_seat (ap without_links b_goes ∙ ap without_links second)
+        ∙ map-set_same without_links seats source a' no_seat (ap without_links a_goes ∙ ap without_links first);
     outs =
         outs_after source (either_nat source target) ∙ ap (λ (s : SeatView). s.outs) mid_here ∙ ap (λ (s : SeatView). s.outs) a_goes
         ∙ ap (λ (s : SeatView). s.outs ++ out ∷ []) first;

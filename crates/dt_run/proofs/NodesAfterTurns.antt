@@ -3,7 +3,7 @@ use Rattle.std.proofs.Common.{◌≡◌, ◌<◌, ◌≤◌, ℕ, zero, suc, tru
 use Rattle.std.specs.Prelude.{flat_map}
 use Rattle.std.proofs.lemmas.Bool.{false≢true}
 use Rattle.std.proofs.lemmas.List.{length-map}
-use Rattle.dt_lists.proofs.Callers.{get_of_map}
+use Rattle.std.proofs.Math.ListN.{get_or-map}
 use Rattle.dt_events.specs.declared.Stamped.{Stamped}
 use Rattle.dt_events.specs.Stamps.{events_of}
 use Rattle.dt_proc.specs.Tree.{ProcTree}
@@ -34,7 +34,7 @@ get_beyond (x ∷ xs) zero d le = absurd (omega (arith, le))
 get_beyond (x ∷ xs) (suc i) d le = get_beyond xs i d (omega (arith, le))
 
 pub none_kept : (nodes : List NodeView) (region : ℕ) → length nodes ≤ region → kept_at (kept_by nodes) region ≡ []
-none_kept nodes region le = get_of_map (λ (m : NodeView). m.site.region.events) nodes region no_running_node ∙ ap (λ (m : NodeView). m.site.region.events) (get_beyond nodes region no_running_node le)
+none_kept nodes region le = get_or-map (λ (m : NodeView). m.site.region.events) nodes region no_running_node ∙ ap (λ (m : NodeView). m.site.region.events) (get_beyond nodes region no_running_node le)
 
 module _ {cluster : Cluster} {workload : Workload} {seats seats' : List SeatView} {broken : Bool} (a : AreSeated cluster workload seats broken) (sound : broken ≡ false) (g : EachTurns cluster.procs seats seats') (later : Bool) where
   abbrev v : NodesView
@@ -66,7 +66,7 @@ module _ {cluster : Cluster} {workload : Workload} {seats seats' : List SeatView
   kept_none region le = none_kept v.nodes region (subst (λ k. k ≤ region) (sym n.many) le)
 
   now_is : (region : ℕ) → region < cluster.regions → kept_at (kept_by v'.nodes) region ≡ (node_in v' region).site.region.events
-  now_is region lr = get_of_map (λ (m : NodeView). m.site.region.events) v'.nodes region no_running_node
+  now_is region lr = get_or-map (λ (m : NodeView). m.site.region.events) v'.nodes region no_running_node
 
   now_none : (region : ℕ) → cluster.regions ≤ region → kept_at (kept_by v'.nodes) region ≡ []
   now_none region le = none_kept v'.nodes region (subst (λ k. k ≤ region) (sym many_now) le)

@@ -2,8 +2,9 @@
 use Rattle.std.proofs.Common.{◌≡◌, ◌≢◌, ◌<◌, ◌+◌, ℕ, zero, suc, false, Bool, List, [], ◌∷◌, ◌++◌, length, map, get_or, refl, sym, ap, subst, ◌∙◌, arith}
 use Rattle.std.specs.Prelude.{flat_map}
 use Rattle.std.proofs.lemmas.List.{length-map}
+use Rattle.std.proofs.Math.ListN.{get_or-map}
 use Rattle.dt_lists.specs.Lists.{Pairwise}
-use Rattle.dt_lists.proofs.Callers.{get_of_map, pairwise_length}
+use Rattle.dt_lists.proofs.Callers.{pairwise_length}
 use Rattle.dt_packet.specs.declared.loss.LossPlan.{LossPlan}
 use Rattle.dt_packet.specs.declared.packet.Packet.{Packet}
 use Rattle.dt_packet.specs.Loss.{IsVerdict}
@@ -220,8 +221,8 @@ module _ {cluster : Cluster} {workload : Workload} {seats seats' seats'' : List 
             (subst (λ l. HasTaken l (seat_at seats region).node (seat_at seats' region).node) (sym (waits_at region)) w.taken));
         settled = subst (λ m. IsSettled (node_in v region) m) (sym now) (subst (λ m. IsSettled m (seat_at seats' region).node) (sym was) w.settled);
         whole = subst (λ m. (target : ℕ) → target < m.site.region.state.regions → LeavesNothingOut m target) (sym now) w.whole;
-        marks = get_of_map (λ (s : SeatView). s.marks) seats'' region no_seat ∙ (b.same region (at_seat' region (at_seat region lr))).marks ∙ w.marks
-            ∙ ap (λ l. l ++ length (seat_at seats' region).node.site.region.events ∷ []) (sym (get_of_map (λ (s : SeatView). s.marks) seats region no_seat))
+        marks = get_or-map (λ (s : SeatView). s.marks) seats'' region no_seat ∙ (b.same region (at_seat' region (at_seat region lr))).marks ∙ w.marks
+            ∙ ap (λ l. l ++ length (seat_at seats' region).node.site.region.events ∷ []) (sym (get_or-map (λ (s : SeatView). s.marks) seats region no_seat))
             ∙ ap (λ (m : NodeView). marks_at v region ++ length m.site.region.events ∷ []) (sym now);
       }
 

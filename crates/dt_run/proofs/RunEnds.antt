@@ -2,8 +2,9 @@
 use Rattle.std.proofs.Common.{◌≡◌, ◌≢◌, ◌<◌, ◌≤◌, ◌+◌, ◌*◌, ℕ, zero, suc, false, List, [], length, get_or, replicate, refl, sym, ap, ◌∙◌, inl, inr, arith}
 use Rattle.std.specs.List.{range_with_len}
 use Rattle.std.proofs.lemmas.List.{length-map}
+use Rattle.std.proofs.Math.ListN.{get_or-map}
 use Rattle.dt_lists.specs.Lists.{Either}
-use Rattle.dt_lists.proofs.Callers.{all_at, all_image, all_put, either_nat, get_of_map}
+use Rattle.dt_lists.proofs.Callers.{all_at, all_image, all_put, either_nat}
 use Rattle.dt_events.specs.declared.Stamped.{Stamped}
 use Rattle.dt_events.specs.Stamps.{events_of}
 use Rattle.dt_cluster.specs.declared.Cluster.{Cluster}
@@ -30,7 +31,7 @@ use Rattle.dt_run.proofs.DoneForGood.{stays_done}
 pub kept_few : {v : NodesView} → AreNodes v → all_kept_in v ≤ most_events v.cluster v.workload
 kept_few {v} n =
     let a : all_kept_in v ≡ sum_below (λ q. length (those_at q n.all)) v.cluster.regions =
-    sum_below_same _ _ v.cluster.regions (λ q lq. ap length (sym (get_of_map (λ (m : NodeView). m.site.region.events) v.nodes q no_running_node) ∙ n.chronicle.lists q)) in
+    sum_below_same _ _ v.cluster.regions (λ q lq. ap length (sym (get_or-map (λ (m : NodeView). m.site.region.events) v.nodes q no_running_node) ∙ n.chronicle.lists q)) in
     let b : sum_below (λ q. length (those_at q n.all)) v.cluster.regions ≤ length n.all = all_of_all n.all v.cluster.regions in
     let c : length (events_of n.all) ≡ length n.all = length-map n.all (λ (x : Stamped). x.event) in
     let opening : HasInvariant v.cluster v.workload (opening_world v.cluster v.workload) = record { order = []; inv = legal_keeps v.cluster n.cluster v.workload n.workload [] tt } in

@@ -2,8 +2,9 @@
 use Rattle.std.proofs.Common.{◌≡◌, ◌≢◌, ◌<◌, ◌≤◌, ◌⊎◌, ℕ, true, false, eqb, List, [], ◌∷◌, length, map, filter, Some, refl, sym, ap, subst, ◌∙◌, inl, inr, arith}
 use Rattle.std.proofs.Common.{Result, Ok, Err, IfOk, Vec}
 use Rattle.std.proofs.lemmas.Bool.{cases_Bool}
+use Rattle.std.proofs.Math.ListN.{get_or-map}
 use Rattle.dt_lists.specs.Lists.{AllIn, Has, IsFront, Pairwise}
-use Rattle.dt_lists.proofs.Callers.{all_get, all_put, get_of_map}
+use Rattle.dt_lists.proofs.Callers.{all_get, all_put}
 use Rattle.dt_text.specs.declared.NoMemory.{NoMemory}
 use Rattle.dt_events.specs.declared.Event.{Event}
 use Rattle.dt_events.specs.declared.Stamped.{Stamped}
@@ -85,7 +86,7 @@ module _ {v : NodesView} (n : AreNodes v) (sound : v.broken ≡ false) (some : 1
       own : filter (λ event. eqb (region_of event) region) events ≡ events_of (kept_by_region v region)
       own =
           ap (filter (λ event. eqb (region_of event) region)) m.events_are ∙ events_at_region region m.merged
-          ∙ ap events_of (merge_keeps (kept_by v.nodes) (are_kept n.chronicle) m.merged m.is region ∙ get_of_map (λ (x : NodeView). x.site.region.events) v.nodes region no_running_node)
+          ∙ ap events_of (merge_keeps (kept_by v.nodes) (are_kept n.chronicle) m.merged m.is region ∙ get_or-map (λ (x : NodeView). x.site.region.events) v.nodes region no_running_node)
 
       phases : step.made ≢ 0
       phases e = let k : length (marks_at v 0) ≡ step.made = (step.each 0 one).marks.many in absurd (omega (arith, k, e, some))

@@ -2,7 +2,8 @@
 use Rattle.std.proofs.Common.{◌≡◌, ◌<◌, ◌≤◌, ◌+◌, ◌^◌, ℕ, zero, suc, Bool, true, false, cond, eqb, List, [], ◌∷◌, length, take, get_or, refl, sym, ap, subst, ◌∙◌, arith, append-nil}
 use Rattle.std.specs.Prelude.{sum_by}
 use Rattle.std.proofs.lemmas.List.Sums.{sum_by-cons, sum_by-take-le, sum_by_more}
-use Rattle.dt_lists.proofs.Callers.{all_map, get_of_map}
+use Rattle.std.proofs.Math.ListN.{get_or-map}
+use Rattle.dt_lists.proofs.Callers.{all_map}
 use Rattle.dt_events.specs.Stamps.{events_of}
 use Rattle.dt_cluster.specs.declared.Cluster.{Cluster}
 use Rattle.dt_workload.specs.declared.Workload.{Workload}
@@ -55,7 +56,7 @@ module _ (cluster : Cluster) (workload : Workload) (seats : List SeatView) (brok
   seen = nodes_view cluster workload seats broken
 
   pub made_seen : length (seat_at seats 0).marks ≡ made_in seen
-  made_seen = ap length (sym (get_of_map (λ (s : SeatView). s.marks) seats 0 no_seat))
+  made_seen = ap length (sym (get_or-map (λ (s : SeatView). s.marks) seats 0 no_seat))
 
   pub kept_seen : length seats ≡ cluster.regions → sum_by events_at seats ≡ all_kept_in seen
   kept_seen many =

@@ -4,8 +4,9 @@ use Rattle.std.proofs.Common.{◌≡◌, ◌≢◌, ◌<◌, ◌≤◌, ◌+◌,
 use Rattle.std.proofs.Common.{arith, append-nil, eq-eqb}
 use Rattle.std.specs.Prelude.{flat_map}
 use Rattle.std.proofs.lemmas.List.{drop_all, length-drop, length-take}
+use Rattle.std.proofs.Math.ListN.{get_or-map}
 use Rattle.dt_lists.specs.Lists.{EachThen, Has}
-use Rattle.dt_lists.proofs.Callers.{all_get, any_append_left, any_append_right, get_of_map, has_filter, has_map}
+use Rattle.dt_lists.proofs.Callers.{all_get, any_append_left, any_append_right, has_filter, has_map}
 use Rattle.dt_access.specs.declared.Part.{Part}
 use Rattle.dt_access.specs.declared.TxnId.{TxnId}
 use Rattle.dt_events.specs.Stamps.{events_of}
@@ -162,10 +163,10 @@ module _ {before after : NodesView} (n : AreNodes before)
       (waits : Has (waiting_between before source target) (packet_for (b source) target)) (whole : TurnsWhole before after target) where
     kept_is : those_at (number_of (b source)) n.all ≡ (b source).site.region.events
     kept_is = subst (λ q. those_at q n.all ≡ (b source).site.region.events) (sym (number source ls))
-        (sym (n.chronicle.lists source) ∙ get_of_map (λ (m : NodeView). m.site.region.events) before.nodes source no_running_node)
+        (sym (n.chronicle.lists source) ∙ get_or-map (λ (m : NodeView). m.site.region.events) before.nodes source no_running_node)
 
     rising : EachThen HasLowerStamp (b source).site.region.events
-    rising = subst (EachThen HasLowerStamp) (get_of_map (λ (m : NodeView). m.site.region.events) before.nodes source no_running_node) (n.chronicle.rising source)
+    rising = subst (EachThen HasLowerStamp) (get_or-map (λ (m : NodeView). m.site.region.events) before.nodes source no_running_node) (n.chronicle.rising source)
 
     other : target ≢ number_of (b source)
     other e = apart (sym (number source ls) ∙ sym e)

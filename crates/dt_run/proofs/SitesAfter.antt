@@ -1,7 +1,7 @@
 -- The sites of all nodes, as a report takes them: each stands in the world after the events that the report shows.
 use Rattle.std.proofs.Common.{◌≡◌, ◌<◌, ◌≤◌, ℕ, List, length, map, get_or, sym, ap, subst, ◌∙◌, arith}
 use Rattle.std.proofs.lemmas.List.{length-map}
-use Rattle.dt_lists.proofs.Callers.{get_of_map}
+use Rattle.std.proofs.Math.ListN.{get_or-map}
 use Rattle.dt_events.specs.declared.Event.{Event}
 use Rattle.dt_events.specs.Stamps.{events_of}
 use Rattle.dt_cluster.specs.declared.Cluster.{Cluster}
@@ -29,7 +29,7 @@ submitted_few {cluster} {workload} {events} {n} f =
 
 module _ {v : NodesView} (n : AreNodes v) {sites : List SiteView} (all : sites ≡ map (λ (x : NodeView). x.site) v.nodes) where
   site_is : (region : ℕ) → get_or sites region no_site ≡ (node_in v region).site
-  site_is region = ap (λ l. get_or l region no_site) all ∙ get_of_map (λ (x : NodeView). x.site) v.nodes region no_running_node
+  site_is region = ap (λ l. get_or l region no_site) all ∙ get_or-map (λ (x : NodeView). x.site) v.nodes region no_running_node
 
   pub sites_stand : (events : List Event) → AreLegal v.cluster v.workload events → world_after v.cluster v.workload events ≡ world_after v.cluster v.workload (events_of n.all)
       → AreSitesAfter v.cluster v.workload events sites

@@ -4,9 +4,10 @@ use Rattle.std.proofs.Common.{◌++◌, length, map, get_or, slice_get, Some, Bo
 use Rattle.std.specs.Prelude.{flat_map}
 use Rattle.std.proofs.Math.Nat.{le-max_left}
 use Rattle.std.proofs.lemmas.List.{length-map}
-use Rattle.std.proofs.lemmas.Option.{get_or_from_slice_get}
+use Rattle.std.proofs.lemmas.Option.{get_or_from_slice_get, slice_get_within}
+use Rattle.std.proofs.Math.ListN.{get_or-map}
 use Rattle.dt_lists.specs.Lists.{AllIn, EachThen, Has}
-use Rattle.dt_lists.proofs.Callers.{all_map, all_of_gets, all_put, any_append, get_of_map, place_within}
+use Rattle.dt_lists.proofs.Callers.{all_map, all_of_gets, all_put, any_append}
 use Rattle.dt_events.specs.declared.Stamped.{Stamped}
 use Rattle.dt_events.specs.Stamps.{events_of, last_stamp}
 use Rattle.dt_packet.specs.declared.loss.Verdict.{Verdict}
@@ -46,13 +47,13 @@ copies_few Twice packet = omega arith
 -- what is seen of seats
 
 pub node_is : (cluster : Cluster) (workload : Workload) (seats : List SeatView) (broken : Bool) (region : ℕ) → node_in (nodes_view cluster workload seats broken) region ≡ (seat_at seats region).node
-node_is cluster workload seats broken region = get_of_map (λ (s : SeatView). s.node) seats region no_seat
+node_is cluster workload seats broken region = get_or-map (λ (s : SeatView). s.node) seats region no_seat
 
 pub one_for_each : {cluster : Cluster} {workload : Workload} {seats : List SeatView} {broken : Bool} → AreSeated cluster workload seats broken → length seats ≡ cluster.regions
 one_for_each {cluster} {workload} {seats} a = sym (length-map seats (λ (s : SeatView). s.node)) ∙ a.nodes.many
 
 ins_are : (seats : List SeatView) (region : ℕ) → get_or (map (λ (s : SeatView). map waits_in s.ins) seats) region [] ≡ map waits_in (seat_at seats region).ins
-ins_are seats region = get_of_map (λ (s : SeatView). map waits_in s.ins) seats region no_seat
+ins_are seats region = get_or-map (λ (s : SeatView). map waits_in s.ins) seats region no_seat
 
 flat_of_map : (ins : List RingInView) → flat_map (λ packets. packets) (map waits_in ins) ≡ flat_map waits_in ins
 flat_of_map [] = refl
@@ -100,7 +101,7 @@ pub record IsSnapshot (v : NodesView) (region : ℕ) (p : Packet) : Type 0 where
 -- what a node would send now is true, and so is what waits on a link
 module _ {v : NodesView} (n : AreNodes v) where
   pub kept_now : (region : ℕ) → kept_at (kept_by v.nodes) region ≡ (node_in v region).site.region.events
-  kept_now region = get_of_map (λ (m : NodeView). m.site.region.events) v.nodes region no_running_node
+  kept_now region = get_or-map (λ (m : NodeView). m.site.region.events) v.nodes region no_running_node
 
   pub rising_now : (region : ℕ) → EachThen HasLowerStamp (node_in v region).site.region.events
   rising_now region = subst (EachThen HasLowerStamp) (kept_now region) (n.chronicle.rising region)
@@ -218,13 +219,13 @@ module _ {cluster : Cluster} {workload : Workload} {seats : List SeatView} {brok
       ends = linked.ends.outs region at_seat ∙ many ∙ subst (λ (m : NodeView). cluster.regions ≡ m.site.region.state.regions) (node_at_seat region) (sym (n.stand region lr).fits.site.many);
       free = all_of_gets (λ (o : RingOutView). 2 ≤ o.free) (seat_at seats region).outs free_one;
       turns = subst (λ (m : NodeView). m.turns ≡ length (seat_at seats region).marks) (node_at_seat region)
-          ((step.each region lr).turns ∙ sym ((step.each region lr).marks.many) ∙ ap length (get_of_map (λ (s : SeatView). s.marks) seats region no_seat));
+          ((step.each region lr).turns ∙ sym ((step.each region lr).marks.many) ∙ ap length (get_or-map (λ (s : SeatView). s.marks) seats region no_seat));
     }
       where
         free_one : (link : ℕ) (o : RingOutView) → slice_get (seat_at seats region).outs link ≡ Some o → 2 ≤ o.free
         free_one link o e =
             let ends : length (seat_at seats region).outs + 1 ≡ length seats = linked.ends.outs region at_seat in
-            let below : link < length (seat_at seats region).outs = place_within (seat_at seats region).outs link o e in
+            let below : link < length (seat_at seats region).outs = slice_get_within (seat_at seats region).outs link o e in
             let l : LinkOf cluster.regions region link = link_of cluster.regions region link lr (omega (arith, below, ends, many)) in
             by l (get_or_from_slice_get (seat_at seats region).outs link o o e)
           where

@@ -5,8 +5,9 @@ use Rattle.std.specs.Prelude.{Option}
 use Rattle.std.proofs.lemmas.Bool.{cases_Bool}
 use Rattle.std.proofs.lemmas.List.{length_push, get_or-set_same, get_or-set_other}
 use Rattle.std.proofs.lemmas.Option.{some_pair_parts}
+use Rattle.std.proofs.Math.Seq.{map-set_same}
 use Rattle.dt_lists.specs.Lists.{AllIn, Either}
-use Rattle.dt_lists.proofs.Callers.{all_at, all_map, either_nat, from_right, field_of_set, map_of_set, all_set}
+use Rattle.dt_lists.proofs.Callers.{all_at, all_map, either_nat, from_right, field_of_set, all_set}
 use Rattle.dt_access.specs.Clash.{Bytes}
 use Rattle.dt_access.specs.declared.TxnId.{TxnId}
 use Rattle.dt_sched.specs.Sched.{parts_in}
@@ -91,7 +92,7 @@ node_short : (w : World) (n region : ℕ) (x : Node) (places : List Place) → x
 node_short w n region x places es el few a s = record {
   submitted = λ r. let same : (get_or (set w.nodes region x) r no_node).submitted ≡ (node_at w r).submitted = field_of_set (λ y. y.submitted) w.nodes region x no_node es r in
       let few : length (node_at w r).submitted ≤ n = s.submitted r in subst (λ l. length l ≤ n + 1) (sym same) (omega arith);
-  parts = let few : parts_in (logs_of w) ≤ n = s.parts in subst (λ l. parts_in l ≤ n + 1) (sym (map_of_set (λ y. y.log) w.nodes region x no_node el)) (omega arith);
+  parts = let few : parts_in (logs_of w) ≤ n = s.parts in subst (λ l. parts_in l ≤ n + 1) (sym (map-set_same (λ y. y.log) w.nodes region x no_node el)) (omega arith);
   done = all_set _ w.nodes region x (done_longer w n s) few;
   answered = a;
 }
@@ -117,7 +118,7 @@ module _ (cluster : Cluster) (ok : IsValidCluster cluster) (workload : Workload)
       subst (λ v. HasShortLists v (n + 1)) (sym r.next) (record {
         submitted = λ q. subm r q (either_nat q region);
         parts = let few : parts_in (logs_of w) ≤ n = s.parts in subst (λ v. parts_in v ≤ n + 1)
-            (sym (map_of_set (λ y. y.log) w.nodes region (with_attempt r) no_node refl)) (omega arith);
+            (sym (map-set_same (λ y. y.log) w.nodes region (with_attempt r) no_node refl)) (omega arith);
         done = all_set _ w.nodes region _ (done_longer w n s) (let few : length (node_at w region).here.done ≤ n = done_at w n s region in omega arith);
         answered = place_put _ workload.sessions w.places region r.session.name _ (places_short w n s) (place_found (λ p. p.answered ≤ n + 1) workload.sessions w.places region name r.session r.place (places_short w n s) r.found);
       })

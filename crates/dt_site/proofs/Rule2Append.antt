@@ -4,10 +4,11 @@ use Rattle.std.proofs.Common.{eq-eqb, eqb-true, ◌≡◌, ◌≢◌, ◌<◌, �
 use Rattle.std.proofs.Common.{Some, refl, sym, ap, ap₂, subst, ◌∙◌, inl, inr, arith}
 use Rattle.std.specs.Prelude.{option_and_then}
 use Rattle.std.proofs.lemmas.Bool.{false_from_ne_true}
-use Rattle.std.proofs.lemmas.List.{map-set, map_push, get_or-set_same, get_or-set_other, set-get_or}
+use Rattle.std.proofs.lemmas.List.{map-set, map_push, get_or-set_same, get_or-set_other, set-get_or, set-set}
 use Rattle.std.proofs.Math.Seq.{take-length}
+use Rattle.std.proofs.lemmas.Option.{slice_get_within}
 use Rattle.dt_lists.specs.Lists.{AllIn, Has, Distinct}
-use Rattle.dt_lists.proofs.Callers.{each_across, any_image, has_place, place_within, set_set}
+use Rattle.dt_lists.proofs.Callers.{each_across, any_image, has_place}
 use Rattle.dt_region.proofs.Callers.{fronts_few}
 use Rattle.dt_access.specs.declared.TxnId.{TxnId}
 use Rattle.dt_access.specs.declared.Part.{Part}
@@ -37,7 +38,7 @@ use Rattle.dt_site.proofs.SitesInWorlds.{Steps, inv, node_then, order, own_log, 
 module _ {cluster : Cluster} {workload : Workload} {w : World} (k : IsReached cluster workload w) {home : ℕ} (lh : home < cluster.regions) {p : SiteView} (s : StandsIn cluster.regions w home p)
     {source : ℕ} (ls : source < cluster.regions) (number : ℕ) (txn : Txn) (wants : slice_get (asked_of w source home) number ≡ Some txn.id) (found : txn_of w txn.id ≡ Some txn) where
   pub append_legal : IsLegal cluster workload w (Append home source number)
-  append_legal = record { regions = (lh, ls); allowed = place_within (asked_of w source home) number txn.id wants }
+  append_legal = record { regions = (lh, ls); allowed = slice_get_within (asked_of w source home) number txn.id wants }
 
   request : IsRequest w home source txn.id
   request = request_is cluster workload w (order k) home source lh ls (inv k) txn.id (has_place (asked_of w source home) number txn.id wants)
@@ -114,7 +115,7 @@ module _ {cluster : Cluster} {workload : Workload} {w : World} (k : IsReached cl
         ∙ ap (fronts (set (node_at w home).received home (length log_then))) logs_now
         ∙ fronts_set (node_at w home).received (logs_of w) home (length log_then) log_then lengths_fit
         ∙ ap (set (fronts (node_at w home).received (logs_of w)) home) (take-length log_then)
-        ∙ sym (set_set (fronts (node_at w home).received (logs_of w)) home (take (length (log_of w home)) (log_at (logs_of w) home)) log_then)
+        ∙ sym (set-set (fronts (node_at w home).received (logs_of w)) home (take (length (log_of w home)) (log_at (logs_of w) home)) log_then)
         ∙ ap (λ l. set l home log_then) (sym received_before)
 
     logs_of_home : with_part p.region.state.logs (part_of txn p.region.state.number) ≡ received_logs (placed w home source (Some txn)) home
@@ -154,7 +155,7 @@ module _ {cluster : Cluster} {workload : Workload} {w : World} (k : IsReached cl
           get_or-set_same p.region.state.logs here (log_here ++ part_of txn here ∷ []) [] fits ∙ ap (λ h. log_here ++ part_of txn h ∷ []) s.number in
           let received_is : set (map length (with_part p.region.state.logs (part_of txn here))) here 0 ≡ set (map length p.region.state.logs) here 0 =
           ap (λ l. set l here 0) (map-set length p.region.state.logs here (log_here ++ part_of txn here ∷ []))
-          ∙ set_set (map length p.region.state.logs) here (length (log_here ++ part_of txn here ∷ [])) 0 in
+          ∙ set-set (map length p.region.state.logs) here (length (log_here ++ part_of txn here ∷ [])) 0 in
           ap (λ x. node_of (in_region p x)) is
           ∙ ap₂ (λ (a : List Part) (b : List ℕ). record (node_of p) { log = a; received = b; here = after_taking p.region.state.here source }) log_is_now received_is
           ∙ ap (λ (n : Node). record n { log = n.log ++ part_of txn home ∷ []; here = after_taking n.here source }) s.node

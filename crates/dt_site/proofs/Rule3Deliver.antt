@@ -3,9 +3,10 @@
 use Rattle.std.proofs.Common.{◌≡◌, ◌≢◌, ◌<◌, ◌≤◌, ◌+◌, ◌-◌, ◌⊎◌, ℕ, zero, suc, Bool, true, false, cond, ltb, leb, ◌&&◌, List, [], ◌∷◌, ◌++◌, length, map, set}
 use Rattle.std.proofs.Common.{take, drop, Ok, Some, refl, sym, ap, ap₂, subst, ◌∙◌, inl, inr, append-nil, arith}
 use Rattle.std.proofs.lemmas.Bool.Decides.{nat_tests}
-use Rattle.std.proofs.lemmas.List.{length-map, length-set, length-take-le, length-drop, map-set, get_or-set_same, get_or-set_other, set-get_or}
+use Rattle.std.proofs.lemmas.List.{length-map, length-set, length-take-le, length-drop, map-set, get_or-set_same, get_or-set_other, set-get_or, set_comm}
+use Rattle.std.proofs.Math.Seq.{map-set_same}
 use Rattle.dt_lists.specs.Lists.{AllIn, Distinct, Has, IsFront}
-use Rattle.dt_lists.proofs.Callers.{map_of_set, any_front, each_front, front_map, front_take, either_le, all_get, all_image, all_map, all_put, has_map, set_apart, has_dropped}
+use Rattle.dt_lists.proofs.Callers.{any_front, each_front, front_map, front_take, either_le, all_get, all_image, all_map, all_put, has_map, has_dropped}
 use Rattle.dt_region.proofs.Callers.{fronts_few}
 use Rattle.dt_access.specs.declared.TxnId.{TxnId}
 use Rattle.dt_access.specs.declared.Part.{Part}
@@ -234,7 +235,7 @@ module _ {cluster : Cluster} {workload : Workload} {w : World} (k : IsReached cl
         received_is = ap (λ b. cond b (received w region home last) w) (subst (λ n. joins n begin last ≡ true) has_received on)
 
         logs_same : logs_of (received w region home last) ≡ logs_of w
-        logs_same = map_of_set (λ n. n.log) w.nodes region node_now no_node refl
+        logs_same = map-set_same (λ n. n.log) w.nodes region node_now no_node refl
 
         -- the logs of the region then, by both accounts
         logs_after : set p.region.state.logs home (with_entries has_of first entries) ≡ received_logs (received w region home last) region
@@ -243,7 +244,7 @@ module _ {cluster : Cluster} {workload : Workload} {w : World} (k : IsReached cl
             let own : ℕ = length (log_of w region) in
             let node_then : node_at (received w region home last) region ≡ node_now = get_or-set_same w.nodes region node_now no_node (subst (λ n. region < n) (sym (inv k).nodes) lr) in
             ap (set p.region.state.logs home) longer_log ∙ logs_then other last
-            ∙ ap (λ l. fronts l (logs_of w)) (set_apart (node_at w region).received region home own last (λ e. other (sym e)))
+            ∙ ap (λ l. fronts l (logs_of w)) (set_comm (node_at w region).received region home own last (λ e. other (sym e)))
             ∙ ap (fronts (set (set (node_at w region).received home last) region own)) (sym logs_same)
             ∙ sym (ap (λ n. fronts (set n.received region (length n.log)) (logs_of (received w region home last))) node_then)
 
@@ -269,7 +270,7 @@ module _ {cluster : Cluster} {workload : Workload} {w : World} (k : IsReached cl
               let new_received : set (map length (set p.region.state.logs home (with_entries has_of first entries))) here 0 ≡ set (set (map length p.region.state.logs) here 0) home last =
               ap (λ l. set (map length (set p.region.state.logs home l)) here 0) longer_log
               ∙ ap (λ l. set l here 0) (map-set length p.region.state.logs home (take last (log_of w home)) ∙ ap (set (map length p.region.state.logs) home) (length-take-le last (log_of w home) within))
-              ∙ set_apart (map length p.region.state.logs) home here last 0 other in
+              ∙ set_comm (map length p.region.state.logs) home here last 0 other in
               ap (λ x. node_of (in_region p x)) is
               ∙ ap₂ (λ (a : List Part) (b : List ℕ). record (node_of p) { log = a; received = b }) new_log new_received
               ∙ ap (λ (n : Node). record n { received = set n.received home last }) s.node

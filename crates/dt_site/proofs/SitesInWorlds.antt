@@ -1,8 +1,9 @@
 -- Sites that stand in a world that legal events lead to: what follows, and what a legal event leaves as it is.
 use Rattle.std.proofs.Common.{◌≡◌, ◌≢◌, ◌<◌, ◌+◌, ℕ, List, [], ◌∷◌, ◌++◌, length, map, get_or, set, Some, sym, ap, subst, ◌∙◌}
 use Rattle.std.proofs.lemmas.List.{get_or-set_same, get_or-set_other}
+use Rattle.std.proofs.Math.Seq.{map-set_same}
 use Rattle.dt_lists.specs.Lists.{Has}
-use Rattle.dt_lists.proofs.Callers.{any_at, all_any, any_front, front_take, field_of_set, map_of_set}
+use Rattle.dt_lists.proofs.Callers.{any_at, all_any, any_front, front_take, field_of_set}
 use Rattle.dt_access.specs.declared.TxnId.{TxnId}
 use Rattle.dt_access.specs.declared.Part.{Part}
 use Rattle.dt_sched.specs.Views.{log_at, HasPart, IsClosed}
@@ -31,7 +32,7 @@ use Rattle.dt_site.proofs.Lists.{attempts_have, attempts_length}
 pub received_stay : (w : World) (region : ℕ) (n : Node) (places : List Place) → n.log ≡ (node_at w region).log → n.received ≡ (node_at w region).received
     → (q : ℕ) → received_logs (record { nodes = set w.nodes region n; places = places }) q ≡ received_logs w q
 received_stay w region n places log received q =
-    let logs : map (λ (x : Node). x.log) (set w.nodes region n) ≡ map (λ (x : Node). x.log) w.nodes = map_of_set (λ x. x.log) w.nodes region n no_node log in
+    let logs : map (λ (x : Node). x.log) (set w.nodes region n) ≡ map (λ (x : Node). x.log) w.nodes = map-set_same (λ x. x.log) w.nodes region n no_node log in
     let lengths : (get_or (set w.nodes region n) q no_node).received ≡ (node_at w q).received = field_of_set (λ x. x.received) w.nodes region n no_node received q in
     let own : (get_or (set w.nodes region n) q no_node).log ≡ (node_at w q).log = field_of_set (λ x. x.log) w.nodes region n no_node log q in
     λ i. fronts (set (lengths i) q (length (own i))) (logs i)

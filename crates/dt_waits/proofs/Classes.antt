@@ -1,10 +1,11 @@
 -- The classes that may be resolved, as they are found among stuck vertices: one that nothing outside of it reaches, nor
 -- anything blocked, may be resolved; and where all is reached from what is blocked, there is none.
 use Rattle.std.proofs.Common.{◌≡◌, ◌≢◌, ◌<◌, ◌≤◌, ◌↔◌, ◌∙◌, ℕ, List, [], ◌∷◌, length, map, slice_get, Some, refl, sym, ap, subst, inl, inr, arith}
+use Rattle.std.proofs.lemmas.Option.{slice_get_within}
 use Rattle.dt_lists.specs.Lists.{AnyIn, AllIn, Has, Distinct, Either}
 use Rattle.dt_lists.specs.Chain.{here, onward}
 use Rattle.dt_lists.proofs.Callers.{all_get, all_put, any_get, any_put, any_map, any_of_image, at_place, chain_before, chain_join, chain_step, chain_takes_back, either_and, either_any, one_place}
-use Rattle.dt_lists.proofs.Callers.{either_has, either_nat, either_not, has_map, has_place, place_of, place_within, some_same, two_of_different}
+use Rattle.dt_lists.proofs.Callers.{either_has, either_nat, either_not, has_map, has_place, place_of, some_same, two_of_different}
 use Rattle.dt_access.specs.Ids.{AreAscending}
 use Rattle.dt_access.specs.declared.TxnId.{TxnId}
 use Rattle.dt_access.proofs.Callers.{before_differs, either_id}
@@ -234,7 +235,7 @@ module _ (view : View) (resolved : List (List TxnId)) (done : List TxnId) (k : I
         at v lt h =
             let m : Has list v = (all v).1 ((is.stuck v).1 (lt, member_stuck (id_at g.ids v) h)) in
             let p : (p : ℕ) × (slice_get list p ≡ Some v) = place_of list v m in
-            let b : (b : ℕ) × Has blocked b × Leads graph b p.0 = any_get _ blocked (blocks p.0 (subst (λ n. p.0 < n) (sym a.vertices) (place_within list p.0 v p.1))) in
+            let b : (b : ℕ) × Has blocked b × Leads graph b p.0 = any_get _ blocked (blocks p.0 (subst (λ n. p.0 < n) (sym a.vertices) (slice_get_within list p.0 v p.1))) in
             by_block v p.0 b.0 p.1 h b.1 b.2
 
     -- among its members nothing is blocked, and each leads to each

@@ -4,8 +4,9 @@ use Rattle.std.proofs.Common.{◌≡◌, ◌≢◌, ◌+◌, ◌<◌, ◌≤◌,
 use Rattle.std.proofs.Common.{filter, get_or, take, drop, slice_get, Some, refl, sym, ap, subst, inl, inr, arith}
 use Rattle.std.proofs.lemmas.Bool.{false_from_ne_true}
 use Rattle.std.proofs.lemmas.List.{length-map}
+use Rattle.std.proofs.lemmas.Option.{slice_get_within}
 use Rattle.dt_lists.specs.Lists.{AllIn, Has, Distinct, Either, Pairwise}
-use Rattle.dt_lists.proofs.Callers.{all_get, all_map, all_put, any_get, any_put, either_has, either_nat, has_longer, has_last, has_more, has_map, has_place, each_map, each_of_image, place_within}
+use Rattle.dt_lists.proofs.Callers.{all_get, all_map, all_put, any_get, any_put, either_has, either_nat, has_longer, has_last, has_more, has_map, has_place, each_map, each_of_image}
 use Rattle.dt_lists.proofs.Callers.{filter_whole}
 use Rattle.dt_lists.proofs.Callers.{has_dropped}
 use Rattle.dt_lists.proofs.Callers.{one_place}
@@ -370,7 +371,7 @@ module _ (view : View) (resolved : List (List TxnId)) (done : List TxnId) (t : T
           new.ready (with_one_done old.classes place kept) unchanged (λ u h m. m) ready_right right_ready (classes_more le)
         where
           le : suc kept.next ≤ length kept.members
-          le = below (suc kept.next) (length kept.members) (place_within kept.members (suc kept.next) next at)
+          le = below (suc kept.next) (length kept.members) (slice_get_within kept.members (suc kept.next) next at)
             where
               below : (a b : ℕ) → a < b → a ≤ b
               below a b lt = omega (arith, lt)

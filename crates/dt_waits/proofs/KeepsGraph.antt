@@ -3,9 +3,9 @@
 use Rattle.std.proofs.Common.{◌≡◌, ◌<◌, ◌+◌, ◌↔◌, ◌∙◌, ℕ, List, [], ◌∷◌, ◌++◌, length, map, replicate, set, slice_get, Option, None, Some, MatchOption}
 use Rattle.std.proofs.Common.{◌-◌, refl, sym, ap, subst, inl, inr, arith}
 use Rattle.std.proofs.lemmas.List.{length-append}
-use Rattle.std.proofs.lemmas.Option.{get_or_from_slice_get, slice_get-get_or}
+use Rattle.std.proofs.lemmas.Option.{get_or_from_slice_get, slice_get-get_or, slice_get_within}
 use Rattle.dt_lists.specs.Lists.{AllIn, Has, EachThen}
-use Rattle.dt_lists.proofs.Callers.{any_at, any_from_at, any_get, pairwise_length, place_within, last_place}
+use Rattle.dt_lists.proofs.Callers.{any_at, any_from_at, any_get, pairwise_length, last_place}
 use Rattle.dt_access.specs.Orders.{AreAscendingHomes}
 use Rattle.dt_access.specs.declared.TxnId.{TxnId}
 use Rattle.dt_access.specs.declared.Part.{Part}
@@ -114,17 +114,17 @@ module _ (s : Sched) (old : GraphView) (k : IsKeeping s old) where
   keeping_finish id new can f = record { orderly = orderly_finish s.logs s.resolved s.done id can k.orderly; graph = by f }
     where
       class_of : (v : ℕ) → slice_get old.ids v ≡ Some id → IsPlaceOfClass s.resolved id (vertex_at old.vertices v).class
-      class_of v at = subst (λ t. IsPlaceOfClass s.resolved t (vertex_at old.vertices v).class) (at_named old.ids v id at) (k.graph.kept v (place_within old.ids v id at)).class
+      class_of v at = subst (λ t. IsPlaceOfClass s.resolved t (vertex_at old.vertices v).class) (at_named old.ids v id at) (k.graph.kept v (slice_get_within old.ids v id at)).class
 
       by : FinishesId id old new → KeepsGraph s.logs s.resolved (s.done ++ id ∷ []) new
-      by (alone v at none f) = finished_alone s.logs s.resolved s.done id k.orderly can old new k.graph v (place_within old.ids v id at) (at_named old.ids v id at)
+      by (alone v at none f) = finished_alone s.logs s.resolved s.done id k.orderly can old new k.graph v (slice_get_within old.ids v id at) (at_named old.ids v id at)
           (subst (IsPlaceOfClass s.resolved id) none (class_of v at)) f
       by (before v place next kept at some kept_at next_at f) =
           let c : (ids : List TxnId) × (slice_get s.resolved place ≡ Some ids) × Has ids id = subst (IsPlaceOfClass s.resolved id) some (class_of v at) in
-          finished_before s.logs s.resolved s.done id k.orderly can old new k.graph v (place_within old.ids v id at) (at_named old.ids v id at) place c.0 kept c.1 kept_at c.2 next next_at f
+          finished_before s.logs s.resolved s.done id k.orderly can old new k.graph v (slice_get_within old.ids v id at) (at_named old.ids v id at) place c.0 kept c.1 kept_at c.2 next next_at f
       by (last v place kept at some kept_at end f) =
           let c : (ids : List TxnId) × (slice_get s.resolved place ≡ Some ids) × Has ids id = subst (IsPlaceOfClass s.resolved id) some (class_of v at) in
-          finished_last s.logs s.resolved s.done id k.orderly can old new k.graph v (place_within old.ids v id at) (at_named old.ids v id at) place c.0 kept c.1 kept_at c.2 end f
+          finished_last s.logs s.resolved s.done id k.orderly can old new k.graph v (slice_get_within old.ids v id at) (at_named old.ids v id at) place c.0 kept c.1 kept_at c.2 end f
 
   -- what is ready may be executed, and nothing else
 

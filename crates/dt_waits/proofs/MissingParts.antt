@@ -1,9 +1,9 @@
 -- A transaction is complete just where none of its homes lacks a part of it, and an inserted part is lacked once less.
 use Rattle.std.proofs.Common.{◌≡◌, ◌≢◌, ◌⊎◌, ◌↔◌, ◌∙◌, ℕ, suc, Bool, true, false, not, List, [], ◌∷◌, ◌++◌, length}
 use Rattle.std.proofs.Common.{filter, refl, sym, ap, subst, inl, inr, arith}
-use Rattle.std.proofs.lemmas.Bool.{cases_Bool, false_from_ne_true}
+use Rattle.std.proofs.lemmas.Bool.{cases_Bool, false_from_ne_true, not-false}
 use Rattle.dt_lists.specs.Lists.{AnyIn, AllIn, Has, Distinct}
-use Rattle.dt_lists.proofs.Callers.{all_get, all_put, any_append, any_append_left, any_from_at, any_map, any_of_test, any_put, has_last, test_of_any, true_of_not, filter_whole}
+use Rattle.dt_lists.proofs.Callers.{all_get, all_put, any_append, any_append_left, any_from_at, any_map, any_of_test, any_put, has_last, test_of_any, filter_whole}
 use Rattle.dt_access.specs.Ids.{same_id}
 use Rattle.dt_access.specs.declared.TxnId.{TxnId}
 use Rattle.dt_access.specs.declared.Part.{Part}
@@ -41,7 +41,7 @@ kept_none p (x ∷ xs) all = rw all.0 (kept_none p xs all.1)
 
 pub none_lacking : (view : View) (t : TxnId) (homes : List ℕ) → (lacking view t homes ≡ 0) ↔ HasParts view homes t
 none_lacking view t homes = (
-  λ e. all_put _ homes (λ home h. part_of_test (log_at view home) t (true_of_not _ (all_get _ homes (none_kept (λ home. not (has_part (log_at view home) t)) homes e) home h))),
+  λ e. all_put _ homes (λ home h. part_of_test (log_at view home) t (not-false _ (all_get _ homes (none_kept (λ home. not (has_part (log_at view home) t)) homes e) home h))),
   λ a. kept_none _ homes (all_put _ homes (λ home h. ap not (test_of_part (log_at view home) t (all_get (λ home. HasPart (log_at view home) t) homes a home h)))),
 )
 

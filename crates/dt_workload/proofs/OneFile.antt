@@ -10,10 +10,11 @@ use Rattle.std.specs.List.{position_or_len, sum_by}
 use Rattle.std.specs.Cmp.Lexicographic.{pointwise, bytes_decides}
 use Rattle.std.proofs.lemmas.List.{map-append}
 use Rattle.std.proofs.lemmas.List.Sums.{sum_by-append}
+use Rattle.std.proofs.lemmas.Option.{slice_get_within}
 use Rattle.dt_lists.proofs.Callers.{same_head, same_tail}
 use Rattle.dt_lists.specs.Lists.{AllIn, Has, Distinct, Pairwise}
 use Rattle.dt_lists.proofs.Callers.{all_get, all_append_right, each_across, has_map}
-use Rattle.dt_lists.proofs.Callers.{has_place, place_within}
+use Rattle.dt_lists.proofs.Callers.{has_place}
 use Rattle.dt_text.specs.Texts.{IsName}
 use Rattle.dt_text.specs.Lines.{FileLine, lines_of}
 use Rattle.dt_text.specs.declared.Value.{Value}
@@ -65,7 +66,7 @@ named_at (p ∷ ps) (suc number) body name once e is =
 found : (cluster : Cluster) (number : ℕ) (body : ProcTree) → HaveNames cluster.procs → slice_get cluster.procs number ≡ Some body → proc_named cluster body.name ≡ Some body
 found cluster number body once e =
     let at = named_at cluster.procs number body body.name once e refl in
-    let below = lt-ltb number (length cluster.procs) (place_within cluster.procs number body e) in
+    let below = lt-ltb number (length cluster.procs) (slice_get_within cluster.procs number body e) in
     let place : place_of_name body.name cluster.procs ≡ Some number =
     ap (λ n. cond (nat_lt n (length cluster.procs)) (Some n) None) at ∙ ap (λ b. cond b (Some number) None) below in
     ap (option_and_then (slice_get cluster.procs)) place ∙ e

@@ -6,11 +6,12 @@ use Rattle.std.specs.List.{position, position_or_len}
 use Rattle.std.proofs.lemmas.Bool.{cases_Bool, false_from_ne_true}
 use Rattle.std.proofs.lemmas.Bool.Decides.{nat_tests}
 use Rattle.std.proofs.lemmas.List.{length-map, length-take, map_push, take-map, take_more, get_or_default}
-use Rattle.std.proofs.lemmas.Option.{slice_get-get_or, get_or_from_slice_get}
+use Rattle.std.proofs.lemmas.Option.{slice_get-get_or, get_or_from_slice_get, slice_get_within}
 use Rattle.std.specs.List.{list_any, slice_get}
 use Rattle.std.proofs.lemmas.List.Quantifiers.{position-Some}
+use Rattle.std.proofs.Math.ListN.{get_or-map}
 use Rattle.dt_lists.specs.Lists.{Distinct, Either, Has}
-use Rattle.dt_lists.proofs.Callers.{any_get, any_of_test, each_at, get_front, front_take, either_le, either_nat, get_of_map, place_of, place_within}
+use Rattle.dt_lists.proofs.Callers.{any_get, any_of_test, each_at, get_front, front_take, either_le, either_nat, place_of}
 use Rattle.dt_access.specs.Clash.{Bytes, same_key}
 use Rattle.dt_workload.specs.declared.Session.{Session}
 use Rattle.dt_session.specs.World.{Place, is_session, session_at, with_place}
@@ -137,7 +138,7 @@ is_session_there region name s n r = rw (test_of_key s.name name n) (eq-eqb s.re
 
 module _ (region : ℕ) (name : Bytes) (sessions : List Session) (once : Distinct (map (λ s. s.name) sessions)) where
   name_at : (k : ℕ) (d : Session) → get_or (map (λ s. s.name) sessions) k d.name ≡ (get_or sessions k d).name
-  name_at k d = get_of_map (λ s. s.name) sessions k d
+  name_at k d = get_or-map (λ s. s.name) sessions k d
 
   module _ (i : ℕ) (found : position (same_key name) (map (λ s. s.name) sessions) ≡ Some i) (d : Session) where
     within : i < length sessions
@@ -198,7 +199,7 @@ name_new xs n d once lt = false_from_ne_true (list_any (same_key (get_or xs n d)
     there : ((y : Bytes) × Has (take n xs) y × (same_key (get_or xs n d) y ≡ true)) → ⊥
     there r =
         let p : (j : ℕ) × (slice_get (take n xs) j ≡ Some r.0) = place_of (take n xs) r.0 r.1 in
-        let short : p.0 < length (take n xs) = place_within (take n xs) p.0 r.0 p.1 in
+        let short : p.0 < length (take n xs) = slice_get_within (take n xs) p.0 r.0 p.1 in
         let long : length (take n xs) ≤ n = omega (arith, length-take n xs) in
         let here : slice_get xs p.0 ≡ Some r.0 = get_front (take n xs) xs p.0 r.0 (front_take n xs) p.1 in
         let is : get_or xs p.0 d ≡ r.0 = get_or_from_slice_get xs p.0 r.0 d here in
@@ -210,7 +211,7 @@ pub index_more : (sessions : List Session) (n : ℕ) (keys new : List Bytes) (na
     → keys ≡ map (λ s. s.name) (take n sessions) → name ≡ (get_or sessions n d).name → new ≡ cond (list_any (same_key name) keys) keys (keys ++ name ∷ [])
     → new ≡ map (λ s. s.name) (take (n + 1) sessions)
 index_more sessions n keys new name d once lt same named is =
-    let at : get_or (map (λ s. s.name) sessions) n d.name ≡ name = get_of_map (λ s. s.name) sessions n d ∙ sym named in
+    let at : get_or (map (λ s. s.name) sessions) n d.name ≡ name = get_or-map (λ s. s.name) sessions n d ∙ sym named in
     let fresh : list_any (same_key name) keys ≡ false = subst (λ l. list_any (same_key name) l ≡ false) (sym (same ∙ sym (take-map (λ s. s.name) n sessions)))
     (subst (λ x. list_any (same_key x) (take n (map (λ s. s.name) sessions)) ≡ false) at (name_new (map (λ s. s.name) sessions) n d.name once (subst (λ m. n < m) (sym (length-map sessions (λ s. s.name))) lt))) in
     is ∙ rw fresh (ap₂ (λ l x. l ++ x ∷ []) same named ∙ sym (map_push (λ s. s.name) (take n sessions) (get_or sessions n d)) ∙ ap (map (λ s. s.name)) (sym (take_more sessions n d lt)))

@@ -2,9 +2,9 @@
 -- handed to the site of the region.
 use Rattle.std.proofs.Common.{◌≡◌, ◌<◌, ◌≤◌, ◌+◌, ℕ, zero, suc, Bool, true, false, List, [], ◌∷◌, ◌++◌, length, map, set, take, drop, slice_get, Ok, Some, refl, sym, ap, subst, ◌∙◌, arith}
 use Rattle.std.proofs.lemmas.List.{length-take-le, map_push, take_more}
-use Rattle.std.proofs.lemmas.Option.{get_or_from_slice_get}
+use Rattle.std.proofs.lemmas.Option.{get_or_from_slice_get, slice_get_within}
 use Rattle.dt_lists.specs.Lists.{AllIn}
-use Rattle.dt_lists.proofs.Callers.{all_map, all_more, place_within}
+use Rattle.dt_lists.proofs.Callers.{all_map, all_more}
 use Rattle.dt_access.specs.declared.Part.{Part}
 use Rattle.dt_log.specs.declared.Taken.{Taken}
 use Rattle.dt_sched.specs.Views.{log_at}
@@ -109,7 +109,7 @@ drop_push (suc n) (x ∷ xs) y le = drop_push n xs y (omega arith)
 pub entries_more : (log : List Part) (first place : ℕ) (items new : List Entry) (e : Entry) → first ≤ place → slice_get log place ≡ Some e.part → map (λ x. x.part) items ≡ drop first (take place log)
     → new ≡ items ++ e ∷ [] → map (λ x. x.part) new ≡ drop first (take (place + 1) log)
 entries_more log first place items new e le at before is =
-    let lt : place < length log = place_within log place e.part at in
+    let lt : place < length log = slice_get_within log place e.part at in
     let long : length (take place log) ≡ place = length-take-le place log (omega arith) in
     ap (map (λ x. x.part)) is ∙ map_push (λ x. x.part) items e ∙ ap (λ l. l ++ e.part ∷ []) before
     ∙ sym (drop_push first (take place log) e.part (omega arith))

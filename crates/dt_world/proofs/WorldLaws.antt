@@ -2,8 +2,9 @@
 use Rattle.std.proofs.Common.{◌≡◌, ◌<◌, ◌≤◌, ◌+◌, ℕ, zero, suc, true, false, cond, List, [], ◌∷◌, ◌++◌, length, map, get_or}
 use Rattle.std.proofs.Common.{set, Result, Ok, Err, IsErrAnd, sym, ap, ap₂, subst, ◌∙◌, inl, inr, arith}
 use Rattle.std.proofs.lemmas.List.{length-map, length_push, map-set, get_or-set_same, get_or-set_other}
+use Rattle.std.proofs.Math.ListN.{get_or-map}
 use Rattle.dt_lists.specs.Lists.{Either, Has}
-use Rattle.dt_lists.proofs.Callers.{all_get, either_nat, get_of_map}
+use Rattle.dt_lists.proofs.Callers.{all_get, either_nat}
 use Rattle.dt_events.specs.Events.{region_of}
 use Rattle.dt_events.specs.declared.Event.{Event}
 use Rattle.dt_region.specs.Region.{RegionView, latest_stamp}
@@ -52,7 +53,7 @@ module _ {cluster : Cluster} {sessions : WorldSessions} {sites : List SiteView} 
   a_site {region} lr = subst (λ n. region < n) (sym many_sites) lr
 
   pub node_is : (q : ℕ) → node_at (world_of sites (places_in sessions)) q ≡ node_of (site_at sites q)
-  node_is q = get_of_map node_of sites q no_site
+  node_is q = get_or-map node_of sites q no_site
 
   -- the lists of the world are short
   pub short : HasShortLists (world_of sites (places_in sessions)) steps
@@ -66,7 +67,7 @@ module _ {cluster : Cluster} {sessions : WorldSessions} {sites : List SiteView} 
       → map kept_in (set sites region q) ≡ kept_next (world_of sites (places_in sessions)) (map kept_in sites) event
   kept_stays event region q of kept effect =
       map-set kept_in sites region q
-      ∙ ap (set (map kept_in sites) region) (kept ∙ ap (λ l. l ++ event ∷ []) (sym (get_of_map kept_in sites region no_site)))
+      ∙ ap (set (map kept_in sites) region) (kept ∙ ap (λ l. l ++ event ∷ []) (sym (get_or-map kept_in sites region no_site)))
       ∙ ap (λ r. set (map kept_in sites) r (get_or (map kept_in sites) r [] ++ event ∷ [])) (sym of)
       ∙ sym (ap (λ b. cond b (set (map kept_in sites) (region_of event) (get_or (map kept_in sites) (region_of event) [] ++ event ∷ [])) (map kept_in sites)) effect)
 

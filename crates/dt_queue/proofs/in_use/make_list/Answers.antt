@@ -1,5 +1,5 @@
 use Rattle.std.proofs.Common.{◌<◌, ◌-◌, ℕ, [], Global, Vec, get_or, length, vec_capacity, vec_len, ap, sym, subst, arith, ◌∙◌}
-use Rattle.dt_lists.proofs.Callers.{map_of_set}
+use Rattle.std.proofs.Math.Seq.{map-set_same}
 use Rattle.dt_queue.proofs.RowSets.{empty_behind, told_here}
 use Rattle.dt_queue.proofs.in_use.make_list.Goals as goal
 
@@ -8,7 +8,7 @@ loop-alloc-preserved c = λ g. rw c.in_ok-push.ensures.items (empty_behind c.loo
 
 pub returns-in_err-reserve-clause-same : goal.returns-in_err-reserve-clause-same
 returns-in_err-reserve-clause-same c = λ g.
-    ap (λ l. get_or l g []) (map_of_set (λ (r : Vec ℕ Global). r.items) c.loop-alloc.rows.items c.args.granule c.reserve.new.self c.index_mut.result.now
+    ap (λ l. get_or l g []) (map-set_same (λ (r : Vec ℕ Global). r.items) c.loop-alloc.rows.items c.args.granule c.reserve.new.self c.index_mut.result.now
     (c.reserve.ensures.items ∙ ap (λ (r : Vec ℕ Global). r.items) c.index_mut.ensures.value))
     ∙ c.loop-alloc.invariant g
 
@@ -20,6 +20,6 @@ returns-clause-room c =
 
 pub returns-clause-same : goal.returns-clause-same
 returns-clause-same c = λ g.
-    ap (λ l. get_or l g []) (map_of_set (λ (r : Vec ℕ Global). r.items) c.loop-alloc.rows.items c.args.granule c.reserve.new.self c.index_mut.result.now
+    ap (λ l. get_or l g []) (map-set_same (λ (r : Vec ℕ Global). r.items) c.loop-alloc.rows.items c.args.granule c.reserve.new.self c.index_mut.result.now
     (c.reserve.ensures.items ∙ ap (λ (r : Vec ℕ Global). r.items) c.index_mut.ensures.value))
     ∙ c.loop-alloc.invariant g

@@ -1,6 +1,7 @@
 use Rattle.std.proofs.Common.{◌≡◌, ◌∙◌, ◌<◌, ◌∷◌, [], None, Some, length, sym, ap, subst}
 use Rattle.std.proofs.lemmas.List.{get_or_read}
-use Rattle.dt_lists.proofs.Callers.{all_get, place_within}
+use Rattle.std.proofs.lemmas.Option.{slice_get_within}
+use Rattle.dt_lists.proofs.Callers.{all_get}
 use Rattle.dt_waits.specs.Graph.{GraphView, vertex_at}
 use Rattle.dt_graph.specs.HeldInner.{kept_of}
 use Rattle.dt_waits.specs.Steps.{alone}
@@ -41,7 +42,7 @@ pub finish_in-requires : goal.finish_in-requires
 finish_in-requires c =
     let g : GraphView = kept_of c.self.inside.names.ids c.self.inside.waits c.self.inside.classes.items in
     let r : MayFinish g c.args.id = subst (λ g. MayFinish g c.args.id) (sym c.self.view_is) c.requires in
-    let lt : c.in-Some.vertex < length c.self.inside.waits.vertices.items = subst (λ n. c.in-Some.vertex < n) (sym c.self.invariant.vertices) (place_within g.ids c.in-Some.vertex c.args.id c.in-Some.ensures.number) in
+    let lt : c.in-Some.vertex < length c.self.inside.waits.vertices.items = subst (λ n. c.in-Some.vertex < n) (sym c.self.invariant.vertices) (slice_get_within g.ids c.in-Some.vertex c.args.id c.in-Some.ensures.number) in
     let class : (vertex_at g.vertices c.in-Some.vertex).class ≡ Some c.in-Some-get.class =
     ap (λ x. x.class) (sym (get_or_read c.self.inside.waits.vertices.items c.in-Some.vertex c.index.result.now lt c.index.ensures _)) ∙ sym c.get.ensures ∙ c.in-Some-get.is in
     may_finish_without c.in-Some-get.class g c.remove.new.self.items (may_finish g c.args.id r c.in-Some.vertex c.in-Some-get.class c.in-Some.ensures.number class)
@@ -49,7 +50,7 @@ finish_in-requires c =
 pub returns-in-None : goal.returns-in-None
 returns-in-None c =
     let g : GraphView = kept_of c.self.inside.names.ids c.self.inside.waits c.self.inside.classes.items in
-    let lt : c.in-Some.vertex < length c.self.inside.waits.vertices.items = subst (λ n. c.in-Some.vertex < n) (sym c.self.invariant.vertices) (place_within g.ids c.in-Some.vertex c.args.id c.in-Some.ensures.number) in
+    let lt : c.in-Some.vertex < length c.self.inside.waits.vertices.items = subst (λ n. c.in-Some.vertex < n) (sym c.self.invariant.vertices) (slice_get_within g.ids c.in-Some.vertex c.args.id c.in-Some.ensures.number) in
     let class : (vertex_at g.vertices c.in-Some.vertex).class ≡ None =
     ap (λ x. x.class) (sym (get_or_read c.self.inside.waits.vertices.items c.in-Some.vertex c.index.result.now lt c.index.ensures _)) ∙ sym c.get.ensures ∙ c.in-None.is in
     rw (← c.self.view_is)
@@ -62,7 +63,7 @@ returns-in-None c =
 pub returns-in-Some-get : goal.returns-in-Some-get
 returns-in-Some-get c =
     let g : GraphView = kept_of c.self.inside.names.ids c.self.inside.waits c.self.inside.classes.items in
-    let lt : c.in-Some.vertex < length c.self.inside.waits.vertices.items = subst (λ n. c.in-Some.vertex < n) (sym c.self.invariant.vertices) (place_within g.ids c.in-Some.vertex c.args.id c.in-Some.ensures.number) in
+    let lt : c.in-Some.vertex < length c.self.inside.waits.vertices.items = subst (λ n. c.in-Some.vertex < n) (sym c.self.invariant.vertices) (slice_get_within g.ids c.in-Some.vertex c.args.id c.in-Some.ensures.number) in
     let class : (vertex_at g.vertices c.in-Some.vertex).class ≡ Some c.in-Some-get.class =
     ap (λ x. x.class) (sym (get_or_read c.self.inside.waits.vertices.items c.in-Some.vertex c.index.result.now lt c.index.ensures _)) ∙ sym c.get.ensures ∙ c.in-Some-get.is in
     rw (← c.self.view_is)

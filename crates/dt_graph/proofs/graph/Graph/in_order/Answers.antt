@@ -1,8 +1,8 @@
 use Rattle.std.proofs.Common.{◌≡◌, ◌<◌, length, sym, ap, subst, arith}
 use Rattle.std.specs.Vec.Iter.{into_iter_items}
 use Rattle.std.proofs.lemmas.List.{get_or_read}
+use Rattle.std.proofs.lemmas.Option.{slice_get_within}
 use Rattle.dt_lists.specs.Lists.{AllIn, Has}
-use Rattle.dt_lists.proofs.Callers.{place_within}
 use Rattle.dt_waits.specs.Graph.{GraphView}
 use Rattle.dt_graph.specs.HeldInner.{kept_of}
 use Rattle.dt_graph.proofs.RunOrder.{all_came, all_numbered, gathered, members_more, run_in_order}
@@ -14,7 +14,7 @@ loop-id-preserved c =
     let g : GraphView = kept_of c.self.inside.names.ids c.self.inside.waits c.self.inside.classes.items in
     elim c.match-number_of.branch [
       | in-Some+in_ok-push w ↦
-          let lt : w.in-Some.vertex < length c.self.inside.waits.vertices.items = subst (λ n. w.in-Some.vertex < n) (sym c.self.invariant.vertices) (place_within g.ids w.in-Some.vertex _ w.in-Some.ensures.number) in
+          let lt : w.in-Some.vertex < length c.self.inside.waits.vertices.items = subst (λ n. w.in-Some.vertex < n) (sym c.self.invariant.vertices) (slice_get_within g.ids w.in-Some.vertex _ w.in-Some.ensures.number) in
           let rank = ap (λ x. x.rank) (get_or_read c.self.inside.waits.vertices.items w.in-Some.vertex w.index.result.now lt w.index.ensures _) in
           rw (← c.self.view_is, w.members-is, w.in_ok-push.ensures.items)
           (members_more g c.args.ids.now c.loop-id.id-index (record { seq = 0; region = 0 }) c.loop-id.members.items w.index.result.now.rank w.in-Some.vertex c.loop-id-test.true

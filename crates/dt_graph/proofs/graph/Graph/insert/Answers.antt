@@ -1,7 +1,7 @@
 use Rattle.std.proofs.Common.{◌≡◌, ◌∙◌, ◌<◌, ◌≤◌, ◌+◌, ◌^◌, ◌∷◌, ◌++◌, [], length, refl, sym, ap, subst, arith}
 use Rattle.std.proofs.lemmas.List.{length-append}
 use Rattle.std.proofs.lemmas.Result.{on_ok_weaker}
-use Rattle.dt_lists.proofs.Callers.{place_within}
+use Rattle.std.proofs.lemmas.Option.{slice_get_within}
 use Rattle.dt_waits.specs.Graph.{GraphView}
 use Rattle.dt_graph.specs.HeldInner.{kept_of}
 use Rattle.dt_graph.proofs.Bounds.{fitted_inserted, fitted_same}
@@ -13,21 +13,21 @@ pub extend-requires-clause-missing : goal.extend-requires-clause-missing
 extend-requires-clause-missing c =
     let g : GraphView = kept_of c.self.inside.names.ids c.self.inside.waits c.self.inside.classes.items in
     let r : MayInsert g c.args.part.now = subst (λ g. MayInsert g c.args.part.now) (sym c.self.view_is) c.requires in
-    missing_before r.0 r.1 r.2 c.args.part.now r.3 r.4 c.as_slice-homes.ensures.ascending g r.5 c.in-Some.vertex (place_within g.ids c.in-Some.vertex c.args.part.now.id c.in-Some.ensures.number)
+    missing_before r.0 r.1 r.2 c.args.part.now r.3 r.4 c.as_slice-homes.ensures.ascending g r.5 c.in-Some.vertex (slice_get_within g.ids c.in-Some.vertex c.args.part.now.id c.in-Some.ensures.number)
     (at_named g.ids c.in-Some.vertex c.args.part.now.id c.in-Some.ensures.number)
 
 pub extend-requires-clause-counted : goal.extend-requires-clause-counted
 extend-requires-clause-counted c =
     let g : GraphView = kept_of c.self.inside.names.ids c.self.inside.waits c.self.inside.classes.items in
     let r : MayInsert g c.args.part.now = subst (λ g. MayInsert g c.args.part.now) (sym c.self.view_is) c.requires in
-    counted_before r.0 r.1 r.2 c.args.part.now r.3 r.4 c.as_slice-homes.ensures.ascending g r.5 c.in-Some.vertex (place_within g.ids c.in-Some.vertex c.args.part.now.id c.in-Some.ensures.number)
+    counted_before r.0 r.1 r.2 c.args.part.now r.3 r.4 c.as_slice-homes.ensures.ascending g r.5 c.in-Some.vertex (slice_get_within g.ids c.in-Some.vertex c.args.part.now.id c.in-Some.ensures.number)
     (at_named g.ids c.in-Some.vertex c.args.part.now.id c.in-Some.ensures.number)
 
 pub extend-requires-clause-ready_bound : goal.extend-requires-clause-ready_bound
-extend-requires-clause-ready_bound c = omega (arith, place_within c.self.inside.names.ids c.in-Some.vertex c.args.part.now.id c.in-Some.ensures.number, c.self.invariant.ready_bound)
+extend-requires-clause-ready_bound c = omega (arith, slice_get_within c.self.inside.names.ids c.in-Some.vertex c.args.part.now.id c.in-Some.ensures.number, c.self.invariant.ready_bound)
 
 pub extend-requires-clause-stuck_bound : goal.extend-requires-clause-stuck_bound
-extend-requires-clause-stuck_bound c = omega (arith, place_within c.self.inside.names.ids c.in-Some.vertex c.args.part.now.id c.in-Some.ensures.number, c.self.invariant.stuck_bound)
+extend-requires-clause-stuck_bound c = omega (arith, slice_get_within c.self.inside.names.ids c.in-Some.vertex c.args.part.now.id c.in-Some.ensures.number, c.self.invariant.stuck_bound)
 
 pub invariant_of-self : goal.invariant_of-self
 invariant_of-self c =

@@ -1,7 +1,6 @@
 use Rattle.std.proofs.Common.{◌≡◌, ◌<◌, ◌+◌, ◌^◌, ℕ, None, Some, refl, ap, sym, subst, ◌∙◌, arith}
-use Rattle.std.proofs.lemmas.Option.{get_or_from_slice_get}
+use Rattle.std.proofs.lemmas.Option.{get_or_from_slice_get, slice_get_within}
 use Rattle.slab.specs.Slab.{Slab, Updates, get}
-use Rattle.dt_lists.proofs.Callers.{place_within}
 use Rattle.dt_queue.specs.declared.cell.Cell.{Cell}
 use Rattle.dt_queue.specs.declared.kept.Kept.{Kept}
 use Rattle.dt_lists.specs.Lists.{IsFront}
@@ -23,7 +22,7 @@ returns-in_err-row-clause-kept c =
 pub granule_of-granule-requires : goal.granule_of-granule-requires
 granule_of-granule-requires c =
     let r = c.row.new.self in
-    omega (arith, place_within r.names.keys c.in_ok-row.row _ c.in_ok-row.ensures.found, c.in_ok-row.ensures.linked.each_row, r.granule_of.ok.0)
+    omega (arith, slice_get_within r.names.keys c.in_ok-row.row _ c.in_ok-row.ensures.found, c.in_ok-row.ensures.linked.each_row, r.granule_of.ok.0)
 
 pub returns-in_err-reserve-clause-kept : goal.returns-in_err-reserve-clause-kept
 returns-in_err-reserve-clause-kept c =
@@ -44,7 +43,7 @@ add_mark-requires c =
     let k = c.args.self.now in
     let mid : Kept = record k { cells = c.reserve-2.new.self; rows = c.row.new.self; in_use = c.reserve.new.self } in
     record {
-      row_in = omega (arith, place_within c.row.new.self.names.keys c.in_ok-row.row _ c.in_ok-row.ensures.found, c.in_ok-row.ensures.linked.each_row);
+      row_in = omega (arith, slice_get_within c.row.new.self.names.keys c.in_ok-row.row _ c.in_ok-row.ensures.found, c.in_ok-row.ensures.linked.each_row);
       last = rw (same_lanes mid k refl refl refl c.args.mode (place_at c.row.new.self c.args.mode c.in_ok-row.row)) (all_before k c.requires.kept c.args.mode (place_at c.row.new.self c.args.mode c.in_ok-row.row));
     }
 
@@ -90,7 +89,7 @@ returns-clause-kept c =
     (ap (λ (r : Rows). granule_at r cell.row) added.rows ∙ sym c.granule_of-granule.ensures) c.add_in_mode.ensures in
     (push_steps k mid marked n c.vacant_key-slot.result cell c.requires.kept c.in_ok-row.ensures.linked c.in_ok-row.ensures.kept (λ s. ap (λ (x : Slab Cell). get x s) c.in_ok-reserve-2.ensures.rest_kept)
     (λ m p. same_lanes mid k refl refl refl m p) added refl (λ m p. same_lanes n marked refl refl refl m p) (subst (λ s. Updates marked.cells n.cells s (Some cell)) e c.insert_reserved.ensures.updates)
-    (subst (λ s. get marked.cells s ≡ None) e c.insert_reserved.ensures.was_vacant) refl refl within (place_within c.row.new.self.names.keys c.in_ok-row.row _ c.in_ok-row.ensures.found) uses).0
+    (subst (λ s. get marked.cells s ≡ None) e c.insert_reserved.ensures.was_vacant) refl refl within (slice_get_within c.row.new.self.names.keys c.in_ok-row.row _ c.in_ok-row.ensures.found) uses).0
 
 pub returns-clause-rows : goal.returns-clause-rows
 returns-clause-rows c = subst (λ (r : Rows). IsFront c.args.self.now.rows.names.keys r.names.keys) (sym c.in_ok-add_mark.ensures.added.rows) c.in_ok-row.ensures.kept.names
