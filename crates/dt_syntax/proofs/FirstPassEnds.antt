@@ -1,5 +1,6 @@
 -- Every text passes first or has a first fault: its tokens are tried from the front on, until one is refused or none is left.
 use Rattle.std.proofs.Common.{◌≡◌, ◌⊎◌, inl, inr, ℕ, Bool, true, false, List, [], ◌∷◌, ◌++◌, length, Option, Some, None, refl, sym, ap, ◌∙◌, append_assoc, append-nil}
+use Rattle.dt_lists.proofs.Callers.{none_some, some_same}
 use Rattle.dt_syntax.specs.declared.token.Placed.{Placed}
 use Rattle.dt_syntax.specs.declared.machine.Sym.{Sym}
 use Rattle.dt_syntax.specs.declared.machine.Sym.TheVariants as expect
@@ -30,12 +31,6 @@ either_start (expect.Procs ∷ []) = inl refl
 either_start (s ∷ []) = inr (λ e. cc)
 either_start (s ∷ u ∷ rest) = inr (λ e. cc)
 
-same_stack : (s u : List Sym) → ◌≡◌ {A = Option (List Sym)} (Some s) (Some u) → s ≡ u
-same_stack s u e = cc
-
-never : (s : List Sym) → ◌≡◌ {A = Option (List Sym)} None (Some s) → ⊥
-never s e = cc
-
 -- no token is left
 end_comes : (text : List ℕ) (before : List Placed) (stack : List Sym) → Tried text before [] stack → (bad : Option ℕ) → (tokens_of text).bad ≡ bad →
     (stack ≡ expect.Procs ∷ []) ⊎ ¬ (stack ≡ expect.Procs ∷ []) → FirstPassEnds text
@@ -58,7 +53,7 @@ end_comes text before stack t None is (inr other) =
         before = before;
         after = [];
         well = starts_well text before [] stack t;
-        told = inr (is, refl, λ g. other (same_stack stack (expect.Procs ∷ []) (sym t.read ∙ grammar_read before g)));
+        told = inr (is, refl, λ g. other (some_same (sym t.read ∙ grammar_read before g)));
       },
     ))
 
@@ -77,7 +72,7 @@ token_comes text before one after stack t None is many same onward_from =
           refl,
           λ begins.
               let goes = beginning_read (before ++ one ∷ []) begins in
-              never goes.0 (sym (run_more before one stack t.read ∙ ap (λ o. onward o (λ s. Some s)) is) ∙ goes.1),
+              none_some (run_more before one stack t.read ∙ ap (λ o. onward o (λ s. Some s)) is) goes.1,
         );
       },
     ))

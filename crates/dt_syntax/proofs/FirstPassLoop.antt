@@ -18,7 +18,9 @@ use Rattle.dt_syntax.specs.FirstPass.{PassesFirst, IsSyntaxFault, IsTooMany, bac
 use Rattle.dt_syntax.specs.CountsInner.{counts_of, AreAtMost}
 use Rattle.dt_syntax.proofs.MachineComplete.{grammar_read, beginning_read, run_joined}
 use Rattle.dt_syntax.proofs.MachineSound.{read_begins, read_whole}
-use Rattle.std.proofs.lemmas.List.Sums.{take_while-cons}
+use Rattle.std.proofs.lemmas.List.Folds.{length-prefix_len}
+use Rattle.std.proofs.lemmas.List.Sums.{take_while-cons, prefix_len-le-length}
+use Rattle.dt_lists.proofs.Callers.{none_some, some_same}
 use Rattle.dt_syntax.proofs.LexerLemmas.{passed, at_front}
 
 -- the size of a token
@@ -47,13 +49,8 @@ sign_fits b [] = fits_map _ 1 (single_sign b) (omega arith) (omega arith)
 sign_fits b (c ∷ bs) =
     fits_first _ _ _ (fits_map _ 2 (double_sign b c) (omega arith) (omega arith)) (fits_map _ 1 (single_sign b) (omega arith) (omega arith))
 
-cond_short : (v : Bool) (p : ℕ → Bool) (b : ℕ) (bs : List ℕ) → length (take_while p bs) ≤ length bs → length (cond v (b ∷ take_while p bs) []) ≤ suc (length bs)
-cond_short true p b bs h = omega arith
-cond_short false p b bs h = omega arith
-
 taken_short : (p : ℕ → Bool) (bs : List ℕ) → length (take_while p bs) ≤ length bs
-taken_short p [] = omega arith
-taken_short p (b ∷ bs) = rw (take_while-cons p b bs) (cond_short (p b) p b bs (taken_short p bs))
+taken_short p bs = subst (λ n. n ≤ length bs) (sym (length-prefix_len p bs)) (prefix_len-le-length p bs)
 
 some_taken : (b : ℕ) (bs : List ℕ) → is_name_byte b ≡ true → 1 ≤ length (take_while is_name_byte (b ∷ bs))
 some_taken b bs e = rw (take_while-cons is_name_byte b bs, e) (omega arith)
@@ -187,12 +184,9 @@ refused text tokens stack counts place n t r lt front none =
         λ begins.
             let goes = beginning_read (tokens ++ at place t ∷ []) begins in
             let stops = run_more tokens (at place t) stack r.read ∙ ap (λ o. onward o (λ s. Some s)) none in
-            never goes.0 (sym stops ∙ goes.1),
+            none_some stops goes.1,
       );
     }
-  where
-    never : (s : List Sym) → ◌≡◌ {A = Option (List Sym)} None (Some s) → ⊥
-    never s e = cc
 
 pub one_too_many : (text : List ℕ) (tokens : List Placed) (stack after : List Sym) (counts : Counts) (place n : ℕ) (t : Token) → Reading text tokens stack counts place → place < length text →
     front_token (drop place text) ≡ Some (t, n) → advance stack t ≡ Some after → is_too_many (backwards tokens []) t ≡ true → IsTooMany text place
@@ -229,11 +223,8 @@ too_early text tokens stack counts place r le other =
       before = tokens;
       after = [];
       well = record { tokens = ap (λ l. l.tokens) whole ∙ sym (append-nil tokens); begins = read_begins tokens stack r.read; few = r.few };
-      told = inr (ap (λ l. l.bad) whole, refl, λ g. other (same (sym r.read ∙ grammar_read tokens g)));
+      told = inr (ap (λ l. l.bad) whole, refl, λ g. other (some_same (sym r.read ∙ grammar_read tokens g)));
     }
-  where
-    same : ◌≡◌ {A = Option (List Sym)} (Some stack) (Some (expect.Procs ∷ [])) → stack ≡ expect.Procs ∷ []
-    same e = cc
 
 -- no count is above the number of the tokens
 step_most : (p : Bool) (a n : ℕ) → a ≤ n → cond p (a + 1) a ≤ suc n

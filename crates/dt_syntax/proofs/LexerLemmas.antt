@@ -1,11 +1,13 @@
 -- How the tokens of some bytes come from those of what is left of them.
-use Rattle.std.proofs.Common.{◌≡◌, ℕ, zero, suc, ◌+◌, ◌-◌, ◌<◌, Bool, true, false, cond, ◌==◌, List, [], ◌∷◌, ◌++◌, length, take, drop, Option}
-use Rattle.std.proofs.Common.{refl, sym, ap, ◌∙◌, arith, take_while, get_or, eq-eqb, length-drop}
-use Rattle.std.proofs.Math.Seq.{take-length}
+use Rattle.std.proofs.Common.{◌≡◌, ℕ, zero, suc, ◌+◌, ◌<◌, Bool, true, false, cond, ◌==◌, ◌||◌, List, [], ◌∷◌, ◌++◌, length, take, drop, Option}
+use Rattle.std.proofs.Common.{refl, ap, ◌∙◌, arith, take_while, get_or, eq-eqb}
+use Rattle.std.proofs.lemmas.Bool.Decides.{nat_tests}
 use Rattle.std.proofs.lemmas.List.{drop_more, drop-drop}
+use Rattle.std.proofs.lemmas.List.Folds.{length-prefix_len}
 use Rattle.std.proofs.lemmas.List.Sums.{take_while-cons}
 use Rattle.std.specs.Option.{option_map}
 use Rattle.std.specs.List.{list_all}
+use Rattle.dt_text.specs.Texts.{is_text_byte}
 use Rattle.dt_syntax.specs.Tokens.{tokens_from, with_front, front_token, is_blank, is_no_line_end, BeginsToken}
 
 -- what was read of a text, and what comes after it
@@ -41,10 +43,7 @@ unfolding tokens_from
 at_front b bs at begins = rw (begins.0, begins.1) refl
 
 pub take_while_front : (p : ℕ → Bool) (bs : List ℕ) → take (length (take_while p bs)) bs ≡ take_while p bs
-take_while_front p [] = refl
-take_while_front p (b ∷ bs) = rw (take_while-cons p b bs) (
-    elim (p b) as (λ v. take (length (cond v (b ∷ take_while p bs) [])) (b ∷ bs) ≡ cond v (b ∷ take_while p bs) [])
-    [ true ↦ ap (λ v. b ∷ v) (take_while_front p bs) | false ↦ refl ])
+take_while_front p bs = ap (λ n. take n bs) (length-prefix_len p bs)
 
 all_of : (p : ℕ → Bool) (b : ℕ) (bs : List ℕ) (v : Bool) → p b ≡ v → list_all p bs ≡ true → list_all p (cond v (b ∷ bs) []) ≡ true
 all_of p b bs true e h = rw e h
@@ -55,6 +54,6 @@ pub all_taken : (p : ℕ → Bool) (bs : List ℕ) → list_all p (take_while p 
 all_taken p [] = refl
 all_taken p (b ∷ bs) = rw (take_while-cons p b bs) (all_of p b (take_while p bs) (p b) refl (all_taken p bs))
 
--- the rest of a list from a place on, as a slice has it
-pub rest_from : (xs : List ℕ) (i : ℕ) → take (length xs - i) (drop i xs) ≡ drop i xs
-rest_from xs i = ap (λ n. take n (drop i xs)) (sym (length-drop i xs)) ∙ take-length (drop i xs)
+-- a `"` and a `\` may stand in a text
+pub quote_or_slash : (b : ℕ) → (b == 34 || b == 92) ≡ true → is_text_byte b ≡ true
+quote_or_slash b e = grind (arith, nat_tests)

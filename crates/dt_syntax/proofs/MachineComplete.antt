@@ -1,6 +1,6 @@
 -- Every beginning of the tokens of some procedures is read by the machine.
 use Rattle.std.proofs.Common.{◌≡◌, ℕ, zero, suc, ◌<◌, ◌≤◌, Bool, true, false, cond, ◌==◌, List, [], ◌∷◌, ◌++◌, length, Option, Some, None, refl, sym, ap, ◌∙◌}
-use Rattle.std.proofs.Common.{subst, arith, append_assoc, append-nil, length-append}
+use Rattle.std.proofs.Common.{subst, arith, add-one, append_assoc, append-nil, length-append}
 use Rattle.std.specs.List.{flat_map}
 use Rattle.std.proofs.lemmas.Bool.Decides.{nat_tests}
 use Rattle.dt_lists.specs.Lists.{AllIn}
@@ -16,24 +16,12 @@ use Rattle.dt_syntax.specs.declared.machine.Sym.TheVariants as expect
 use Rattle.dt_syntax.specs.MachineInner.{passes, tails, operator, after_turn, advance, onward, run}
 use Rattle.dt_syntax.specs.Grammar.{at, Syntax, chain, minus, denial, int, text, truth, name, parens, of_key, made, Links, no_link, link, syntax_tokens}
 use Rattle.dt_syntax.specs.Grammar.{links_tokens, level_of, IsLevel, AreLinks, reads_int, reads_text, reads_presence, makes_length, makes_text, Param}
-use Rattle.dt_syntax.specs.Grammar.{param_tokens, kind_token, Params, no_param, params, params_tokens, KeyPart, text_part, name_part, show_part, part_tokens}
+use Rattle.dt_syntax.specs.Grammar.{kind_token, Params, no_param, params, params_tokens, KeyPart, text_part, name_part, show_part, part_tokens}
 use Rattle.dt_syntax.specs.Grammar.{KeySyntax, key_tokens, mode_token, Item, row_item, value_item, item_tokens, items_tokens, Statement, let_new, set_key}
 use Rattle.dt_syntax.specs.Grammar.{clear_key, when, choose, abort, give, Statements, nothing, first, statement_tokens, statements_tokens, IsItem, IsStatement}
 use Rattle.dt_syntax.specs.Grammar.{AreStatements, ProcSyntax, proc_tokens, procs_tokens, IsProc, AreProcSyntaxes, InGrammar, Begins}
-
--- an expression of the level does not go on with this token
-abbrev pub Stops : ℕ → Token → Type 0
-Stops n (tok.Op o) = level_of o < n
-Stops n _ = Unit {0}
-
--- nor with what comes first of these
-abbrev pub FrontStops : ℕ → List Placed → Type 0
-FrontStops n [] = ⊥
-FrontStops n (t ∷ ts) = Stops n t.token
-
-stops_more : (n : ℕ) (t : Token) → Stops n t → Stops (suc n) t
-stops_more n (tok.Op o) h = omega arith
-stops_more n t h = tt
+use Rattle.dt_syntax.specs.FrontsInner.{Stops, FrontStops, comma_param, joined_part}
+use Rattle.dt_syntax.proofs.Shapes.{links_stop, six_stop, next_item, items_stop}
 
 some_front : (n : ℕ) (ts : List Placed) → FrontStops n ts → 0 < length ts
 some_front n [] h = absurd h
@@ -98,22 +86,13 @@ taken_at n o st passed e =
     subst (λ m. after_turn (operator m (tok.Op o)) st passed ≡ Some (expect.Level (suc m) ∷ (under m ++ st))) e (taken o st passed)
 
 links_front : (links : Links) (n : ℕ) (us : List Placed) → AreLinks n links → FrontStops n us → FrontStops (suc n) (links_tokens links ++ us)
-links_front no_link n [] h stop = stop
-links_front no_link n (t ∷ ts) h stop = stops_more n t.token stop
-links_front (link p o x more) n us h stop = let is = h.0 in omega arith
+links_front links n us h stop = subst (λ m. FrontStops m (links_tokens links ++ us)) (add-one n) (links_stop links n us h stop)
 
 last_link : (b : Bool) (n : ℕ) (more : Links) (st : List Sym) (us : List Placed) → (n == 2) ≡ b → (n ≡ 2 → more ≡ no_link) →
     run (expect.Tail n ∷ st) (links_tokens more ++ us) ≡ run st us → run (cond b [] (expect.Tail n ∷ []) ++ st) (links_tokens more ++ us) ≡ run st us
 last_link true n more st us e none goes =
     let two : n ≡ 2 = grind (arith, nat_tests) in ap (λ m. run st (links_tokens m ++ us)) (none two)
 last_link false n more st us e none goes = goes
-
-atom_front : (n : ℕ) (us : List Placed) → n ≡ 5 → FrontStops n us → FrontStops 6 us
-atom_front n us e stop = let five : FrontStops 5 us = subst (λ m. FrontStops m us) e stop in next us five
-  where
-    next : (us : List Placed) → FrontStops 5 us → FrontStops 6 us
-    next [] h = h
-    next (t ∷ ts) h = stops_more 5 t.token h
 
 mutual
   -- the tokens of an expression of the level are read
@@ -127,10 +106,10 @@ mutual
       ∙ sound_links links n st us h.0 h.2 stop
   sound (minus p x) n st us h stop =
       subst (λ m. run (expect.Level m ∷ st) (at p (tok.Op op.Sub) ∷ (syntax_tokens x ++ us)) ≡ run st us) (sym h.0)
-      (sound x 6 st us h.1 (atom_front n us h.0 stop))
+      (sound x 6 st us h.1 (six_stop us n h.0 stop))
   sound (denial p x) n st us h stop =
       subst (λ m. run (expect.Level m ∷ st) (at p tok.Not ∷ (syntax_tokens x ++ us)) ≡ run st us) (sym h.0)
-      (sound x 6 st us h.1 (atom_front n us h.0 stop))
+      (sound x 6 st us h.1 (six_stop us n h.0 stop))
   sound (int p z) n st us h stop = ap (λ ts. run (ts ++ st) us) (no_tails n h)
   sound (text p t) n st us h stop = ap (λ ts. run (ts ++ st) us) (no_tails n h)
   sound (truth p b) n st us h stop = ap (λ ts. run (ts ++ st) us) (no_tails n h)
@@ -169,26 +148,23 @@ kind_read kind.Int p st us = refl
 kind_read kind.Text p st us = refl
 
 more_params_read : (more : List (ℕ × Param)) (q : ℕ) (st : List Sym) (us : List Placed) →
-    run (expect.MoreParams ∷ st) (flat_map (λ m. at m.0 tok.Comma ∷ param_tokens m.1) more ++ at q tok.Close ∷ us) ≡ run st us
+    run (expect.MoreParams ∷ st) (flat_map comma_param more ++ at q tok.Close ∷ us) ≡ run st us
 more_params_read [] q st us = refl
 more_params_read ((p, param) ∷ more) q st us =
-    kind_read param.kind param.kind_at (expect.MoreParams ∷ st) (flat_map (λ m. at m.0 tok.Comma ∷ param_tokens m.1) more ++ at q tok.Close ∷ us)
+    kind_read param.kind param.kind_at (expect.MoreParams ∷ st) (flat_map comma_param more ++ at q tok.Close ∷ us)
     ∙ more_params_read more q st us
 
 params_read : (ps : Params) (q : ℕ) (st : List Sym) (us : List Placed) →
     run (expect.Params ∷ st) (params_tokens ps ++ at q tok.Close ∷ us) ≡ run st us
 params_read no_param q st us = refl
 params_read (params param more) q st us =
-    kind_read param.kind param.kind_at (expect.MoreParams ∷ st) (flat_map (λ m. at m.0 tok.Comma ∷ param_tokens m.1) more ++ at q tok.Close ∷ us)
+    kind_read param.kind param.kind_at (expect.MoreParams ∷ st) (flat_map comma_param more ++ at q tok.Close ∷ us)
     ∙ more_params_read more q st us
 
 part_read : (part : KeyPart) (st : List Sym) (us : List Placed) → run (expect.Part ∷ st) (part_tokens part ++ us) ≡ run st us
 part_read (text_part p t) st us = refl
 part_read (name_part p n) st us = refl
 part_read (show_part p b) st us = refl
-
-abbrev joined_part : ℕ × KeyPart → List Placed
-joined_part m = at m.0 (tok.Op op.Join) ∷ part_tokens m.1
 
 more_parts_read : (more : List (ℕ × KeyPart)) (e : ℕ) (st : List Sym) (us : List Placed) →
     run (expect.MoreParts ∷ st) (flat_map joined_part more ++ at e tok.Semicolon ∷ us) ≡ run st us
@@ -255,13 +231,6 @@ item_read : (i : Item) (st : List Sym) (us : List Placed) → IsItem i → Front
 item_read (row_item p b) st us h stop = refl
 item_read (value_item x) st us h stop = item_begins x 0 st us h ∙ sound x 0 st us h stop
 
-abbrev next_item : ℕ × Item → List Placed
-next_item m = at m.0 tok.Comma ∷ item_tokens m.1
-
-items_stop : (more : List (ℕ × Item)) (e : ℕ) (us : List Placed) → FrontStops 0 (flat_map next_item more ++ at e tok.Semicolon ∷ us)
-items_stop [] e us = tt
-items_stop (m ∷ more) e us = tt
-
 more_items_read : (more : List (ℕ × Item)) (e : ℕ) (st : List Sym) (us : List Placed) → AllIn (λ m. IsItem m.1) more →
     run (expect.MoreItems ∷ st) (flat_map next_item more ++ at e tok.Semicolon ∷ us) ≡ run st us
 more_items_read [] e st us h = refl
@@ -297,24 +266,20 @@ after_statement (choose p x b ts f w c rs g) ss e st us = refl
 after_statement (abort p q t f) ss e st us = refl
 after_statement (give p i more f) ss e st us = refl
 
--- what stands in brackets, and then more
-inner : (xs : List Placed) (y : Placed) (us : List Placed) → (xs ++ y ∷ []) ++ us ≡ xs ++ y ∷ us
-inner xs y us = append_assoc xs (y ∷ []) us
-
 mutual
   statement_read : (s : Statement) (st : List Sym) (us : List Placed) → IsStatement s →
       run (expect.Statements ∷ st) (statement_tokens s ++ us) ≡ run (after s ∷ st) us
   statement_read (let_new p q n i x e) st us h =
-      ap (run (expect.Level 0 ∷ expect.Semicolon ∷ expect.Statements ∷ st)) (inner (syntax_tokens x) (at e tok.Semicolon) us)
+      ap (run (expect.Level 0 ∷ expect.Semicolon ∷ expect.Statements ∷ st)) (append_assoc (syntax_tokens x) (at e tok.Semicolon ∷ []) us)
       ∙ sound x 0 (expect.Semicolon ∷ expect.Statements ∷ st) (at e tok.Semicolon ∷ us) h tt
   statement_read (set_key p q n i x e) st us h =
-      ap (run (expect.Level 0 ∷ expect.Semicolon ∷ expect.Statements ∷ st)) (inner (syntax_tokens x) (at e tok.Semicolon) us)
+      ap (run (expect.Level 0 ∷ expect.Semicolon ∷ expect.Statements ∷ st)) (append_assoc (syntax_tokens x) (at e tok.Semicolon ∷ []) us)
       ∙ sound x 0 (expect.Semicolon ∷ expect.Statements ∷ st) (at e tok.Semicolon ∷ us) h tt
   statement_read (clear_key p q n e) st us h = refl
   statement_read (when p x b ss e) st us h =
       ap (run (expect.Level 0 ∷ expect.Begin ∷ expect.Statements ∷ expect.AfterIf ∷ st))
       (append_assoc (syntax_tokens x) (at b tok.Begin ∷ (statements_tokens ss ++ at e tok.End ∷ [])) us
-      ∙ ap (λ v. syntax_tokens x ++ at b tok.Begin ∷ v) (inner (statements_tokens ss) (at e tok.End) us))
+      ∙ ap (λ v. syntax_tokens x ++ at b tok.Begin ∷ v) (append_assoc (statements_tokens ss) (at e tok.End ∷ []) us))
       ∙ sound x 0 (expect.Begin ∷ expect.Statements ∷ expect.AfterIf ∷ st) (at b tok.Begin ∷ (statements_tokens ss ++ at e tok.End ∷ us)) h.0 tt
       ∙ statements_read ss e (expect.AfterIf ∷ st) us h.1
   statement_read (choose p x b ss e w c rs f) st us h =
@@ -322,7 +287,7 @@ mutual
       (append_assoc (syntax_tokens x) (at b tok.Begin ∷ (statements_tokens ss ++ at e tok.End ∷ at w tok.Else ∷ at c tok.Begin ∷ (statements_tokens rs ++ at f tok.End ∷ []))) us
       ∙ ap (λ v. syntax_tokens x ++ at b tok.Begin ∷ v)
       (append_assoc (statements_tokens ss) (at e tok.End ∷ at w tok.Else ∷ at c tok.Begin ∷ (statements_tokens rs ++ at f tok.End ∷ [])) us
-      ∙ ap (λ v. statements_tokens ss ++ at e tok.End ∷ at w tok.Else ∷ at c tok.Begin ∷ v) (inner (statements_tokens rs) (at f tok.End) us)))
+      ∙ ap (λ v. statements_tokens ss ++ at e tok.End ∷ at w tok.Else ∷ at c tok.Begin ∷ v) (append_assoc (statements_tokens rs) (at f tok.End ∷ []) us)))
       ∙ sound x 0 (expect.Begin ∷ expect.Statements ∷ expect.AfterIf ∷ st)
       (at b tok.Begin ∷ (statements_tokens ss ++ at e tok.End ∷ at w tok.Else ∷ at c tok.Begin ∷ (statements_tokens rs ++ at f tok.End ∷ us))) h.0 tt
       ∙ statements_read ss e (expect.AfterIf ∷ st) (at w tok.Else ∷ at c tok.Begin ∷ (statements_tokens rs ++ at f tok.End ∷ us)) h.1
@@ -330,7 +295,7 @@ mutual
   statement_read (abort p q t e) st us h = refl
   statement_read (give p i more e) st us h =
       ap (run (expect.Item ∷ expect.MoreItems ∷ expect.Statements ∷ st))
-      (inner (items_tokens i more) (at e tok.Semicolon) us
+      (append_assoc (items_tokens i more) (at e tok.Semicolon ∷ []) us
       ∙ append_assoc (item_tokens i) (flat_map next_item more) (at e tok.Semicolon ∷ us))
       ∙ item_read i (expect.MoreItems ∷ expect.Statements ∷ st) (flat_map next_item more ++ at e tok.Semicolon ∷ us) h.0 (items_stop more e us)
       ∙ more_items_read more e (expect.Statements ∷ st) us h.1
@@ -357,7 +322,7 @@ proc_read p st us h =
     (append_assoc (key_tokens p.key) (from_more_keys p []) us
     ∙ ap (λ v. key_tokens p.key ++ v)
     (append_assoc (flat_map key_tokens p.more_keys) (at p.begin_at tok.Begin ∷ (statements_tokens p.body ++ at p.end_at tok.End ∷ [])) us
-    ∙ ap (λ v. flat_map key_tokens p.more_keys ++ at p.begin_at tok.Begin ∷ v) (inner (statements_tokens p.body) (at p.end_at tok.End) us))))
+    ∙ ap (λ v. flat_map key_tokens p.more_keys ++ at p.begin_at tok.Begin ∷ v) (append_assoc (statements_tokens p.body) (at p.end_at tok.End ∷ []) us))))
     ∙ params_read p.params p.close_at (expect.Keys ∷ expect.Procs ∷ st)
     (key_tokens p.key ++ from_more_keys p us)
     ∙ key_read p.key (expect.Procs ∷ st) (from_more_keys p us)

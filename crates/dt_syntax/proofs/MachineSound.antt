@@ -15,10 +15,12 @@ use Rattle.dt_syntax.specs.declared.machine.Sym.TheVariants as expect
 use Rattle.dt_syntax.specs.MachineInner.{Turn, takes, passes, refuses, tails, after_operator, operand, operator, statement, turn, after_turn, advance, onward, run}
 use Rattle.dt_syntax.specs.Grammar.{at, Syntax, chain, minus, denial, int, text, truth, name, parens, of_key, made, Links, no_link, link, syntax_tokens}
 use Rattle.dt_syntax.specs.Grammar.{links_tokens, level_of, IsLevel, AreLinks, reads_int, reads_text, reads_presence, makes_length, makes_text, Param}
-use Rattle.dt_syntax.specs.Grammar.{param_tokens, kind_token, Params, no_param, params, params_tokens, KeyPart, text_part, name_part, show_part, part_tokens}
+use Rattle.dt_syntax.specs.Grammar.{kind_token, Params, no_param, params, params_tokens, KeyPart, text_part, name_part, show_part, part_tokens}
 use Rattle.dt_syntax.specs.Grammar.{KeySyntax, key_tokens, Item, row_item, value_item, item_tokens, let_new, set_key, clear_key, when, choose, abort, give}
 use Rattle.dt_syntax.specs.Grammar.{Statements, nothing, first, statements_tokens, IsItem, AreStatements, ProcSyntax, procs_tokens, AreProcSyntaxes, InGrammar}
 use Rattle.dt_syntax.specs.Grammar.{Begins}
+use Rattle.dt_syntax.specs.FrontsInner.{comma_param, joined_part}
+use Rattle.dt_syntax.proofs.Shapes.{next_item}
 
 -- what stands from the keys of a procedure on
 record Rest : Type 0 where
@@ -84,15 +86,6 @@ Tree expect.MoreItems = ((more : List (ℕ × Item)) × AllIn (λ m. IsItem m.1)
 Tree (expect.Level n) = (x : Syntax) × IsLevel n x
 Tree (expect.Tail n) = (ls : Links) × AreLinks n ls
 
-abbrev comma_param : ℕ × Param → List Placed
-comma_param m = at m.0 tok.Comma ∷ param_tokens m.1
-
-abbrev joined_part : ℕ × KeyPart → List Placed
-joined_part m = at m.0 (tok.Op op.Join) ∷ part_tokens m.1
-
-abbrev comma_item : ℕ × Item → List Placed
-comma_item m = at m.0 tok.Comma ∷ item_tokens m.1
-
 abbrev spelled : (s : Sym) → Tree s → List Placed
 spelled expect.Procs t = procs_tokens t.0
 spelled expect.Name t = at t.0 (tok.Name t.1) ∷ []
@@ -113,7 +106,7 @@ spelled expect.MoreParts t = flat_map joined_part t.0 ++ at t.1 tok.Semicolon �
 spelled expect.Statements t = closed_tokens t
 spelled expect.AfterIf t = otherwises_tokens t.0 ++ closed_tokens t.1
 spelled expect.Item t = item_tokens t.0
-spelled expect.MoreItems t = flat_map comma_item t.0.0 ++ at t.1 tok.Semicolon ∷ []
+spelled expect.MoreItems t = flat_map next_item t.0.0 ++ at t.1 tok.Semicolon ∷ []
 spelled (expect.Level n) t = syntax_tokens t.0
 spelled (expect.Tail n) t = links_tokens t.0
 

@@ -1,10 +1,11 @@
 -- The first pass stops at one place, for one reason.
-use Rattle.std.proofs.Common.{◌≡◌, ◌⊎◌, inl, inr, ℕ, Bool, true, false, List, [], ◌∷◌, ◌++◌, Option, Some, None, refl, sym, ap, ◌∙◌, subst, append_assoc}
+use Rattle.std.proofs.Common.{◌≡◌, ◌⊎◌, inl, inr, ℕ, true, false, List, [], ◌∷◌, ◌++◌, None, refl, sym, ap, ◌∙◌, subst, append_assoc}
+use Rattle.std.proofs.lemmas.Bool.{true≢false}
 use Rattle.dt_syntax.specs.declared.token.Placed.{Placed}
 use Rattle.dt_syntax.specs.Tokens.{tokens_of}
 use Rattle.dt_syntax.specs.Grammar.{InGrammar, Begins}
 use Rattle.dt_syntax.specs.FirstPass.{is_too_many, NoneTooMany, backwards, StartsWell, FaultAfter}
-use Rattle.dt_lists.proofs.Callers.{same_head, same_tail}
+use Rattle.dt_lists.proofs.Callers.{none_some, same_head, same_tail, some_same}
 
 -- where a text stops being read, and why: with the front of its tokens that was read, and the rest
 pub data Stop : Type 0 where
@@ -19,31 +20,17 @@ Stops text before (t ∷ ts) (many place) = Begins (before ++ t ∷ []) × (is_t
 Stops text before [] end = ((tokens_of text).bad ≡ None) × InGrammar before
 Stops text before (t ∷ ts) end = ⊥
 
-some_or : ℕ → Option ℕ → ℕ
-some_or d None = d
-some_or d (Some n) = n
-
-same_some : (p q : ℕ) (o : Option ℕ) → o ≡ Some p → o ≡ Some q → p ≡ q
-unfolding some_or
-same_some p q o e f = ap (some_or p) (sym e ∙ f)
-
-none_some : (p : ℕ) (o : Option ℕ) → o ≡ None → o ≡ Some p → ⊥
-none_some p o e f = let g = sym e ∙ f in cc
-
-true_false : (b : Bool) → b ≡ true → b ≡ false → ⊥
-true_false b e f = let g = sym e ∙ f in cc
-
 -- at one place there is one reason
 here : (text : List ℕ) (before after : List Placed) (a b : Stop) → Stops text before after a → Stops text before after b → a ≡ b
-here text before [] (wrong p) (wrong q) (inl h) (inl k) = ap wrong (same_some p q (tokens_of text).bad h k)
-here text before [] (wrong p) (wrong q) (inl h) (inr k) = absurd (none_some p (tokens_of text).bad k.0 h)
-here text before [] (wrong p) (wrong q) (inr h) (inl k) = absurd (none_some q (tokens_of text).bad h.0 k)
+here text before [] (wrong p) (wrong q) (inl h) (inl k) = ap wrong (some_same (sym h ∙ k))
+here text before [] (wrong p) (wrong q) (inl h) (inr k) = absurd (none_some k.0 h)
+here text before [] (wrong p) (wrong q) (inr h) (inl k) = absurd (none_some h.0 k)
 here text before [] (wrong p) (wrong q) (inr h) (inr k) = ap wrong (h.1 ∙ sym k.1)
 here text before [] (wrong p) (many q) h k = absurd k
-here text before [] (wrong p) end (inl h) k = absurd (none_some p (tokens_of text).bad k.0 h)
+here text before [] (wrong p) end (inl h) k = absurd (none_some k.0 h)
 here text before [] (wrong p) end (inr h) k = absurd (h.2 k.1)
 here text before [] (many p) b h k = absurd h
-here text before [] end (wrong q) h (inl k) = absurd (none_some q (tokens_of text).bad h.0 k)
+here text before [] end (wrong q) h (inl k) = absurd (none_some h.0 k)
 here text before [] end (wrong q) h (inr k) = absurd (k.2 h.1)
 here text before [] end (many q) h k = absurd k
 here text before [] end end h k = refl
@@ -65,7 +52,7 @@ few_at earlier (x ∷ xs) t ys h = few_at (x ∷ earlier) xs t ys h.1
 -- what is read beyond a place does not stop there
 beyond : (text : List ℕ) (before : List Placed) (t : Placed) (ts more : List Placed) (a : Stop) → Stops text before (t ∷ ts) a → Begins (before ++ t ∷ more) → NoneTooMany [] (before ++ t ∷ more) → ⊥
 beyond text before t ts more (wrong p) h b few = h.1 (begins_front (before ++ t ∷ []) more (subst Begins (sym (append_assoc before (t ∷ []) more)) b))
-beyond text before t ts more (many p) h b few = true_false (is_too_many (backwards before []) t.token) h.1 (few_at [] before t more few)
+beyond text before t ts more (many p) h b few = true≢false (sym h.1 ∙ few_at [] before t more few)
 beyond text before t ts more end h b few = h
 
 -- the second cut is further on
@@ -108,15 +95,8 @@ one_stop text a b r s = chosen (cuts r.before r.after s.before s.after (sym r.we
     chosen (inr (inr (t, more, e, f))) =
         absurd (beyond text s.before t (more ++ r.after) more b (subst (λ v. Stops text s.before v b) f s.stops) (subst Begins e r.well.begins) (subst (NoneTooMany []) e r.well.few))
 
-place_of : Stop → ℕ
-place_of (wrong p) = p
-place_of (many p) = p
-place_of end = 0
-
 pub same_wrong : (p q : ℕ) → wrong p ≡ wrong q → p ≡ q
-unfolding place_of
-same_wrong p q e = ap place_of e
+same_wrong p q e = cc
 
 pub same_many : (p q : ℕ) → many p ≡ many q → p ≡ q
-unfolding place_of
-same_many p q e = ap place_of e
+same_many p q e = cc

@@ -12,7 +12,7 @@ use Rattle.dt_syntax.specs.Grammar.{at, Bracketed, bracketed_tokens, Syntax, cha
 use Rattle.dt_syntax.specs.Grammar.{link, syntax_tokens, links_tokens, level_of, IsLevel, AreLinks, reads_int, reads_text, reads_presence, makes_length}
 use Rattle.dt_syntax.specs.Grammar.{makes_text, Item, row_item, value_item, item_tokens, items_tokens, IsItem, Statement, let_new, set_key, clear_key, when}
 use Rattle.dt_syntax.specs.Grammar.{choose, abort, give, Statements, nothing, first, statement_tokens, statements_tokens, IsStatement, AreStatements}
-use Rattle.dt_syntax.proofs.Shapes.{inner, up, chain_shape, links_stop, placed_is, six_stop, front_token, next_item, AreItems, items_stop}
+use Rattle.dt_syntax.proofs.Shapes.{inner, up, chain_shape, links_stop, placed_is, same_op, six_stop, front_token, next_item, AreItems, items_stop}
 use Rattle.dt_syntax.proofs.Shapes.{items_cut, StepShape, setting_cut, step_shape, no_else, begins_other}
 use Rattle.dt_lists.proofs.Callers.{same_head, same_tail}
 
@@ -26,29 +26,11 @@ front_token_is p q s t us vs e = (placed_is p q s t (same_head e)).1
 pub after_front : (p q : ℕ) (s t : Token) (us vs : List Placed) → at p s ∷ us ≡ at q t ∷ vs → us ≡ vs
 after_front p q s t us vs e = same_tail e
 
-name_of : Token → List ℕ
-name_of (tok.Name n) = n
-name_of t = []
-
 pub same_name : (n m : List ℕ) → tok.Name n ≡ tok.Name m → n ≡ m
-unfolding name_of
-same_name n m e = ap name_of e
-
-text_of : Token → List ℕ
-text_of (tok.Text n) = n
-text_of t = []
+same_name n m e = cc
 
 pub same_text : (n m : List ℕ) → tok.Text n ≡ tok.Text m → n ≡ m
-unfolding text_of
-same_text n m e = ap text_of e
-
-op_of : Token → Op
-op_of (tok.Op o) = o
-op_of t = op.Or
-
-same_op : (o u : Op) → tok.Op o ≡ tok.Op u → o ≡ u
-unfolding op_of
-same_op o u e = ap op_of e
+same_text n m e = cc
 
 pub one_bracketed : (b c : Bracketed) (r s : List Placed) → bracketed_tokens b ++ r ≡ bracketed_tokens c ++ s → (b ≡ c) × (r ≡ s)
 one_bracketed b c r s e =

@@ -40,13 +40,12 @@ chain_shape (parens p x q) n lt h = absurd (omega (arith, h.0))
 chain_shape (of_key p r b) n lt h = absurd (omega (arith, h))
 chain_shape (made p m o x q) n lt h = absurd (omega (arith, h.0))
 
-stops_more : (n : ℕ) (t : Token) → Stops n t → Stops (suc n) t
+pub stops_more : (n : ℕ) (t : Token) → Stops n t → Stops (suc n) t
 stops_more n (tok.Op o) h = omega arith
 stops_more n t h = tt
 
 stops_after : (n : ℕ) (t : Token) → Stops n t → Stops (n + 1) t
-stops_after n (tok.Op o) h = omega arith
-stops_after n t h = tt
+stops_after n t h = subst (λ m. Stops m t) (sym (add-one n)) (stops_more n t h)
 
 pub links_stop : (links : Links) (n : ℕ) (us : List Placed) → AreLinks n links → FrontStops n us → FrontStops (n + 1) (links_tokens links ++ us)
 links_stop no_link n [] h stop = stop
@@ -85,8 +84,8 @@ pub record IsFirstLink (n : ℕ) (p : ℕ) (o : Op) (after : List Placed) (ls : 
 pub placed_is : (p q : ℕ) (s t : Token) → at p s ≡ at q t → (p ≡ q) × (s ≡ t)
 placed_is p q s t e = (ap (λ v. v.place) e, ap (λ v. v.token) e)
 
-operator_is : (o u : Op) → tok.Op o ≡ tok.Op u → o ≡ u
-operator_is o u e = cc
+pub same_op : (o u : Op) → tok.Op o ≡ tok.Op u → o ≡ u
+same_op o u e = cc
 
 pub link_first : (n p : ℕ) (o : Op) (after : List Placed) (ls : Links) (rest ts : List Placed) → AreLinks n ls → FrontStops n rest →
     level_of o ≡ n → at p (tok.Op o) ∷ after ≡ ts → links_tokens ls ++ rest ≡ ts → IsFirstLink n p o after ls rest
@@ -98,7 +97,7 @@ link_first n p o after no_link (t ∷ rest) ts h stop is e f =
 link_first n p o after (link q u x more) rest ts h stop is e f =
     let joined = f ∙ sym e in
     let same = placed_is q p (tok.Op u) (tok.Op o) (same_head joined) in
-    let operator = operator_is u o same.1 in
+    let operator = same_op u o same.1 in
     record {
       x = x;
       more = more;

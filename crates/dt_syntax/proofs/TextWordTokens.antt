@@ -7,19 +7,11 @@ use Rattle.std.proofs.lemmas.Bool.Decides.{nat_tests}
 use Rattle.std.proofs.lemmas.List.{length-append}
 use Rattle.dt_text.specs.Texts.{is_text_byte}
 use Rattle.dt_text.specs.Printed.{text_item, text_items, text_word}
-use Rattle.dt_syntax.specs.declared.token.Token.{Token}
 use Rattle.dt_syntax.specs.declared.token.Token.TheVariants.{Text}
 use Rattle.dt_syntax.specs.Tokens.{items_of, escaped, with_item, text_found, text_after, Sized}
 use Rattle.dt_syntax.specs.TextTokens.{IsTextWordBefore, TextTokensAreTextWords}
-use Rattle.dt_lists.proofs.Callers.{same_tail}
-
-pair_or : Option (List ℕ × List ℕ) → List ℕ × List ℕ
-pair_or None = ([], [])
-pair_or (Some p) = p
-
-same_pair : (p q : List ℕ × List ℕ) → ◌≡◌ {A = Option (List ℕ × List ℕ)} (Some p) (Some q) → p ≡ q
-unfolding pair_or
-same_pair p q e = ap pair_or e
+use Rattle.dt_lists.proofs.Callers.{same_tail, some_same}
+use Rattle.dt_syntax.proofs.LexerLemmas.{quote_or_slash}
 
 -- an item before others, as it was found
 record IsFound (b : ℕ) (o : Option (List ℕ × List ℕ)) (t rest : List ℕ) : Type 0 where
@@ -30,7 +22,7 @@ record IsFound (b : ℕ) (o : Option (List ℕ × List ℕ)) (t rest : List ℕ)
 with_is : (b : ℕ) (o : Option (List ℕ × List ℕ)) (t rest : List ℕ) → with_item b o ≡ Some (t, rest) → IsFound b o t rest
 with_is b None t rest e = absurd cc
 with_is b (Some (u, vs)) t rest e =
-    let p = same_pair (b ∷ u, vs) (t, rest) e in
+    let p = some_same e in
     record { others = u; found = ap (λ (v : List ℕ). Some (u, v)) (ap (λ (q : List ℕ × List ℕ). q.1) p); is = sym (ap (λ (q : List ℕ × List ℕ). q.0) p) }
 
 -- the bytes are the items of the text, the `"` after them, and the rest
@@ -45,14 +37,6 @@ one_more b item bs u t rest allowed is front (all, cut) =
       ap (λ v. item ++ v) cut ∙ sym (append_assoc item (text_items u) (34 ∷ rest)) ∙ ap (λ v. (v ++ text_items u) ++ 34 ∷ rest) (sym is),
     )
 
-quote_or_slash : (b : ℕ) → (b == 34 || b == 92) ≡ true → is_text_byte b ≡ true
-quote_or_slash b e = split (b == 34) (b == 92) refl refl e
-  where
-    split : (p q : Bool) → (b == 34) ≡ p → (b == 92) ≡ q → (p || q) ≡ true → is_text_byte b ≡ true
-    split true q is other h = let same : b ≡ 34 = grind (arith, nat_tests) in subst (λ n. is_text_byte n ≡ true) (sym same) refl
-    split false true is other h = let same : b ≡ 92 = grind (arith, nat_tests) in subst (λ n. is_text_byte n ≡ true) (sym same) refl
-    split false false is other h = absurd cc
-
 abbrev Found : Type 0
 Found = Option (List ℕ × List ℕ)
 
@@ -66,7 +50,7 @@ first_found b bs t rest after after_slash e = split (b == 34) (b == 92) (is_text
         ArePrinted (b ∷ bs) t rest
     split true q r is other allowed h =
         let same : b ≡ 34 = grind (arith, nat_tests) in
-        let p = same_pair ([], bs) (t, rest) h in
+        let p = some_same h in
         let none : [] ≡ t = ap (λ (q : List ℕ × List ℕ). q.0) p in
         let left : bs ≡ rest = ap (λ (q : List ℕ × List ℕ). q.1) p in
         subst (λ v. ArePrinted (b ∷ bs) v rest) none (refl, λ i. same i ∷ left i)
@@ -123,14 +107,6 @@ printed (b ∷ t) rest all =
     ∙ item_found b (text_items t ++ 34 ∷ rest) (and_parts (is_text_byte b) (list_all is_text_byte t) all).0
     ∙ ap (with_item b) (printed t rest (and_parts (is_text_byte b) (list_all is_text_byte t) all).1)
 
-text_of : Token → List ℕ
-text_of (Text t) = t
-text_of t = []
-
-sized_or : Option Sized → Sized
-sized_or None = (Text [], 0)
-sized_or (Some s) = s
-
 -- the text that is found, with its size
 record IsSized (bs t : List ℕ) (n : ℕ) (o : Option (List ℕ × List ℕ)) : Type 0 where
   pub rest : List ℕ
@@ -139,15 +115,15 @@ record IsSized (bs t : List ℕ) (n : ℕ) (o : Option (List ℕ × List ℕ)) :
   pub size : n ≡ length bs - length rest + 1
 
 sized : (bs t : List ℕ) (n : ℕ) (o : Option (List ℕ × List ℕ)) → text_found bs o ≡ Some (Text t, n) → IsSized bs t n o
-unfolding text_of sized_or
 sized bs t n None e = absurd cc
 sized bs t n (Some (u, rest)) e = split (nat_le (length u) 256) refl e
   where
     split : (p : Bool) → nat_le (length u) 256 ≡ p → cond {A = Option Sized} p (Some (Text u, length bs - length rest + 1)) None ≡ Some (Text t, n) → IsSized bs t n (Some (u, rest))
     split false is h = absurd cc
     split true is h =
-        let pair : (Text u, length bs - length rest + 1) ≡ (Text t, n) = ap sized_or h in
-        let same : u ≡ t = ap (λ (s : Sized). text_of s.0) pair in
+        let pair : ◌≡◌ {A = Sized} (Text u, length bs - length rest + 1) (Text t, n) = some_same h in
+        let token : Text u ≡ Text t = ap (λ (s : Sized). s.0) pair in
+        let same : u ≡ t = cc in
         let few : length u ≤ 256 = grind (arith, nat_tests) in
         record { rest = rest; few = subst (λ v. length v ≤ 256) same few; found = ap (λ (v : List ℕ). Some (v, rest)) same; size = sym (ap (λ (s : Sized). s.1) pair) }
 

@@ -15,7 +15,7 @@ use Rattle.dt_syntax.specs.Tokens.{tokens_of, tokens_from, Lexed, with_front, fr
 use Rattle.dt_syntax.specs.Tokens.{plain_word, whole_number, is_digit, is_letter, text_after, text_found, items_of, escaped, with_item, sign_before}
 use Rattle.dt_syntax.specs.Tokens.{single_sign, double_sign, first_of, Sized, is_blank, is_no_line_end}
 use Rattle.dt_syntax.specs.Limits.{IsSoundToken, AllSound}
-use Rattle.dt_syntax.proofs.LexerLemmas.{all_taken}
+use Rattle.dt_syntax.proofs.LexerLemmas.{all_taken, quote_or_slash}
 use Rattle.dt_syntax.proofs.NumberTokens.{whole_small}
 use Rattle.std.proofs.lemmas.Int.{ints}
 
@@ -85,9 +85,6 @@ cond_items : (b : Bool) (x y : Option (List ℕ × List ℕ)) → (b ≡ true �
 cond_items true x y h k = h refl
 cond_items false x y h k = k
 
-quoted : (b : ℕ) → (b == 34 || b == 92) ≡ true → is_text_byte b ≡ true
-quoted b e = grind (arith, nat_tests)
-
 mutual
   items_sound : (bs : List ℕ) → Items (items_of bs)
   items_sound [] = tt
@@ -99,7 +96,7 @@ mutual
   escaped_sound : (bs : List ℕ) → Items (escaped bs)
   escaped_sound [] = tt
   escaped_sound (b ∷ bs) =
-      cond_items (b == 34 || b == 92) (with_item b (items_of bs)) None (λ e. item_with b (items_of bs) (quoted b e) (items_sound bs)) tt
+      cond_items (b == 34 || b == 92) (with_item b (items_of bs)) None (λ e. item_with b (items_of bs) (quote_or_slash b e) (items_sound bs)) tt
 
 found_sound : (bs : List ℕ) (o : Option (List ℕ × List ℕ)) → Items o → SoundSized (text_found bs o)
 found_sound bs None h = tt

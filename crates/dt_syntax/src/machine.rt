@@ -346,11 +346,7 @@ fn turn(sym: Sym, token: &Token) -> Step<'static>
 fn push_all(stack: &mut Vec<Sym>, parts: &[Sym]) -> Result<(), NoMemory>
     ensures { OnOk result (reverse stack.new.items ≡ parts.now ++ reverse stack.old.items) }
 {
-    let mut left = parts.len();
-    while left > 0 {
-        left -= 1;
-        stack.push(parts[left])?;
-    }
+    stack.extend(parts.iter().rev())?;
     Ok(())
 }
 

@@ -4,7 +4,7 @@ use Rattle.dt_syntax.specs.Tokens.{front_token}
 use Rattle.dt_syntax.specs.MachineInner.{Advances}
 use Rattle.dt_syntax.specs.FirstPass.{backwards}
 use Rattle.dt_syntax.specs.Grammar.{at}
-use Rattle.dt_syntax.proofs.LexerLemmas.{rest_from}
+use Rattle.dt_lists.proofs.Callers.{rest_from}
 use Rattle.dt_syntax.proofs.FirstPassLoop.{Reading, bad_token, refused, one_too_many, counts_small, front_within, reads_on, passes, too_early}
 use Rattle.dt_syntax.proofs.first_pass.read_tokens.Goals as goal
 

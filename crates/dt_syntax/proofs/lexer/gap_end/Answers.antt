@@ -1,5 +1,6 @@
 use Rattle.std.proofs.Common.{◌+◌, sym, ◌∙◌, arith, length-drop}
-use Rattle.dt_syntax.proofs.LexerLemmas.{gap_blank, gap_comment, rest_from}
+use Rattle.dt_lists.proofs.Callers.{rest_from}
+use Rattle.dt_syntax.proofs.LexerLemmas.{gap_blank, gap_comment}
 use Rattle.dt_syntax.proofs.lexer.gap_end.Goals as goal
 
 pub loop-end-preserved-then-is_blank : goal.loop-end-preserved-then-is_blank
