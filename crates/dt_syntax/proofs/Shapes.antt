@@ -40,7 +40,7 @@ chain_shape (parens p x q) n lt h = absurd (omega (arith, h.0))
 chain_shape (of_key p r b) n lt h = absurd (omega (arith, h))
 chain_shape (made p m o x q) n lt h = absurd (omega (arith, h.0))
 
-pub stops_more : (n : ℕ) (t : Token) → Stops n t → Stops (suc n) t
+stops_more : (n : ℕ) (t : Token) → Stops n t → Stops (suc n) t
 stops_more n (tok.Op o) h = omega arith
 stops_more n t h = tt
 
