@@ -6,9 +6,10 @@ pub use Rattle.dt_agreement.proofs.Submissions.{WasSubmitted, find_has, from_reg
 pub use Rattle.dt_agreement.proofs.Views.{fronts_longer, log_is, logs_length, received_log, received_own}
 pub use Rattle.dt_agreement.proofs.Logs.{part_homed}
 pub use Rattle.dt_agreement.proofs.Sessions.{answered_changed, answered_in, each_found, found_is_named, key_of_test, session_of_test, session_found}
-pub use Rattle.dt_agreement.proofs.Runs.{world_from_append, world_after_more, legal_append, legal_more, append_legal, more_legal, with_executed, ordered, order_of_more}
+pub use Rattle.dt_agreement.proofs.Runs.{world_from_append, world_after_more, legal_append, legal_more, append_legal, more_legal, run_front, with_executed, ordered, order_of_more}
 pub use Rattle.dt_agreement.proofs.Annotations.{unmoved_at_first, body_fits, version_stays}
 pub use Rattle.dt_agreement.proofs.AllAgree.{lookup_has, answered_done}
+pub use Rattle.dt_agreement.proofs.Reports.{executed_accounted, answer_accounted}
 pub use Rattle.dt_agreement.proofs.WaitingSessions.{WaitsAt}
 pub use Rattle.dt_agreement.proofs.Rule1Submit.{Submits}
 pub use Rattle.dt_agreement.proofs.Rule2Append.{IsRequest}
@@ -19,7 +20,7 @@ use Rattle.dt_access.specs.Clash.{Bytes}
 use Rattle.dt_access.specs.declared.TxnId.{TxnId}
 use Rattle.dt_sched.specs.Views.{ids_of, log_at, IsWellFormed}
 use Rattle.dt_events.specs.declared.Event.{Event}
-use Rattle.dt_events.specs.declared.Event.TheVariants.{Append, Execute, Answer}
+use Rattle.dt_events.specs.declared.Event.TheVariants.{Append, Execute}
 use Rattle.dt_txn.specs.declared.Txn.{Txn}
 use Rattle.dt_txn.specs.Transaction.{IsValid, part_of}
 use Rattle.dt_txn.specs.Replica.{MayStep, done_ids}
@@ -34,7 +35,6 @@ use Rattle.dt_session.specs.Run.{world_after, AreLegal, order_of}
 use Rattle.dt_session.specs.Agreement.{Agree}
 use Rattle.dt_agreement.specs.LegalRun.{IsLegalRun}
 use Rattle.dt_agreement.specs.Invariant.{IsPlaceOf, Inv}
-use Rattle.dt_agreement.specs.Reports.{IsAccounted, IsAnswered}
 use Rattle.dt_agreement.proofs.Logs.{log_once}
 use Rattle.dt_agreement.proofs.RegionViews as views
 use Rattle.dt_agreement.proofs.Rule1Submit as rule1
@@ -45,7 +45,6 @@ use Rattle.dt_agreement.proofs.Rule6Execute as rule6
 use Rattle.dt_agreement.proofs.LegalWorlds as worlds
 use Rattle.dt_agreement.proofs.LaterWorlds as later
 use Rattle.dt_agreement.proofs.AllAgree as agreement
-use Rattle.dt_agreement.proofs.Reports as reports
 
 -- legal lists
 
@@ -59,14 +58,6 @@ module _ (cluster : Cluster) (ok : IsValidCluster cluster) (workload : Workload)
 
   pub legal_agree : (events : List Event) → AreLegal cluster workload events → Agree cluster workload events
   legal_agree events legal = agreement.legal_agree (legal_run events legal)
-
-  -- nothing is left out of a report
-  pub executed_accounted : (events : List Event) → AreLegal cluster workload events → (id : TxnId) → Has (order_of events) id → IsAccounted cluster workload events id
-  executed_accounted events legal = reports.executed_accounted (legal_run events legal)
-
-  pub answer_accounted : (first : List Event) (region : ℕ) (name : Bytes) (last : List Event) → AreLegal cluster workload (first ++ Answer region name ∷ last)
-      → IsAnswered cluster workload (first ++ Answer region name ∷ last) first region name
-  answer_accounted first region name last legal = reports.answer_accounted first region name last (legal_run (first ++ Answer region name ∷ last) legal)
 
   -- a legal event keeps the invariant, and leaves the transactions of ids
   pub next_keeps : (w : World) (order : List TxnId) (event : Event) → IsLegal cluster workload w event → Inv cluster workload w order

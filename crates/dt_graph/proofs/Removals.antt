@@ -6,7 +6,7 @@ use Rattle.std.specs.List.{list_any}
 use Rattle.std.proofs.lemmas.Bool.{cases_Bool, false_from_ne_true}
 use Rattle.std.proofs.lemmas.List.{get_or_read}
 use Rattle.dt_lists.specs.Lists.{AnyIn, AllIn, Has, Distinct}
-use Rattle.dt_lists.proofs.Callers.{all_get, all_put, any_get, any_map, any_of_image, any_of_test, any_put, filter_each, has_filter, has_map, has_of_filtered, test_of_any}
+use Rattle.dt_lists.proofs.Callers.{all_get, all_put, any_get, any_map, any_of_image, any_of_test, filter_each, has_filter, has_map, has_of_filtered, test_of_any}
 use Rattle.dt_queue.specs.Queues.{HasDistinctSlots, IsQueued, Waiting, taken_out}
 use Rattle.dt_queue.proofs.Callers.{waits_without}
 use Rattle.dt_waits.specs.declared.vertex.Vertex.{Vertex}
@@ -14,6 +14,7 @@ use Rattle.dt_waits.specs.Waits.{is_leaving, is_of, slots_of}
 use Rattle.dt_waits.specs.Graph.{vertex_at}
 use Rattle.dt_waits.specs.Steps.{HaveSlots}
 use Rattle.dt_waits.proofs.Callers.{filter_both, filter_same, slot_other}
+use Rattle.dt_graph.proofs.WaitEdges.{slots_wait}
 
 -- whether the slot is one of these
 abbrev pub is_among_slots : List ℕ → ℕ → Bool
@@ -69,12 +70,7 @@ module _ (slots : List ℕ) (old : List Waiting) where
       all_stay [] = refl
       all_stay (w ∷ ws) = ap (λ l. w ∷ l) (all_stay ws)
 
--- entries wait at the slots of a vertex, and no two of these are the same
-pub slots_wait : (waiting : List Waiting) (v : ℕ) → AllIn (IsQueued waiting) (slots_of waiting v)
-slots_wait waiting v = all_put _ (slots_of waiting v) (λ s h.
-    let w : (w : Waiting) × Has (filter (is_of v) waiting) w × (w.slot ≡ s) = any_get _ (filter (is_of v) waiting) (any_of_image (λ x. x ≡ s) (λ w. w.slot) (filter (is_of v) waiting) h) in
-    any_put (λ w. w.slot ≡ s) waiting w.0 (has_of_filtered (is_of v) waiting w.0 w.1).0 w.2)
-
+-- no two slots of a vertex are the same
 pub slots_once : (waiting : List Waiting) (v : ℕ) → HasDistinctSlots waiting → Distinct (slots_of waiting v)
 slots_once waiting v distinct = each_of_slots (filter (is_of v) waiting) (filter_each (λ u w. u.slot ≢ w.slot) (is_of v) waiting distinct)
   where

@@ -6,7 +6,7 @@ use Rattle.dt_lists.proofs.Callers.{any_append, any_append_left, any_append_righ
 use Rattle.dt_access.specs.declared.TxnId.{TxnId}
 use Rattle.dt_plain.proofs.IdEquality.{no_id}
 use Rattle.dt_sched.specs.IdLists.{AddsOnce}
-use Rattle.dt_plain.specs.Links.{Follows}
+use Rattle.dt_plain.specs.LinksInner.{Follows}
 use Rattle.dt_plain.specs.declared.search.Link.{Link}
 
 -- an id that isn't there is added at the back

@@ -5,7 +5,7 @@ use Rattle.dt_access.specs.declared.TxnId.{TxnId}
 use Rattle.dt_access.specs.declared.Part.{Part}
 use Rattle.dt_sched.specs.Views.{View}
 use Rattle.dt_sched.specs.IdLists.{AddsOnce}
-use Rattle.dt_plain.specs.Graphs.{GetsIds}
+use Rattle.dt_plain.specs.GraphsInner.{GetsIds}
 use Rattle.dt_sched.specs.Surroundings.{ArePresent}
 
 -- one more part

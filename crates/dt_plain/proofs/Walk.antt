@@ -6,7 +6,7 @@ use Rattle.dt_lists.specs.Lists.{AllIn, Has, Distinct}
 use Rattle.dt_lists.proofs.Callers.{any_map, any_image, all_map, all_get, all_put, all_append, distinct_within, has_at}
 use Rattle.dt_access.specs.declared.TxnId.{TxnId}
 use Rattle.dt_sched.specs.Views.{Chain, here, onward}
-use Rattle.dt_plain.specs.Links.{IsLinked, Follows, AreReached}
+use Rattle.dt_plain.specs.LinksInner.{IsLinked, Follows, AreReached}
 use Rattle.dt_plain.specs.declared.search.Link.{Link}
 
 -- the first `at` of what was found from `start` were followed

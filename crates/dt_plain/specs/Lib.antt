@@ -1,4 +1,4 @@
 pub mod PlainSchedView
-pub mod Links
-pub mod Graphs
-pub mod Ranks
+pub mod LinksInner
+pub mod GraphsInner
+pub mod RanksInner

@@ -1,6 +1,6 @@
 -- The plain scheduler keeps what was inserted, resolved and done, and nothing else: it gathers the graph anew for each
 -- answer. So it is seen as what every scheduler is seen as (`Sched` of dt_sched), and beside it how much room it has.
--- Read `Sched` before. Read next: Graphs.antt, for the graph that it gathers.
+-- Read `Sched` before. Read next: `GraphsInner`, for the graph that it gathers.
 use Rattle.std.specs.Prelude.{ℕ}
 use Rattle.dt_sched.specs.Sched.{Sched}
 

@@ -1,6 +1,6 @@
 ghost use Rattle.std.specs.Prelude.{◌≡◌, ◌↔◌, IsTrue, IfOk, OnOk, map};
 ghost use Rattle.dt_sched.specs.Surroundings.{MakesEdge, EdgeInto, EdgeWithin, AreBehind, AreAhead, ArePresent};
-ghost use Rattle.dt_plain.specs.Graphs.{Gains, AreEdges, GetsIds, turned_link};
+ghost use Rattle.dt_plain.specs.GraphsInner.{Gains, AreEdges, GetsIds, turned_link};
 ghost use Rattle.dt_lists.specs.Lists.{AllIn, Distinct};
 ghost use Rattle.dt_sched.specs.Views.{IsComplete, IsClass, IsSooner};
 
@@ -25,7 +25,7 @@ pub struct Graph<'a> {
 
 impl<'a> Model for Graph<'a> {
     ghost use Rattle.dt_sched.specs.Views.{View};
-    ghost use Rattle.dt_plain.specs.Graphs.{IsGraphOf};
+    ghost use Rattle.dt_plain.specs.GraphsInner.{IsGraphOf};
 
     ghost Value = { View };
 

@@ -4,7 +4,7 @@
 //! to be right. It is slow for thousands of parts. The trait that it meets, and the words of its answers, are those of
 //! `dt_sched`.
 //!
-//! Read next: `specs/Graphs.antt`, the graph that it gathers for an answer.
+//! Read next: `specs/GraphsInner.antt`, the graph that it gathers for an answer.
 #![tactic(auto)]
 
 mod class;

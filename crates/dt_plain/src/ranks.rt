@@ -1,6 +1,6 @@
 ghost use Rattle.std.specs.Prelude.{◌≡◌, ◌↔◌, IsTrue};
 ghost use Rattle.dt_sched.specs.Views.{IsSooner, rank_of};
-ghost use Rattle.dt_plain.specs.Ranks.{first_rank};
+ghost use Rattle.dt_plain.specs.RanksInner.{first_rank};
 
 use dt_access::{Part, TxnId};
 use dt_text::Listed;

@@ -1,6 +1,6 @@
 ghost use Rattle.std.specs.Prelude.{IfOk, OnOk};
 ghost use Rattle.dt_lists.specs.Lists.{Distinct};
-ghost use Rattle.dt_plain.specs.Links.{Follows, AreReached};
+ghost use Rattle.dt_plain.specs.LinksInner.{Follows, AreReached};
 
 use crate::ids::add_once;
 use dt_access::{Ids, TxnId};
@@ -16,7 +16,7 @@ pub struct Link {
 
 impl Link {
     ghost use Rattle.std.specs.Prelude.{◌≡◌};
-    ghost use Rattle.dt_plain.specs.Graphs.{turned_link};
+    ghost use Rattle.dt_plain.specs.GraphsInner.{turned_link};
 
     /// The link the other way round.
     pub fn turned(&self) -> Self

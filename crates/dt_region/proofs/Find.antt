@@ -10,7 +10,7 @@ use Rattle.dt_access.specs.Ids.{same_id}
 use Rattle.dt_access.specs.declared.TxnId.{TxnId}
 use Rattle.dt_txn.specs.declared.txn.Txn.{Txn}
 use Rattle.dt_region.specs.Region.{find_txn}
-use Rattle.dt_region.specs.Foreign.{AreKeyed}
+use Rattle.dt_region.specs.ForeignInner.{AreKeyed}
 use Rattle.dt_region.specs.Sound.{AreCounted}
 use Rattle.dt_access.proofs.Callers.{id_of_test, test_of_id, test_of_other, same_id_turned}
 

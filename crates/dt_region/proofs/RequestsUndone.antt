@@ -1,19 +1,23 @@
 -- A home is asked by a push to its list, and asking homes can be taken back.
-use Rattle.std.proofs.Common.{◌≡◌, ◌<◌, ◌-◌, ℕ, suc, List, [], ◌∷◌, ◌++◌, length, get_or, set, take, ap, ap₂, subst, refl, ◌∙◌, arith, length-append, Result, Ok, Err, OnOk, OnErr}
-use Rattle.std.proofs.lemmas.List.{length-set, get_or-set_same, get_or_read_under, set-get_or, take-append-le, set-set}
-use Rattle.std.proofs.Math.Seq.{take-length}
+use Rattle.std.proofs.Common.{◌≡◌, ◌<◌, ◌+◌, ◌⊎◌, ℕ, List, [], ◌∷◌, ◌++◌, length, get_or, set, Some, None, ap, ap₂, subst, sym, refl, ◌∙◌, inl, inr, true≢false, arith, Result, Ok, Err, OnOk, OnErr}
+use Rattle.std.specs.Prelude.{Option, IsSome, option_to_list}
+use Rattle.std.proofs.lemmas.List.{length_push, length-set, get_or-set_same, get_or_read_under, same_from_push, set-get_or}
+use Rattle.dt_lists.proofs.Callers.{set_set}
+
+-- a list whose last item is taken off is as before that item came
+before_push : {A : Type 0} (xs was now : List A) (x : A) (last : Option A) → was ≡ xs ++ x ∷ [] → was ≡ now ++ option_to_list last → IsSome last ⊎ (was ≡ []) → now ≡ xs
+before_push xs was now x (Some y) pushed taken some = (same_from_push now xs y x (sym taken ∙ pushed)).0
+before_push xs was now x None pushed taken (inl some) = absurd (true≢false (sym some))
+before_push xs was now x None pushed taken (inr none) = let long : 0 ≡ length xs + 1 = ap length (sym none ∙ pushed) ∙ length_push xs x in absurd (omega arith)
 
 -- an id that was asked last is taken back
-
-pub taken_back : {A : Type 0} (lists items : List (List A)) (home : ℕ) (x : A) (was now : List A) (n : ℕ) →
-    home < length items → items ≡ set lists home (get_or lists home [] ++ x ∷ []) → was ≡ get_or items home was → n ≡ length was → now ≡ take (n - 1) was → set items home now ≡ lists
-taken_back lists items home x was now n lt e w l r =
+pub taken_back : {A : Type 0} (lists items : List (List A)) (home : ℕ) (x : A) (was now : List A) (last : Option A) → home < length items → items ≡ set lists home (get_or lists home [] ++ x ∷ [])
+    → was ≡ get_or items home was → was ≡ now ++ option_to_list last → IsSome last ⊎ (was ≡ []) → set items home now ≡ lists
+taken_back lists items home x was now last lt e w taken some =
     let within : home < length lists = subst (λ k. home < k) (ap length e ∙ length-set lists home (get_or lists home [] ++ x ∷ [])) lt in
     let was_is : was ≡ get_or lists home [] ++ x ∷ [] = w ∙ ap (λ i. get_or i home was) e ∙ get_or-set_same lists home (get_or lists home [] ++ x ∷ []) was within in
-    let long : n ≡ suc (length (get_or lists home [])) = omega (arith, l, ap length was_is, length-append (get_or lists home []) (x ∷ [])) in
-    let now_is : now ≡ get_or lists home [] = r ∙ ap (take (n - 1)) was_is ∙ ap (λ k. take k (get_or lists home [] ++ x ∷ [])) (let e : n - 1 ≡ length (get_or lists home []) = omega (arith, long) in e)
-    ∙ take-append-le (length (get_or lists home [])) (get_or lists home []) (x ∷ []) (omega arith) ∙ take-length (get_or lists home []) in
-    ap₂ (λ i y. set i home y) e now_is ∙ set-set lists home (get_or lists home [] ++ x ∷ []) (get_or lists home []) ∙ set-get_or lists home []
+    ap₂ (λ i y. set i home y) e (before_push (get_or lists home []) was now x last was_is taken some)
+    ∙ set_set lists home (get_or lists home [] ++ x ∷ []) (get_or lists home []) ∙ set-get_or lists home []
 
 -- the list of a home, read as it is there, is pushed to, or stays
 module _ {A T E : Type 0} (lists : List (List A)) (home : ℕ) (was now : List A) (lt : home < length lists) (w : was ≡ get_or lists home was) where

@@ -1,10 +1,17 @@
--- Only proofs need this file: how the entry of an id is found. The list of its region has, at the number of the submission, the
--- place of the entry; an id that came far out of order is looked for in a map instead. Read `ById` for what contracts see.
+-- Only proofs need this file, and the calls of private types: values by the ids of transactions. These calls see the list, in the
+-- order in which the values came. No id stands twice, so that a value is found by its id: the list of its region has, at the
+-- number of the submission, the place of the entry; an id that came far out of order is looked for in a map instead. A region
+-- keeps its outcomes so. Read next: `KeptInner`.
 use Rattle.std.specs.Prelude.{◌≡◌, ◌⊎◌, ℕ, List, Option, Some, None, map, slice_get, option_and_then, if◌then◌else◌}
 use Rattle.std.specs.Map.{lookup}
 use Rattle.dt_lists.specs.Lists.{Distinct}
 use Rattle.dt_access.specs.Ids.{same_id}
 use Rattle.dt_access.specs.declared.TxnId.{TxnId}
+
+-- values that are kept, each with its id, and for how many more there is room
+pub record ByIdView (V : Type 0) : Type 0 where
+  pub entries : List (TxnId × V)
+  pub spare : ℕ
 
 -- the place to which the lists of all regions lead from an id; each list has these items
 abbrev pub led_to : {L : Type 0} → List L → (L → List ℕ) → TxnId → Option ℕ

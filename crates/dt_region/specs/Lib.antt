@@ -2,10 +2,9 @@ pub mod Region
 pub mod Rules
 pub mod Conditions
 pub mod Sound
-pub mod ById
 pub mod ByIdInner
-pub mod Foreign
-pub mod Kept
+pub mod ForeignInner
+pub mod KeptInner
 pub mod RegionCode
 pub mod RegionInner
 pub mod Rounds

@@ -32,7 +32,7 @@ pub struct ById<V> {
 impl<V> Model for ById<V> {
     ghost use Rattle.std.specs.Prelude.{◌-◌, min, vec_capacity, vec_len};
     ghost use Rattle.indexmap.specs.IndexMap.{spare};
-    ghost use Rattle.dt_region.specs.ById.{ByIdView};
+    ghost use Rattle.dt_region.specs.ByIdInner.{ByIdView};
     ghost use Rattle.dt_region.specs.ByIdInner.{AreLed};
 
     ghost Value = { ByIdView V };

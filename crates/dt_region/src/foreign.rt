@@ -23,7 +23,7 @@ pub struct Foreign {
 
 impl Model for Foreign {
     ghost use Rattle.std.specs.Prelude.{map};
-    ghost use Rattle.dt_region.specs.Foreign.{ForeignView, AreKeyed};
+    ghost use Rattle.dt_region.specs.ForeignInner.{ForeignView, AreKeyed};
 
     ghost Value = { ForeignView };
 

@@ -15,7 +15,7 @@ pub struct Kept {
 
 impl Model for Kept {
     ghost use Rattle.std.specs.Prelude.{◌-◌, vec_capacity, vec_len};
-    ghost use Rattle.dt_region.specs.Kept.{KeptView};
+    ghost use Rattle.dt_region.specs.KeptInner.{KeptView};
 
     ghost Value = { KeptView };
 

@@ -258,7 +258,7 @@ impl<S: Scheduler> Region<S> {
         let homes = homes(alloc, txn.get())?;
         self.events.reserve(self.room + 1)?;
         self.submitted.reserve(1)?;
-        ask(alloc, &mut self.asked, homes.as_slice(), id)?;
+        ask(&mut self.asked, homes.as_slice(), id)?;
         add_last(&mut self.submitted, txn);
         self.events.keep(stamp, event);
         Ok(id)

@@ -5,11 +5,9 @@ ghost use Rattle.dt_txn.specs.Asking.{ask};
 
 use dt_access::{Ids, TxnId};
 use dt_text::NoMemory;
-use std::alloc::Global;
-use std::mem;
 
 /// Asks each of the homes to place an id, one after another; after `NoMemory` none of them is asked.
-pub fn ask(alloc: Global, asked: &mut Vec<Ids>, homes: &[u8], id: TxnId) -> Result<(), NoMemory>
+pub fn ask(asked: &mut Vec<Ids>, homes: &[u8], id: TxnId) -> Result<(), NoMemory>
     requires { AllIn (λ home. home < vec_len asked.old) homes.now }
     ensures len { vec_len asked.new ≡ vec_len asked.old }
     ensures ok { OnOk result (asked.new.items ≡ ask homes.now id asked.old.items) }
@@ -19,8 +17,8 @@ pub fn ask(alloc: Global, asked: &mut Vec<Ids>, homes: &[u8], id: TxnId) -> Resu
         return Ok(());
     };
     ask_one(asked, *home, id)?;
-    if let Err(error) = ask(alloc, asked, others, id) {
-        take_back(alloc, asked, *home);
+    if let Err(error) = ask(asked, others, id) {
+        take_back(asked, *home);
         return Err(error);
     }
     Ok(())
@@ -38,13 +36,11 @@ fn ask_one(asked: &mut Vec<Ids>, home: u8, id: TxnId) -> Result<(), NoMemory>
 }
 
 // Takes back the last id that a home was asked to place.
-fn take_back(alloc: Global, asked: &mut Vec<Ids>, home: u8)
+fn take_back(asked: &mut Vec<Ids>, home: u8)
     requires { home < vec_len asked.old }
     ensures len { vec_len asked.new ≡ vec_len asked.old }
     ensures taken { (lists : List (List TxnId)) (id : TxnId) → asked.old.items ≡ set lists home (get_or lists home [] ++ id ∷ []) → asked.new.items ≡ lists }
 {
     let ids = &mut asked[home as usize];
-    let mut rest = mem::replace(ids, Ids::new(alloc)).into_vec();
-    let _id = rest.pop();
-    *ids = Ids::from_vec(rest);
+    ids.pop();
 }

@@ -25,7 +25,7 @@ use Rattle.dt_merge.specs.WorldRegions.{HasInvariant}
 use Rattle.dt_site.specs.SessionsStandIn.{SessionsStandIn}
 use Rattle.dt_site.specs.Site.{SiteView, node_of}
 use Rattle.dt_site.proofs.Callers.{attempts_have, kept_here}
-use Rattle.dt_world.specs.Telling.{AreSitesAfter}
+use Rattle.dt_world.specs.SitesAfter.{AreSitesAfter}
 use Rattle.dt_world.specs.WorldReport.{report_of}
 use Rattle.dt_node.specs.NodeView.{NodeView}
 use Rattle.dt_node.specs.NodeInWorld.{NodeFits}

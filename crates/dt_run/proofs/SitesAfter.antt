@@ -11,7 +11,7 @@ use Rattle.dt_session.specs.Run.{AreLegal, world_after}
 use Rattle.dt_site.specs.Site.{SiteView, no_site}
 use Rattle.dt_site.specs.StandsIn.{StandsIn}
 use Rattle.dt_site.proofs.Callers.{HasShortLists, legal_short, many_here}
-use Rattle.dt_world.specs.Telling.{AreSitesAfter}
+use Rattle.dt_world.specs.SitesAfter.{AreSitesAfter}
 use Rattle.dt_node.specs.NodeView.{NodeView, number_of}
 use Rattle.dt_node.specs.NodeInWorld.{NodeFits}
 use Rattle.dt_run.specs.NodesStand.{AreNodes, StandsAmong}

@@ -18,7 +18,7 @@ use Rattle.dt_table.specs.Table.{Table, Moved, moves_of, counter_of, next_mover}
 use Rattle.dt_txn.specs.declared.txn.Txn.{Txn}
 use Rattle.dt_txn.specs.Serial.{table_after}
 use Rattle.dt_serial.specs.Order.{txn_ids, Ordered, IsDown, FollowsMove, IsLive, ChangesBy, MayChange, KeepsToKeys, IsHistory}
-use Rattle.dt_serial.specs.Replay.{replay}
+use Rattle.dt_serial.specs.ReplayInner.{replay}
 use Rattle.dt_serial.proofs.OneTransaction.{live_entries, IsMoveOf, change_of_one, clash_of_change, unit_of_change}
 use Rattle.dt_serial.proofs.Rows.{same_moves}
 use Rattle.dt_serial.proofs.Runs.{version_after, table_after_append, IsMoveAt, numbered_move, mover_ran, replay_append, replay_all, replay_none, chosen_moves, replay_moves}

@@ -27,7 +27,7 @@ use Rattle.dt_txn.specs.Execution.{one}
 use Rattle.dt_txn.specs.Serial.{after, outcomes, table_after}
 use Rattle.dt_txn.specs.Staleness.{IsStaleOutcome}
 use Rattle.dt_serial.specs.Order.{txn_ids, Ordered, IsDown, FollowsMove, IsLive, Changes, ChangesBy, MayChange, IsHistory, uses_in}
-use Rattle.dt_serial.specs.Replay.{replay}
+use Rattle.dt_serial.specs.ReplayInner.{replay}
 use Rattle.dt_serial.proofs.Rows.{either_changes}
 use Rattle.dt_serial.proofs.OneTransaction.{clash_of_change, mover_at, one_alike, live_entries, live_of_outcome, change_of_one}
 use Rattle.dt_serial.proofs.Runs.{table_after_append, outcomes_ids, has_outcome_at, AlongRun, along_put, replay_append, replay_version, replay_alike, replay_none, replay_value, replay_swap}

@@ -17,7 +17,7 @@ use Rattle.dt_txn.specs.declared.outcome.Outcome.{Outcome}
 use Rattle.dt_txn.specs.Execution.{one}
 use Rattle.dt_txn.specs.Serial.{after, outcomes, table_after}
 use Rattle.dt_serial.specs.Order.{txn_ids, Changes}
-use Rattle.dt_serial.specs.Replay.{replay}
+use Rattle.dt_serial.specs.ReplayInner.{replay}
 use Rattle.dt_table.proofs.Callers.{move_at, moves_of-apply, version-apply}
 use Rattle.dt_serial.proofs.Rows.{apply_value, apply_keeps_value, apply_swap}
 use Rattle.dt_serial.proofs.OneTransaction.{IsMoveOf, move_of_one, move_at_cases}

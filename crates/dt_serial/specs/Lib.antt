@@ -1,5 +1,5 @@
 pub mod Order
-pub mod Replay
+pub mod ReplayInner
 pub mod Evidence
 pub use Rattle.dt_txn.specs.Transaction
 pub use Rattle.dt_txn.specs.Execution

@@ -18,16 +18,16 @@ use Rattle.dt_txn.specs.Execution.{one}
 use Rattle.dt_txn.specs.Replica.{done_ids, executed}
 use Rattle.dt_report.specs.declared.Ran.{Ran}
 use Rattle.dt_cluster.specs.declared.Cluster.{Cluster}
-use Rattle.dt_cluster.specs.Valid.{IsValidCluster}
 use Rattle.dt_workload.specs.declared.Workload.{Workload}
-use Rattle.dt_workload.specs.Valid.{IsValidWorkload}
 use Rattle.dt_session.specs.World.{World, Submission, no_node, node_at, outcome_at, outcome_in, submission_of, txn_of}
 use Rattle.dt_session.specs.Step.{IsLegal, next}
-use Rattle.dt_session.specs.Run.{AreLegal, executed_id, order_of, serial_outcome, world_after}
+use Rattle.dt_session.specs.Run.{executed_id, order_of, serial_outcome, world_after}
+use Rattle.dt_session.specs.Agreement.{Agree}
 use Rattle.dt_agreement.specs.Invariant.{Inv, IsExecutedAt}
+use Rattle.dt_agreement.specs.LegalRun.{IsLegalRun}
 use Rattle.dt_agreement.proofs.Callers.{lookup_has, legal_agree, executable_known, legal_keeps, with_executed, order_of_more, world_after_more, WasSubmitted, txn_id}
 use Rattle.dt_site.proofs.Callers.{order}
-use Rattle.dt_world.specs.SessionReplay.{ran_at}
+use Rattle.dt_world.specs.SessionReplayInner.{ran_at}
 use Rattle.dt_world.specs.WorldReport.{IsOutcomeOf, ran, ran_of, rans_of}
 use Rattle.dt_world.proofs.GrowingNodes.{grows_to, legal_at, split_at}
 
@@ -56,7 +56,26 @@ executed_next cluster workload w order region id l i =
     (subst (λ l. Has l id) (sym (map_push (λ d. d.0) (node_at w region).here.done (k.0.id, (one cluster.procs k.0 (node_at w region).here.table).0)))
     (subst (λ x. Has (done_ids (node_at w region).here ++ x ∷ []) id) (sym (txn_id w id k.0 k.1)) (has_last (done_ids (node_at w region).here) id)))
 
-module _ (cluster : Cluster) (ok : IsValidCluster cluster) (workload : Workload) (fits : IsValidWorkload cluster workload) (events : List Event) (legal : AreLegal cluster workload events) where
+-- one more event, in the order of first executions
+module _ (events : List Event) where
+  pub order_other : (i : ℕ) (event : Event) → slice_get events i ≡ Some event → executed_id event ≡ None → order_of (take (i + 1) events) ≡ order_of (take i events)
+  order_other i event e none = ap order_of (split_at events i event e).1 ∙ order_of_more (take i events) event ∙ ap (with_executed (order_of (take i events))) none
+
+  pub order_again : (i region : ℕ) (id : TxnId) → slice_get events i ≡ Some (Execute region id) → is_among (order_of (take i events)) id ≡ true → order_of (take (i + 1) events) ≡ order_of (take i events)
+  order_again i region id e there = ap order_of (split_at events i (Execute region id) e).1 ∙ order_of_more (take i events) (Execute region id) ∙ ap (λ b. cond b (order_of (take i events)) (order_of (take i events) ++ id ∷ [])) there
+
+  pub order_new : (i region : ℕ) (id : TxnId) → slice_get events i ≡ Some (Execute region id) → is_among (order_of (take i events)) id ≡ false → order_of (take (i + 1) events) ≡ order_of (take i events) ++ id ∷ []
+  order_new i region id e new = ap order_of (split_at events i (Execute region id) e).1 ∙ order_of_more (take i events) (Execute region id) ∙ ap (λ b. cond b (order_of (take i events)) (order_of (take i events) ++ id ∷ [])) new
+
+module _ {cluster : Cluster} {workload : Workload} {events : List Event} (run : IsLegalRun cluster workload events) where
+  -- after a legal run the world keeps the invariant, and all regions agree
+  pub run_keeps : Inv cluster workload (world_after cluster workload events) (order_of events)
+  run_keeps = legal_keeps cluster run.sound workload run.fits events run.legal
+
+  pub run_agrees : Agree cluster workload events
+  run_agrees = legal_agree cluster run.sound workload run.fits events run.legal
+
+module _ {cluster : Cluster} {workload : Workload} {events : List Event} (run : IsLegalRun cluster workload events) where
   -- what was executed early is executed at the end
   pub still_executed : (i region : ℕ) (id : TxnId) → IsExecutedAt (world_after cluster workload (take i events)) region id → IsExecutedAt (world_after cluster workload events) region id
   still_executed i region id h =
@@ -67,9 +86,9 @@ module _ (cluster : Cluster) (ok : IsValidCluster cluster) (workload : Workload)
 
   pub executed_at : (i region : ℕ) (id : TxnId) → slice_get events i ≡ Some (Execute region id) → (region < cluster.regions) × IsExecutedAt (world_after cluster workload events) region id
   executed_at i region id e =
-      let l : AreLegal cluster workload (take i events) × IsLegal cluster workload (world_after cluster workload (take i events)) (Execute region id) = legal_at cluster workload events legal i (Execute region id) e in
+      let l : IsLegalRun cluster workload (take i events) × IsLegal cluster workload (world_after cluster workload (take i events)) (Execute region id) = legal_at run i (Execute region id) e in
       let h : IsExecutedAt (next cluster workload (world_after cluster workload (take i events)) (Execute region id)) region id =
-      executed_next cluster workload (world_after cluster workload (take i events)) (order_of (take i events)) region id l.1 (legal_keeps cluster ok workload fits (take i events) l.0) in (
+      executed_next cluster workload (world_after cluster workload (take i events)) (order_of (take i events)) region id l.1 (run_keeps l.0) in (
         l.1.regions,
         still_executed (i + 1) region id (subst (λ x. IsExecutedAt (world_after cluster workload x) region id) (sym (split_at events i (Execute region id) e).1)
             (subst (λ w. IsExecutedAt w region id) (sym (world_after_more cluster workload (take i events) (Execute region id))) h)),
@@ -80,7 +99,7 @@ module _ (cluster : Cluster) (ok : IsValidCluster cluster) (workload : Workload)
       → (o : Outcome) × (outcome_at (world_after cluster workload events) region id ≡ Some o) × (serial_outcome cluster workload events id ≡ Some o)
   serial_is region id lr h =
       let o : (o : Outcome) × (outcome_at (world_after cluster workload events) region id ≡ Some o) = outcome_there (node_at (world_after cluster workload events) region).here.done id h in
-      (o.0, o.1, (legal_agree cluster ok workload fits events legal).outcomes region id o.0 lr (lookup_has (node_at (world_after cluster workload events) region).here.done id o.0 o.1))
+      (o.0, o.1, (run_agrees run).outcomes region id o.0 lr (lookup_has (node_at (world_after cluster workload events) region).here.done id o.0 o.1))
 
   pub ran_is : (region : ℕ) (id : TxnId) → region < cluster.regions → IsExecutedAt (world_after cluster workload events) region id → ran_at (world_after cluster workload events) region id ≡ ran_of cluster workload events id
   ran_is region id lr h =
@@ -95,20 +114,11 @@ module _ (cluster : Cluster) (ok : IsValidCluster cluster) (workload : Workload)
       one_more : (o : Option Ran) → o ≡ Some r → filter_map (λ (x : TxnId). o) (id ∷ []) ≡ r ∷ []
       one_more o is = rw is refl
 
-  pub order_other : (i : ℕ) (event : Event) → slice_get events i ≡ Some event → executed_id event ≡ None → order_of (take (i + 1) events) ≡ order_of (take i events)
-  order_other i event e none = ap order_of (split_at events i event e).1 ∙ order_of_more (take i events) event ∙ ap (with_executed (order_of (take i events))) none
-
-  pub order_again : (i region : ℕ) (id : TxnId) → slice_get events i ≡ Some (Execute region id) → is_among (order_of (take i events)) id ≡ true → order_of (take (i + 1) events) ≡ order_of (take i events)
-  order_again i region id e there = ap order_of (split_at events i (Execute region id) e).1 ∙ order_of_more (take i events) (Execute region id) ∙ ap (λ b. cond b (order_of (take i events)) (order_of (take i events) ++ id ∷ [])) there
-
-  pub order_new : (i region : ℕ) (id : TxnId) → slice_get events i ≡ Some (Execute region id) → is_among (order_of (take i events)) id ≡ false → order_of (take (i + 1) events) ≡ order_of (take i events) ++ id ∷ []
-  order_new i region id e new = ap order_of (split_at events i (Execute region id) e).1 ∙ order_of_more (take i events) (Execute region id) ∙ ap (λ b. cond b (order_of (take i events)) (order_of (take i events) ++ id ∷ [])) new
-
   pub rans_more : (i region : ℕ) (id : TxnId) (r : Ran) → slice_get events i ≡ Some (Execute region id) → is_among (order_of (take i events)) id ≡ false → ran_at (world_after cluster workload events) region id ≡ Some r
       → filter_map (ran_of cluster workload events) (order_of (take (i + 1) events)) ≡ filter_map (ran_of cluster workload events) (order_of (take i events)) ++ r ∷ []
   rans_more i region id r e new is =
       let x : (region < cluster.regions) × IsExecutedAt (world_after cluster workload events) region id = executed_at i region id e in
-      ap (filter_map (ran_of cluster workload events)) (order_new i region id e new) ∙ order_pushed (order_of (take i events)) id r (sym (ran_is region id x.0 x.1) ∙ is)
+      ap (filter_map (ran_of cluster workload events)) (order_new events i region id e new) ∙ order_pushed (order_of (take i events)) id r (sym (ran_is region id x.0 x.1) ∙ is)
 
   -- some region has executed the attempt
   abbrev IsExecuted : TxnId → Type 0
@@ -116,7 +126,7 @@ module _ (cluster : Cluster) (ok : IsValidCluster cluster) (workload : Workload)
 
   -- every reported outcome is the one that all regions keep that executed the attempt
   pub outcomes_kept : AllIn (λ (r : Ran). IsOutcomeOf cluster.regions (world_after cluster workload events) r.id r.outcome) (rans_of cluster workload events)
-  outcomes_kept = each (order_of events) (all_put _ (order_of events) (λ id h. ((legal_keeps cluster ok workload fits events legal).ordered.executed id).0 h))
+  outcomes_kept = each (order_of events) (all_put _ (order_of events) (λ id h. ((run_keeps run).ordered.executed id).0 h))
     where
       is_outcome : (id : TxnId) (o : Outcome) → IsExecuted id → serial_outcome cluster workload events id ≡ Some o
           → IsOutcomeOf cluster.regions (world_after cluster workload events) id o
@@ -126,7 +136,7 @@ module _ (cluster : Cluster) (ok : IsValidCluster cluster) (workload : Workload)
           let same : s.0 ≡ o = cc in
           record {
             executed = (x.0, x.1, subst (λ p. Has (node_at (world_after cluster workload events) x.0).here.done (id, p)) same (lookup_has (node_at (world_after cluster workload events) x.0).here.done id s.0 s.1));
-            kept = λ region other lr h. let twice : Some other ≡ Some o = sym ((legal_agree cluster ok workload fits events legal).outcomes region id other lr h) ∙ e in cc;
+            kept = λ region other lr h. let twice : Some other ≡ Some o = sym ((run_agrees run).outcomes region id other lr h) ∙ e in cc;
           }
 
       here : (id : TxnId) → IsExecuted id

@@ -15,8 +15,9 @@ use Rattle.dt_workload.specs.declared.Ranked.{Ranked}
 use Rattle.dt_workload.specs.declared.Workload.{Workload}
 use Rattle.dt_session.specs.World.{World, Node, Place, asked_of, no_node, node_at, opening_world, received_of, session_at, taken_of, txn_of, with_node}
 use Rattle.dt_session.specs.Step.{IsLegal, answered, called, next, node_submitted, placed, received, attempt_for, submitted}
-use Rattle.dt_session.specs.Run.{AreLegal, AreLegalFrom, world_after, world_from}
-use Rattle.dt_agreement.proofs.Callers.{legal_append, world_from_append}
+use Rattle.dt_session.specs.Run.{AreLegalFrom, world_after, world_from}
+use Rattle.dt_agreement.specs.LegalRun.{IsLegalRun}
+use Rattle.dt_agreement.proofs.Callers.{run_front, world_from_append}
 
 -- a node has at least what it had before
 pub record NodeGrows (n m : Node) : Type 0 where
@@ -110,13 +111,13 @@ module _ (cluster : Cluster) (workload : Workload) (events : List Event) where
       (subst (λ v. NodeGrows (node_at (world_after cluster workload (take i events)) r) (node_at v r)) (sym (world_from_append cluster workload (opening_world cluster workload) (take i events) (drop i events)))
       (grows_on cluster workload (world_after cluster workload (take i events)) (drop i events) r))
 
-  -- each event is legal after those before it
-  pub legal_at : AreLegal cluster workload events → (i : ℕ) (event : Event) → slice_get events i ≡ Some event
-      → AreLegal cluster workload (take i events) × IsLegal cluster workload (world_after cluster workload (take i events)) event
-  legal_at legal i event e =
-      let r : AreLegal cluster workload (take i events) × AreLegalFrom cluster workload (world_from cluster workload (opening_world cluster workload) (take i events)) (event ∷ drop (i + 1) events) =
-      legal_append cluster workload (opening_world cluster workload) (take i events) (event ∷ drop (i + 1) events) (subst (AreLegal cluster workload) (split_at events i event e).0 legal) in
-      (r.0, r.1.0)
+-- each event of a legal run is legal after those before it, which are one too
+pub legal_at : {cluster : Cluster} {workload : Workload} {events : List Event} → IsLegalRun cluster workload events → (i : ℕ) (event : Event) → slice_get events i ≡ Some event
+    → IsLegalRun cluster workload (take i events) × IsLegal cluster workload (world_after cluster workload (take i events)) event
+legal_at {cluster = cluster} {workload = workload} {events = events} run i event e =
+    let r : IsLegalRun cluster workload (take i events) × AreLegalFrom cluster workload (world_after cluster workload (take i events)) (event ∷ drop (i + 1) events) =
+    run_front (take i events) (event ∷ drop (i + 1) events) (subst (IsLegalRun cluster workload) (split_at events i event e).0 run) in
+    (r.0, r.1.0)
 
 -- a world grows as more events follow
 pub grows_past : (cluster : Cluster) (workload : Workload) (xs ys : List Event) (r : ℕ) → NodeGrows (node_at (world_after cluster workload xs) r) (node_at (world_after cluster workload (xs ++ ys)) r)

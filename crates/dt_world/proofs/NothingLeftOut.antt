@@ -12,17 +12,16 @@ use Rattle.dt_events.specs.declared.Event.TheVariants.{Submit, Append, Deliver, 
 use Rattle.dt_report.specs.declared.Ran.{Ran}
 use Rattle.dt_report.specs.declared.Reply.{Reply}
 use Rattle.dt_cluster.specs.declared.Cluster.{Cluster}
-use Rattle.dt_cluster.specs.Valid.{IsValidCluster}
 use Rattle.dt_workload.specs.declared.Workload.{Workload}
-use Rattle.dt_workload.specs.Valid.{IsValidWorkload}
 use Rattle.dt_session.specs.World.{opening_world}
-use Rattle.dt_session.specs.Run.{AreLegal, order_of, serial_outcome, world_after}
+use Rattle.dt_session.specs.Run.{order_of, serial_outcome, world_after}
+use Rattle.dt_agreement.specs.LegalRun.{IsLegalRun}
 use Rattle.dt_agreement.specs.Reports.{IsAccounted, IsAnswered}
 use Rattle.dt_agreement.proofs.Callers.{answer_accounted, executed_accounted, found_is_named}
 use Rattle.dt_world.specs.WorldReport.{answered_name, answered_session, ran, ran_of, rans_of, replies_from, replies_of, reply_for, reply_to}
 use Rattle.dt_world.proofs.Replay.{replies_more}
 
-module _ (cluster : Cluster) (ok : IsValidCluster cluster) (workload : Workload) (fits : IsValidWorkload cluster workload) (events : List Event) (legal : AreLegal cluster workload events) where
+module _ {cluster : Cluster} {workload : Workload} {events : List Event} (run : IsLegalRun cluster workload events) where
   -- the order section has each executed id
 
   ran_there : (id : TxnId) → IsAccounted cluster workload events id → (r : Ran) × (ran_of cluster workload events id ≡ Some r) × (r.id ≡ id)
@@ -42,7 +41,7 @@ module _ (cluster : Cluster) (ok : IsValidCluster cluster) (workload : Workload)
       joined (Some q) r rest = let same : q ≡ r.0 = cc (r.1) in ap₂ (λ x l. x ∷ l) (ap (λ z. z.id) same ∙ r.2) rest
 
   pub all_are_ran : map (λ (r : Ran). r.id) (rans_of cluster workload events) ≡ order_of events
-  all_are_ran = all_ran (order_of events) (all_put _ (order_of events) (λ id h. executed_accounted cluster ok workload fits events legal id h))
+  all_are_ran = all_ran (order_of events) (all_put (IsAccounted cluster workload events) (order_of events) (executed_accounted run))
 
   -- the replies have each answer
 
@@ -58,7 +57,7 @@ module _ (cluster : Cluster) (ok : IsValidCluster cluster) (workload : Workload)
       subst (λ all. map (λ (r : Reply). r.session) (option_to_list (reply_for cluster workload all (answered_session workload (world_after cluster workload xs) (Answer region name)))) ≡ name ∷ []) (sym e) here
     where
       a : IsAnswered cluster workload (xs ++ Answer region name ∷ ys) xs region name
-      a = answer_accounted cluster ok workload fits xs region name ys (subst (AreLegal cluster workload) e legal)
+      a = answer_accounted xs region name ys (subst (IsLegalRun cluster workload) e run)
 
       replied : reply_for cluster workload (xs ++ Answer region name ∷ ys) (answered_session workload (world_after cluster workload xs) (Answer region name)) ≡ Some (reply_to a.session a.place a.accounted.outcome)
       replied =

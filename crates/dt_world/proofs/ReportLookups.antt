@@ -10,12 +10,13 @@ use Rattle.dt_txn.specs.Replica.{done_ids}
 use Rattle.dt_region.specs.Region.{outcome_of}
 use Rattle.dt_session.specs.World.{World, Submission, node_at, outcome_at, submission_of, submissions}
 use Rattle.dt_agreement.specs.Invariant.{IsExecutedAt}
+use Rattle.dt_agreement.specs.LegalRun.{IsLegalRun}
 use Rattle.dt_agreement.proofs.Callers.{WasSubmitted, done_known, numbered, submission_is_found, txn_there}
 use Rattle.dt_site.specs.declared.Origin.{Origin}
 use Rattle.dt_site.specs.Site.{SiteView, attempt, attempts, no_site}
 use Rattle.dt_site.specs.StandsIn.{IsReached}
 use Rattle.dt_site.proofs.Callers.{attempt_at, inv, order, outcome_here}
-use Rattle.dt_world.specs.Telling.{LedTo, TellingView, world_told}
+use Rattle.dt_world.specs.ReportSourceInner.{LedTo, ReportSourceView, world_told}
 use Rattle.dt_world.proofs.Executions.{outcome_there}
 
 -- an item of a list of what is lent
@@ -37,12 +38,15 @@ lent_next sites i p lent lent' more e lt now put so_far =
     ap (map (λ (s : Bor SiteView). s.now)) put ∙ map-append (λ (s : Bor SiteView). s.now) lent (more ∷ []) ∙ ap₂ (λ l x. l ++ x ∷ []) so_far now
     ∙ subst (λ n. take i sites ++ p ∷ [] ≡ take n sites) up (taken_next sites i p e lt)
 
-module _ {told : TellingView} (led : LedTo told) where
+module _ {told : ReportSourceView} (led : LedTo told) where
   abbrev w : World
   w = world_told told
 
+  pub run_told : IsLegalRun told.cluster told.workload told.events
+  run_told = record { sound = led.valid; fits = led.fits; legal = led.legal }
+
   pub reached : IsReached told.cluster told.workload w
-  reached = record { events = told.events; run = record { sound = led.valid; fits = led.fits; legal = led.legal }; after = refl }
+  reached = record { events = told.events; run = run_told; after = refl }
 
   module _ (lent : List (Bor SiteView)) (all : map (λ (s : Bor SiteView). s.now) lent ≡ told.sites) {region : ℕ} (lr : region < told.cluster.regions) where
     -- the site of a region is there

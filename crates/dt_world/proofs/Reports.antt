@@ -28,19 +28,21 @@ use Rattle.dt_session.specs.World.{World, Node, Place, Submission, idle_place, i
 use Rattle.dt_session.specs.Step.{next}
 use Rattle.dt_session.specs.Run.{AreLegal, executed_id, order_of, region_table, world_after}
 use Rattle.dt_agreement.specs.Invariant.{IsExecutedAt}
-use Rattle.dt_agreement.proofs.Callers.{legal_agree, legal_keeps, world_after_more}
+use Rattle.dt_agreement.specs.LegalRun.{IsLegalRun}
+use Rattle.dt_agreement.proofs.Callers.{world_after_more}
 use Rattle.dt_world.specs.WorldView.{WorldView}
 use Rattle.dt_site.specs.Site.{SiteView, no_site}
 use Rattle.dt_site.specs.StandsIn.{StandsIn}
-use Rattle.dt_world.specs.SessionReplay.{SessionReplayView, IsReply, after_reply, after_submission, count_at, replay_at, replay_of, ran_at, rans_at, replies_at, wait_at}
-use Rattle.dt_world.specs.Telling.{AreSitesAfter, LedTo, TellingView, world_told}
+use Rattle.dt_world.specs.SessionReplayInner.{SessionReplayView, IsReply, after_reply, after_submission, count_at, replay_at, replay_of, ran_at, rans_at, replies_at, wait_at}
+use Rattle.dt_world.specs.ReportSourceInner.{LedTo, ReportSourceView, world_told}
+use Rattle.dt_world.specs.SitesAfter.{AreSitesAfter}
 use Rattle.dt_world.specs.WorldInner.{IsLawful, site_at, view_in, world_of}
 use Rattle.dt_world.specs.WorldSessions.{WorldSessions, places_in}
 use Rattle.dt_world.specs.WorldReport.{IsOutcomeOf, IsReplyOf, answered_name, answered_session, ran, ran_of, rans_of, replies_from, replies_of, reply_for, report_of, tables_of}
-use Rattle.dt_world.proofs.Executions.{executed_at, order_again, order_new, order_other, outcomes_kept, rans_more}
+use Rattle.dt_world.proofs.Executions.{executed_at, order_again, order_new, order_other, outcomes_kept, rans_more, run_agrees, run_keeps}
 use Rattle.dt_world.proofs.Replay.{answer_executed, answer_follows, answer_kept, answer_own, answer_region, answer_replies, answer_waits, now_followed, now_legal, now_listed}
 use Rattle.dt_world.proofs.Replay.{append_same, deliver_same, execute_same, insert_same, replies_more, resolve_same, submit_few, submit_follows, submit_region}
-use Rattle.dt_world.proofs.ReportLookups.{reached}
+use Rattle.dt_world.proofs.ReportLookups.{reached, run_told}
 use Rattle.dt_world.proofs.GrowingNodes.{split_at}
 use Rattle.dt_site.proofs.Callers.{many_here}
 use Rattle.dt_world.proofs.NothingLeftOut.{all_are_answered, all_are_ran}
@@ -59,21 +61,21 @@ by_number f g (x ∷ xs) a d e =
 item_at : {A : Type 0} (xs : List A) (at : ℕ) (r e : A) → at < length xs → r ≡ get_or xs at r → r ≡ e → slice_get xs at ≡ Some e
 item_at xs at r e lt is same = slice_get-get_or xs at r lt ∙ ap Some (sym is ∙ same)
 
-pub event_at : (told : TellingView) {held : List Event} → held ≡ told.events → (at : ℕ) (r e : Event) → at < length held → r ≡ get_or held at r → r ≡ e → slice_get told.events at ≡ Some e
+pub event_at : (told : ReportSourceView) {held : List Event} → held ≡ told.events → (at : ℕ) (r e : Event) → at < length held → r ≡ get_or held at r → r ≡ e → slice_get told.events at ≡ Some e
 event_at told {held} same at r e lt is this = subst (λ l. slice_get l at ≡ Some e) same (item_at held at r e lt is this)
 
 -- what an execution adds to the order, where its attempt was not executed before: these are the ids then
-pub record NotesNew (told : TellingView) (at region : ℕ) (id : TxnId) (new : List TxnId) : Type 0 where
+pub record NotesNew (told : ReportSourceView) (at region : ℕ) (id : TxnId) (new : List TxnId) : Type 0 where
   pub seen : new ≡ order_of (take (at + 1) told.events)
   pub order : (r : Ran) → ran_at (world_told told) region id ≡ Some r → rans_at told (at + 1) ≡ rans_at told at ++ r ∷ []
 
 -- and where it was
-pub record NotesAgain (told : TellingView) (at : ℕ) (new : List TxnId) : Type 0 where
+pub record NotesAgain (told : ReportSourceView) (at : ℕ) (new : List TxnId) : Type 0 where
   pub seen : new ≡ order_of (take (at + 1) told.events)
   pub order : rans_at told at ≡ rans_at told (at + 1)
 
 -- what a submission of the session at a place does to what is followed
-pub record FollowsSubmission (told : TellingView) (at region place : ℕ) (course : SessionReplayView) : Type 0 where
+pub record FollowsSubmission (told : ReportSourceView) (at region place : ℕ) (course : SessionReplayView) : Type 0 where
   pub place_there : place < length course.waits
   pub region_there : region < length course.submitted
   pub few : count_at course region + 1 < 4294967296
@@ -81,19 +83,19 @@ pub record FollowsSubmission (told : TellingView) (at region place : ℕ) (cours
   pub replies : replies_at told at ≡ replies_at told (at + 1)
 
 -- what an answer to it does: it waited for an attempt, and waits for nothing then
-pub record FollowsAnswer (told : TellingView) (at region place : ℕ) (course : SessionReplayView) : Type 0 where
+pub record FollowsAnswer (told : ReportSourceView) (at region place : ℕ) (course : SessionReplayView) : Type 0 where
   pub place_there : place < length course.waits
   pub region_there : region < told.cluster.regions
   pub waited : ¬ (wait_at course place ≡ None)
   pub replay : after_reply course place ≡ replay_at told (at + 1)
 
 -- and this is the attempt, whose outcome is the reply
-pub record FollowsReply (told : TellingView) (at region : ℕ) (name : Bytes) (id : TxnId) : Type 0 where
+pub record FollowsReply (told : ReportSourceView) (at region : ℕ) (name : Bytes) (id : TxnId) : Type 0 where
   pub own : id.region ≡ region
   pub executed : IsExecutedAt (world_told told) region id
   pub replies : (reply : Reply) → IsReply (world_told told) region name id reply → replies_at told (at + 1) ≡ replies_at told at ++ reply ∷ []
 
-module _ {told : TellingView} (led : LedTo told) where
+module _ {told : ReportSourceView} (led : LedTo told) where
   -- the tables that sites keep are those of the report
   pub tables_are : map (λ (p : SiteView). shown p.region.state.here.table) told.sites ≡ tables_of told.cluster told.workload told.events
   tables_are = sym (subst (λ m. map (λ region. shown (region_table told.cluster told.workload told.events region)) (range_with_len 0 m) ≡ map (λ (p : SiteView). shown p.region.state.here.table) told.sites) led.many
@@ -102,32 +104,32 @@ module _ {told : TellingView} (led : LedTo told) where
       (here i (subst (λ m. i < m) led.many lt)))))
     where
       here : (i : ℕ) → i < told.cluster.regions → shown (region_table told.cluster told.workload told.events i) ≡ shown (get_or told.sites i no_site).region.state.here.table
-      here i lr = sym (ap (λ (n : Node). shown n.here.table) (led.stands i lr).node ∙ ap shown ((legal_agree told.cluster led.valid told.workload led.fits told.events led.legal).tables i lr))
+      here i lr = sym (ap (λ (n : Node). shown n.here.table) (led.stands i lr).node ∙ ap shown ((run_agrees (run_told led)).tables i lr))
 
   -- what an execution adds to the order
 
   module _ (at : ℕ) (region : ℕ) (id : TxnId) (item : slice_get told.events at ≡ Some (Execute region id)) where
     pub note_region : region < told.cluster.regions
-    note_region = (executed_at told.cluster led.valid told.workload led.fits told.events led.legal at region id item).0
+    note_region = (executed_at (run_told led) at region id item).0
 
     pub note_executed : IsExecutedAt (world_told told) region id
-    note_executed = (executed_at told.cluster led.valid told.workload led.fits told.events led.legal at region id item).1
+    note_executed = (executed_at (run_told led) at region id item).1
 
     module _ (keys new : List TxnId) (before : keys ≡ order_of (take at told.events)) (inserted : new ≡ cond (is_among keys id) keys (keys ++ id ∷ [])) where
       seen_new : is_among keys id ≡ false → new ≡ order_of (take (at + 1) told.events)
       seen_new absent = inserted ∙ ap (λ b. cond b keys (keys ++ id ∷ [])) absent ∙ ap (λ l. l ++ id ∷ []) before
-          ∙ sym (order_new told.cluster led.valid told.workload led.fits told.events led.legal at region id item (subst (λ l. is_among l id ≡ false) before absent))
+          ∙ sym (order_new told.events at region id item (subst (λ l. is_among l id ≡ false) before absent))
 
       seen_again : is_among keys id ≡ true → new ≡ order_of (take (at + 1) told.events)
       seen_again there = inserted ∙ ap (λ b. cond b keys (keys ++ id ∷ [])) there ∙ before
-          ∙ sym (order_again told.cluster led.valid told.workload led.fits told.events led.legal at region id item (subst (λ l. is_among l id ≡ true) before there))
+          ∙ sym (order_again told.events at region id item (subst (λ l. is_among l id ≡ true) before there))
 
       rans_again : is_among keys id ≡ true → rans_at told at ≡ rans_at told (at + 1)
-      rans_again there = ap (filter_map (ran_of told.cluster told.workload told.events)) (sym (order_again told.cluster led.valid told.workload led.fits told.events led.legal at region id item
+      rans_again there = ap (filter_map (ran_of told.cluster told.workload told.events)) (sym (order_again told.events at region id item
           (subst (λ l. is_among l id ≡ true) before there)))
 
       rans_new : is_among keys id ≡ false → (r : Ran) → ran_at (world_told told) region id ≡ Some r → rans_at told (at + 1) ≡ rans_at told at ++ r ∷ []
-      rans_new absent r is = rans_more told.cluster led.valid told.workload led.fits told.events led.legal at region id r item (subst (λ l. is_among l id ≡ false) before absent) is
+      rans_new absent r is = rans_more (run_told led) at region id r item (subst (λ l. is_among l id ≡ false) before absent) is
 
       pub notes_new : is_among keys id ≡ false → NotesNew told at region id new
       notes_new absent = record { seen = seen_new absent; order = rans_new absent }
@@ -136,12 +138,12 @@ module _ {told : TellingView} (led : LedTo told) where
       notes_again there = record { seen = seen_again there; order = rans_again there }
 
   pub seen_other : (at : ℕ) (event : Event) → slice_get told.events at ≡ Some event → executed_id event ≡ None → order_of (take at told.events) ≡ order_of (take (at + 1) told.events)
-  seen_other at event item none = sym (order_other told.cluster led.valid told.workload led.fits told.events led.legal at event item none)
+  seen_other at event item none = sym (order_other told.events at event item none)
 
   -- what is followed
 
-  legal_split : (at : ℕ) (event : Event) → slice_get told.events at ≡ Some event → AreLegal told.cluster told.workload (take at told.events ++ event ∷ drop (at + 1) told.events)
-  legal_split at event item = subst (AreLegal told.cluster told.workload) (split_at told.events at event item).0 led.legal
+  run_split : (at : ℕ) (event : Event) → slice_get told.events at ≡ Some event → IsLegalRun told.cluster told.workload (take at told.events ++ event ∷ drop (at + 1) told.events)
+  run_split at event item = subst (IsLegalRun told.cluster told.workload) (split_at told.events at event item).0 (run_told led)
 
   -- an event that neither submits nor answers
 
@@ -174,11 +176,11 @@ module _ {told : TellingView} (led : LedTo told) where
 
   module _ (at : ℕ) (event : Event) (item : slice_get told.events at ≡ Some event) (region : ℕ) (name : Bytes) where
     pub session_listed : (event ≡ Submit region name) ⊎ (event ≡ Answer region name) → ¬ (position (is_session region name) told.workload.sessions ≡ None)
-    session_listed = now_listed told.cluster led.valid told.workload led.fits (take at told.events) (drop (at + 1) told.events) event (legal_split at event item) region name
+    session_listed = now_listed (take at told.events) (drop (at + 1) told.events) event (run_split at event item) region name
 
     place_followed : (place : ℕ) → position (is_session region name) told.workload.sessions ≡ Some place → (course : SessionReplayView) → course ≡ replay_at told at → place < length course.waits
     place_followed place found course is = subst (λ (c : SessionReplayView). place < length c.waits) (sym is)
-        (now_followed told.cluster led.valid told.workload led.fits (take at told.events) (drop (at + 1) told.events) event (legal_split at event item) region name place found)
+        (now_followed (take at told.events) (drop (at + 1) told.events) event (run_split at event item) region name place found)
 
   -- a submission
 
@@ -186,17 +188,17 @@ module _ {told : TellingView} (led : LedTo told) where
     module _ (place : ℕ) (found : position (is_session region name) told.workload.sessions ≡ Some place) (course : SessionReplayView) (is : course ≡ replay_at told at) where
       follow_region : region < length course.submitted
       follow_region = subst (λ (c : SessionReplayView). region < length c.submitted) (sym is)
-          (submit_region told.cluster led.valid told.workload led.fits (take at told.events) (drop (at + 1) told.events) region name (legal_split at (Submit region name) item) place found)
+          (submit_region (take at told.events) (drop (at + 1) told.events) region name (run_split at (Submit region name) item) place found)
 
       follow_few : count_at course region + 1 ≤ length (node_at (world_told told) region).submitted
       follow_few = subst (λ (c : SessionReplayView). count_at c region + 1 ≤ length (node_at (world_told told) region).submitted) (sym is)
           (subst (λ w. count_at (replay_at told at) region + 1 ≤ length (node_at w region).submitted) (ap (world_after told.cluster told.workload) (sym (split_at told.events at (Submit region name) item).0))
-          (submit_few told.cluster led.valid told.workload led.fits (take at told.events) (drop (at + 1) told.events) region name (legal_split at (Submit region name) item) place found))
+          (submit_few (take at told.events) (drop (at + 1) told.events) region name (run_split at (Submit region name) item) place found))
 
       follow_counted : count_at course region + 1 < 4294967296
       follow_counted =
           let lr : region < told.cluster.regions =
-          (now_legal told.cluster led.valid told.workload led.fits (take at told.events) (drop (at + 1) told.events) (Submit region name) (legal_split at (Submit region name) item)).regions in
+          (now_legal (take at told.events) (drop (at + 1) told.events) (Submit region name) (run_split at (Submit region name) item)).regions in
           let many : length (node_at (world_told told) region).submitted ≡ length (get_or told.sites region no_site).region.state.submitted = many_here (reached led) (led.stands region lr) in
           let few = led.few region lr in
           let more = follow_few in
@@ -204,7 +206,7 @@ module _ {told : TellingView} (led : LedTo told) where
 
       follow_submitted : after_submission course place region ≡ replay_at told (at + 1)
       follow_submitted = ap (λ c. after_submission c place region) is
-          ∙ sym (submit_follows told.cluster led.valid told.workload led.fits (take at told.events) (drop (at + 1) told.events) region name (legal_split at (Submit region name) item) place found)
+          ∙ sym (submit_follows (take at told.events) (drop (at + 1) told.events) region name (run_split at (Submit region name) item) place found)
           ∙ ap (λ l. replay_of (world_after told.cluster told.workload l)) (sym (split_at told.events at (Submit region name) item).1)
 
       pub follows_submission : FollowsSubmission told at region place course
@@ -221,15 +223,15 @@ module _ {told : TellingView} (led : LedTo told) where
   module _ (at : ℕ) (region : ℕ) (name : Bytes) (item : slice_get told.events at ≡ Some (Answer region name)) where
     module _ (place : ℕ) (found : position (is_session region name) told.workload.sessions ≡ Some place) (course : SessionReplayView) (is : course ≡ replay_at told at) where
       reply_region : region < told.cluster.regions
-      reply_region = answer_region told.cluster led.valid told.workload led.fits (take at told.events) (drop (at + 1) told.events) region name (legal_split at (Answer region name) item) place found
+      reply_region = answer_region (take at told.events) (drop (at + 1) told.events) region name (run_split at (Answer region name) item) place found
 
       reply_waits : ¬ (wait_at course place ≡ None)
-      reply_waits e = answer_waits told.cluster led.valid told.workload led.fits (take at told.events) (drop (at + 1) told.events) region name (legal_split at (Answer region name) item) place found
+      reply_waits e = answer_waits (take at told.events) (drop (at + 1) told.events) region name (run_split at (Answer region name) item) place found
           (subst (λ (c : SessionReplayView). wait_at c place ≡ None) is e)
 
       reply_followed : after_reply course place ≡ replay_at told (at + 1)
       reply_followed = ap (λ c. after_reply c place) is
-          ∙ sym (answer_follows told.cluster led.valid told.workload led.fits (take at told.events) (drop (at + 1) told.events) region name (legal_split at (Answer region name) item) place found)
+          ∙ sym (answer_follows (take at told.events) (drop (at + 1) told.events) region name (run_split at (Answer region name) item) place found)
           ∙ ap (λ l. replay_of (world_after told.cluster told.workload l)) (sym (split_at told.events at (Answer region name) item).1)
 
       pub follows_answer : FollowsAnswer told at region place course
@@ -240,21 +242,21 @@ module _ {told : TellingView} (led : LedTo told) where
         waits_then = subst (λ (c : SessionReplayView). wait_at c place ≡ Some id) is waits
 
         reply_own : id.region ≡ region
-        reply_own = answer_own told.cluster led.valid told.workload led.fits (take at told.events) (drop (at + 1) told.events) region name (legal_split at (Answer region name) item) place found id waits_then
+        reply_own = answer_own (take at told.events) (drop (at + 1) told.events) region name (run_split at (Answer region name) item) place found id waits_then
 
         the_end : (world_told told) ≡ world_after told.cluster told.workload (take at told.events ++ Answer region name ∷ drop (at + 1) told.events)
         the_end = ap (world_after told.cluster told.workload) (split_at told.events at (Answer region name) item).0
 
         reply_executed : IsExecutedAt (world_told told) region id
         reply_executed = subst (λ w. IsExecutedAt w region id) (sym the_end)
-            (answer_executed told.cluster led.valid told.workload led.fits (take at told.events) (drop (at + 1) told.events) region name (legal_split at (Answer region name) item) place found id waits_then)
+            (answer_executed (take at told.events) (drop (at + 1) told.events) region name (run_split at (Answer region name) item) place found id waits_then)
 
         reply_added : (reply : Reply) → IsReply (world_told told) region name id reply → replies_at told (at + 1) ≡ replies_at told at ++ reply ∷ []
         reply_added reply r =
             let added : replies_from told.cluster told.workload (take at told.events ++ Answer region name ∷ drop (at + 1) told.events) (opening_world told.cluster told.workload) (take at told.events ++ Answer region name ∷ [])
             ≡ replies_from
             told.cluster told.workload (take at told.events ++ Answer region name ∷ drop (at + 1) told.events) (opening_world told.cluster told.workload) (take at told.events) ++ reply ∷ [] =
-            answer_replies told.cluster led.valid told.workload led.fits (take at told.events) (drop (at + 1) told.events) region name (legal_split at (Answer region name) item) place found id waits_then reply
+            answer_replies (take at told.events) (drop (at + 1) told.events) region name (run_split at (Answer region name) item) place found id waits_then reply
             (subst (λ w. IsReply w region name id reply) the_end r) in
             subst₂ (λ (all now : List Event). replies_from told.cluster told.workload all (opening_world told.cluster told.workload) now ≡ replies_from told.cluster told.workload all (opening_world told.cluster told.workload)
             (take at told.events) ++ reply ∷ []) (sym (split_at told.events at (Answer region name) item).0) (sym (split_at told.events at (Answer region name) item).1) added
@@ -264,7 +266,7 @@ module _ {told : TellingView} (led : LedTo told) where
 
 -- all replies are of what regions keep
 
-module _ (cluster : Cluster) (ok : IsValidCluster cluster) (workload : Workload) (fits : IsValidWorkload cluster workload) (events : List Event) (legal : AreLegal cluster workload events) where
+module _ {cluster : Cluster} {workload : Workload} {events : List Event} (run : IsLegalRun cluster workload events) where
   one_kept : (xs ys : List Event) (event : Event) → events ≡ xs ++ event ∷ ys
       → AllIn (IsReplyOf cluster.regions (world_after cluster workload events)) (option_to_list (reply_for cluster workload events (answered_session workload (world_after cluster workload xs) event)))
   one_kept xs ys (Submit region name) e = tt
@@ -277,8 +279,8 @@ module _ (cluster : Cluster) (ok : IsValidCluster cluster) (workload : Workload)
       (option_to_list (reply_for cluster workload all (answered_session workload (world_after cluster workload xs) (Answer region name))))) (sym e)
       (by (position (is_session region name) workload.sessions) refl)
     where
-      l : AreLegal cluster workload (xs ++ Answer region name ∷ ys)
-      l = subst (AreLegal cluster workload) e legal
+      l : IsLegalRun cluster workload (xs ++ Answer region name ∷ ys)
+      l = subst (IsLegalRun cluster workload) e run
 
       one : (o : Option Reply) → ((reply : Reply) → o ≡ Some reply → IsReplyOf cluster.regions (world_after cluster workload (xs ++ Answer region name ∷ ys)) reply)
           → AllIn (IsReplyOf cluster.regions (world_after cluster workload (xs ++ Answer region name ∷ ys))) (option_to_list o)
@@ -288,13 +290,13 @@ module _ (cluster : Cluster) (ok : IsValidCluster cluster) (workload : Workload)
       waiting : (place : ℕ) → position (is_session region name) workload.sessions ≡ Some place → (o : Option TxnId) → wait_at (replay_of (world_after cluster workload xs)) place ≡ o
           → AllIn (IsReplyOf cluster.regions (world_after cluster workload (xs ++ Answer region name ∷ ys)))
           (option_to_list (reply_for cluster workload (xs ++ Answer region name ∷ ys) (answered_session workload (world_after cluster workload xs) (Answer region name))))
-      waiting place found None w = absurd (answer_waits cluster ok workload fits xs ys region name l place found w)
-      waiting place found (Some id) w = one _ (λ reply is. answer_kept cluster ok workload fits xs ys region name l place found id w reply is)
+      waiting place found None w = absurd (answer_waits xs ys region name l place found w)
+      waiting place found (Some id) w = one _ (λ reply is. answer_kept xs ys region name l place found id w reply is)
 
       by : (o : Option ℕ) → position (is_session region name) workload.sessions ≡ o
           → AllIn (IsReplyOf cluster.regions (world_after cluster workload (xs ++ Answer region name ∷ ys)))
           (option_to_list (reply_for cluster workload (xs ++ Answer region name ∷ ys) (answered_session workload (world_after cluster workload xs) (Answer region name))))
-      by None f = absurd (now_listed cluster ok workload fits xs ys (Answer region name) l region name (inr refl) f)
+      by None f = absurd (now_listed xs ys (Answer region name) l region name (inr refl) f)
       by (Some place) f = waiting place f (wait_at (replay_of (world_after cluster workload xs)) place) refl
 
   pub replies_kept : AllIn (IsReplyOf cluster.regions (world_after cluster workload events)) (replies_of cluster workload events)
@@ -307,13 +309,13 @@ module _ (cluster : Cluster) (ok : IsValidCluster cluster) (workload : Workload)
 
 -- loops that are done
 
-pub order_whole : (told : TellingView) {held : List Event} → held ≡ told.events
+pub order_whole : (told : ReportSourceView) {held : List Event} → held ≡ told.events
     → (at : ℕ) (o : List Ran) → at ≤ length held → length held ≤ at → o ≡ rans_at told at → o ≡ rans_of told.cluster told.workload told.events
 order_whole told {held} is at o le ge e =
     let same : at ≡ length held = omega arith in
     e ∙ ap (rans_at told) (same ∙ ap length is) ∙ ap (λ l. filter_map (ran_of told.cluster told.workload told.events) (order_of l)) (take-length told.events)
 
-pub replies_whole : (told : TellingView) {held : List Event} → held ≡ told.events
+pub replies_whole : (told : ReportSourceView) {held : List Event} → held ≡ told.events
     → (at : ℕ) (o : List Reply) → at ≤ length held → length held ≤ at → o ≡ replies_at told at → o ≡ replies_of told.cluster told.workload told.events
 replies_whole told {held} is at o le ge e =
     let same : at ≡ length held = omega arith in
@@ -366,7 +368,7 @@ pub parts_told : {cluster : Cluster} {workload : Workload} {events : List Event}
     → tables ≡ map (λ (s : Bor SiteView). shown s.now.region.state.here.table) lent → all ≡ events
     → ◌≡◌ {A = Report} (record { replies = replies; order = order; tables = tables; events = all }) (report_of cluster workload events)
 parts_told {cluster} {workload} {events} lent led r o t e =
-    let told : TellingView = record { cluster = cluster; workload = workload; sites = map (λ (s : Bor SiteView). s.now) lent; events = events } in
+    let told : ReportSourceView = record { cluster = cluster; workload = workload; sites = map (λ (s : Bor SiteView). s.now) lent; events = events } in
     let same = t ∙ sites_shown lent ∙ tables_are {told = told} led in
     λ i. record { replies = r i; order = o i; tables = same i; events = e i }
 
@@ -384,28 +386,31 @@ module _ {cluster : Cluster} {sessions : WorldSessions} {sites : List SiteView} 
   fits = subst (λ (v : WorldView). IsValidWorkload v.cluster v.workload) view k.reached.run.fits
 
   module _ (events : List Event) (legal : AreLegal now.cluster now.workload events) (led_to : now.state ≡ world_after now.cluster now.workload events) where
+    run_now : IsLegalRun now.cluster now.workload events
+    run_now = record { sound = sound; fits = fits; legal = legal }
+
     pub outcomes_are : AllIn (λ (r : Ran). IsOutcomeOf now.cluster.regions now.state r.id r.outcome) (rans_of now.cluster now.workload events)
     outcomes_are = subst (λ w. AllIn (λ (r : Ran). IsOutcomeOf now.cluster.regions w r.id r.outcome) (rans_of now.cluster now.workload events)) (sym led_to)
-        (outcomes_kept now.cluster sound now.workload fits events legal)
+        (outcomes_kept run_now)
 
     pub replies_are : AllIn (IsReplyOf now.cluster.regions now.state) (replies_of now.cluster now.workload events)
-    replies_are = subst (λ w. AllIn (IsReplyOf now.cluster.regions w) (replies_of now.cluster now.workload events)) (sym led_to) (replies_kept now.cluster sound now.workload fits events legal)
+    replies_are = subst (λ w. AllIn (IsReplyOf now.cluster.regions w) (replies_of now.cluster now.workload events)) (sym led_to) (replies_kept run_now)
 
     pub nodes_tables : tables_of now.cluster now.workload events ≡ map (λ (n : Node). shown n.here.table) now.state.nodes
     nodes_tables = subst (λ (w : World). tables_of now.cluster now.workload events ≡ map (λ (n : Node). shown n.here.table) w.nodes) (sym led_to)
         (subst (λ m. map (λ region. shown (region_table now.cluster now.workload events region)) (range_with_len 0 m) ≡ map (λ (n : Node). shown n.here.table) (world_after now.cluster now.workload events).nodes) many
         (by_number (λ region. shown (region_table now.cluster now.workload events region)) (λ (n : Node). shown n.here.table) (world_after now.cluster now.workload events).nodes 0 no_node
         (λ i lt. let same : 0 + i ≡ i = omega arith in subst (λ r. shown (region_table now.cluster now.workload events r) ≡ shown (node_at (world_after now.cluster now.workload events) i).here.table) (sym same)
-        (ap shown (sym ((legal_agree now.cluster sound now.workload fits events legal).tables i (subst (λ m. i < m) many lt)))))))
+        (ap shown (sym ((run_agrees run_now).tables i (subst (λ m. i < m) many lt)))))))
       where
         many : length (world_after now.cluster now.workload events).nodes ≡ now.cluster.regions
-        many = (legal_keeps now.cluster sound now.workload fits events legal).nodes
+        many = (run_keeps run_now).nodes
 
     pub ran_all : map (λ (r : Ran). r.id) (rans_of now.cluster now.workload events) ≡ order_of events
-    ran_all = all_are_ran now.cluster sound now.workload fits events legal
+    ran_all = all_are_ran run_now
 
     pub answered_all : map (λ (r : Reply). r.session) (replies_of now.cluster now.workload events) ≡ filter_map answered_name events
-    answered_all = all_are_answered now.cluster sound now.workload fits events legal
+    answered_all = all_are_answered run_now
 
     -- the sites of a world are those after events that lead to it
     pub sites_after : steps < 4294967296 → AreSitesAfter cluster sessions.workload events sites

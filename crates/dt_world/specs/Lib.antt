@@ -1,11 +1,12 @@
 pub mod WorldView
 pub mod WorldReport
-pub mod Telling
-pub mod TellingCode
+pub mod SitesAfter
+pub mod ReportSourceInner
+pub mod ReportSourceCode
 pub mod WorldInner
 pub mod WorldCode
 pub mod WorldSessions
-pub mod SessionReplay
+pub mod SessionReplayInner
 pub use Rattle.dt_session.specs.World
 pub use Rattle.dt_session.specs.Step
 pub use Rattle.dt_session.specs.Run

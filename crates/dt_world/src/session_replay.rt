@@ -1,5 +1,5 @@
 ghost use Rattle.std.specs.Prelude.{◌≡◌, ◌+◌, ◌<◌, ◌^◌, length, replicate, IfOk, None};
-ghost use Rattle.dt_world.specs.SessionReplay.{after_reply, after_submission, count_at, wait_at};
+ghost use Rattle.dt_world.specs.SessionReplayInner.{after_reply, after_submission, count_at, wait_at};
 
 use dt_access::TxnId;
 use dt_text::NoMemory;
@@ -14,7 +14,7 @@ pub struct SessionReplay {
 }
 
 impl Model for SessionReplay {
-    ghost use Rattle.dt_world.specs.SessionReplay.{SessionReplayView};
+    ghost use Rattle.dt_world.specs.SessionReplayInner.{SessionReplayView};
 
     ghost Value = { SessionReplayView };
 

@@ -13,8 +13,9 @@ ghost use Rattle.dt_session.specs.Run.{order_of};
 ghost use Rattle.dt_agreement.specs.Invariant.{IsExecutedAt};
 ghost use Rattle.dt_report.specs.Report.{order_text, ran_line, reply_line, report_text};
 ghost use Rattle.dt_report.specs.ShownTables.{all_shown};
-ghost use Rattle.dt_world.specs.SessionReplay.{IsReply, ran_at, rans_at, replay_at, replies_at};
-ghost use Rattle.dt_world.specs.Telling.{AreSitesAfter, LedTo, world_told};
+ghost use Rattle.dt_world.specs.SessionReplayInner.{IsReply, ran_at, rans_at, replay_at, replies_at};
+ghost use Rattle.dt_world.specs.ReportSourceInner.{LedTo, world_told};
+ghost use Rattle.dt_world.specs.SitesAfter.{AreSitesAfter};
 ghost use Rattle.dt_world.specs.WorldReport.{report_of, replies_of, rans_of};
 
 use crate::session_replay::SessionReplay;
@@ -36,7 +37,7 @@ use std::marker::Model;
 
 /// Events, and the sites of all regions, each as it is after these, with the cluster and the workload.
 #[derive(Drop)]
-pub struct Telling<'a, 'b, S: Scheduler + Drop> {
+pub struct ReportSource<'a, 'b, S: Scheduler + Drop> {
     cluster: &'a Cluster,
     workload: &'a Workload,
     /// The site of each region, by its number.
@@ -44,13 +45,13 @@ pub struct Telling<'a, 'b, S: Scheduler + Drop> {
     events: &'a [Event],
 }
 
-impl<'a, 'b, S: Scheduler + Drop> Model for Telling<'a, 'b, S> {
-    ghost use Rattle.dt_world.specs.Telling.{TellingView};
-    ghost use Rattle.dt_world.specs.TellingCode.{telling_code};
+impl<'a, 'b, S: Scheduler + Drop> Model for ReportSource<'a, 'b, S> {
+    ghost use Rattle.dt_world.specs.ReportSourceInner.{ReportSourceView};
+    ghost use Rattle.dt_world.specs.ReportSourceCode.{report_source_code};
 
-    ghost Value = { TellingView };
+    ghost Value = { ReportSourceView };
 
-    ghost coded = { telling_code };
+    ghost coded = { report_source_code };
 
     ghost use Rattle.std.specs.Prelude.{map};
 
@@ -121,14 +122,14 @@ fn put_replies_and_order<'a, 'b, S: Scheduler + Drop>(
         ++ flat_map reply_line (replies_of cluster.now workload.now events.now))
         ++ order_text (rans_of cluster.now workload.now events.now)) }
 {
-    let telling = Telling {
+    let source = ReportSource {
         cluster,
         workload,
         sites,
         events,
     };
-    telling.put_replies(alloc, out)?;
-    telling.put_order(alloc, out)
+    source.put_replies(alloc, out)?;
+    source.put_order(alloc, out)
 }
 
 /// The replies that the events give, and the executed attempts in the serial order.
@@ -143,16 +144,16 @@ fn replies_and_order<'a, 'b, S: Scheduler + Drop>(
     ensures replies { IfOk result (λ parts. parts.0 ≡ replies_of cluster.now workload.now events.now) }
     ensures order { IfOk result (λ parts. parts.1 ≡ rans_of cluster.now workload.now events.now) }
 {
-    let telling = Telling {
+    let source = ReportSource {
         cluster,
         workload,
         sites,
         events,
     };
-    Ok((telling.replies(alloc)?, telling.order(alloc)?))
+    Ok((source.replies(alloc)?, source.order(alloc)?))
 }
 
-impl<'a, 'b, S: Scheduler + Drop> Telling<'a, 'b, S> {
+impl<'a, 'b, S: Scheduler + Drop> ReportSource<'a, 'b, S> {
     /// The executed attempts, in the order of their first executions.
     fn order(&self, alloc: Global) -> Result<Rans, NoMemory>
         requires { LedTo self.now }

@@ -1,5 +1,5 @@
 use Rattle.std.proofs.Common.{take}
-use Rattle.dt_plain.specs.Graphs.{AreEdges}
+use Rattle.dt_plain.specs.GraphsInner.{AreEdges}
 use Rattle.dt_plain.proofs.graph.edges.Given as goal
 
 abbrev pub invariant-loop-log : goal.invariant-loop-log

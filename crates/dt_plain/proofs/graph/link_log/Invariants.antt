@@ -1,6 +1,6 @@
 use Rattle.std.proofs.Common.{take}
 use Rattle.dt_sched.specs.Surroundings.{EdgeWithin}
-use Rattle.dt_plain.specs.Graphs.{Gains}
+use Rattle.dt_plain.specs.GraphsInner.{Gains}
 use Rattle.dt_plain.proofs.graph.link_log.Given as goal
 
 abbrev pub invariant-loop-at : goal.invariant-loop-at

@@ -1,5 +1,5 @@
 use Rattle.std.proofs.Common.{◌≡◌, map, take}
-use Rattle.dt_plain.specs.Graphs.{turned_link}
+use Rattle.dt_plain.specs.GraphsInner.{turned_link}
 use Rattle.dt_plain.proofs.graph.turned_round.Given as goal
 
 abbrev pub invariant-loop-link : goal.invariant-loop-link

@@ -1,5 +1,5 @@
 use Rattle.std.proofs.Common.{◌≡◌, drop}
-use Rattle.dt_plain.specs.Ranks.{first_rank}
+use Rattle.dt_plain.specs.RanksInner.{first_rank}
 use Rattle.dt_plain.proofs.ranks.first_rank.Given as goal
 
 abbrev pub invariant-loop-part : goal.invariant-loop-part

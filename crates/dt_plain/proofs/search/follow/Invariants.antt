@@ -1,5 +1,5 @@
 use Rattle.std.proofs.Common.{take}
-use Rattle.dt_plain.specs.Links.{Follows}
+use Rattle.dt_plain.specs.LinksInner.{Follows}
 use Rattle.dt_plain.proofs.search.follow.Given as goal
 
 abbrev pub invariant-loop-link : goal.invariant-loop-link

@@ -2,7 +2,7 @@ use Rattle.std.proofs.Common.{◌≡◌, ◌⊎◌, Some, length, map, sym, subs
 use Rattle.std.specs.Map.{lookup}
 use Rattle.dt_lists.specs.Lists.{Has}
 use Rattle.dt_access.specs.Ids.{same_id}
-use Rattle.dt_region.specs.ById.{ByIdView}
+use Rattle.dt_region.specs.ByIdInner.{ByIdView}
 use Rattle.dt_region.specs.ByIdInner.{led_to}
 use Rattle.dt_region.proofs.ByIdLaws.{led_more}
 use Rattle.dt_region.proofs.by_id.ById.add.Goals as goal

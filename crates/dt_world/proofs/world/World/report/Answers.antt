@@ -8,7 +8,7 @@ use Rattle.dt_table.specs.Table.{shown}
 use Rattle.dt_session.specs.Run.{order_of}
 use Rattle.dt_session.specs.World.{Node}
 use Rattle.dt_site.specs.Site.{SiteView}
-use Rattle.dt_world.specs.Telling.{AreSitesAfter}
+use Rattle.dt_world.specs.SitesAfter.{AreSitesAfter}
 use Rattle.dt_world.specs.WorldView.{WorldView}
 use Rattle.dt_world.specs.WorldReport.{IsOutcomeOf, IsReplyOf, answered_name, report_of}
 use Rattle.dt_world.proofs.Reports.{answered_all, nodes_tables, outcomes_are, ran_all, replies_are, same_told, sites_after}

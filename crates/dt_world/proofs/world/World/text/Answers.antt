@@ -1,7 +1,7 @@
 use Rattle.std.proofs.Common.{◌≡◌, ◌<◌, Bor, map, sym, ap, subst, ◌∙◌, arith}
 use Rattle.dt_report.specs.Report.{report_text}
 use Rattle.dt_site.specs.Site.{SiteView}
-use Rattle.dt_world.specs.Telling.{AreSitesAfter}
+use Rattle.dt_world.specs.SitesAfter.{AreSitesAfter}
 use Rattle.dt_world.specs.WorldView.{WorldView}
 use Rattle.dt_world.specs.WorldReport.{report_of}
 use Rattle.dt_world.proofs.Reports.{sites_after}

@@ -1,0 +1,99 @@
+use Rattle.std.proofs.Common.{◌≡◌, ◌+◌, refl, sym, ◌∙◌, inl, inr}
+use Rattle.dt_events.specs.declared.Event.TheVariants.{Submit, Answer}
+use Rattle.dt_world.specs.SessionReplayInner.{replay_at, replies_at}
+use Rattle.dt_world.proofs.Reports.{follows_answer, follows_reply, follows_submission, event_at, plain_event, session_listed}
+use Rattle.dt_world.proofs.TextByLines.{none_more}
+use Rattle.dt_world.proofs.site_reports.ReportSource.follow.Goals as goal
+
+pub unreachable-requires : goal.unreachable-requires
+unreachable-requires g c =
+    let event = event_at c.args.self.now c.requires.events c.args.at c.index-events-at.result (Submit c.in-Submit.region c.in-Submit.session) c.requires.at c.index-events-at.is c.in-Submit.is in
+    session_listed c.requires.led c.args.at (Submit c.in-Submit.region c.in-Submit.session) event c.in-Submit.region c.in-Submit.session (inl refl) (sym c.find.ensures ∙ c.in_default-find.is)
+
+pub submit-requires-clause-place : goal.submit-requires-clause-place
+submit-requires-clause-place g c =
+    let event = event_at c.args.self.now c.requires.events c.args.at c.index-events-at.result (Submit c.in-Submit.region c.in-Submit.session) c.requires.at c.index-events-at.is c.in-Submit.is in
+    let follows = follows_submission c.requires.led c.args.at c.in-Submit.region c.in-Submit.session event c.in-Some.place (sym c.find.ensures ∙ c.in-Some.is) c.args.replay.now c.requires.replay in
+    follows.place_there
+
+pub submit-requires-clause-region : goal.submit-requires-clause-region
+submit-requires-clause-region g c =
+    let event = event_at c.args.self.now c.requires.events c.args.at c.index-events-at.result (Submit c.in-Submit.region c.in-Submit.session) c.requires.at c.index-events-at.is c.in-Submit.is in
+    let follows = follows_submission c.requires.led c.args.at c.in-Submit.region c.in-Submit.session event c.in-Some.place (sym c.find.ensures ∙ c.in-Some.is) c.args.replay.now c.requires.replay in
+    follows.region_there
+
+pub submit-requires-clause-few : goal.submit-requires-clause-few
+submit-requires-clause-few g c =
+    let event = event_at c.args.self.now c.requires.events c.args.at c.index-events-at.result (Submit c.in-Submit.region c.in-Submit.session) c.requires.at c.index-events-at.is c.in-Submit.is in
+    let follows = follows_submission c.requires.led c.args.at c.in-Submit.region c.in-Submit.session event c.in-Some.place (sym c.find.ensures ∙ c.in-Some.is) c.args.replay.now c.requires.replay in
+    follows.few
+
+pub unreachable-requires-in_default-find-2 : goal.unreachable-requires-in_default-find-2
+unreachable-requires-in_default-find-2 g c =
+    let event = event_at c.args.self.now c.requires.events c.args.at c.index-events-at.result (Answer c.in-Answer.region c.in-Answer.session) c.requires.at c.index-events-at.is c.in-Answer.is in
+    session_listed c.requires.led c.args.at (Answer c.in-Answer.region c.in-Answer.session) event c.in-Answer.region c.in-Answer.session (inr refl) (sym c.find-in-Answer.ensures ∙ c.in_default-find-2.is)
+
+pub waits-requires : goal.waits-requires
+waits-requires g c =
+    let event = event_at c.args.self.now c.requires.events c.args.at c.index-events-at.result (Answer c.in-Answer.region c.in-Answer.session) c.requires.at c.index-events-at.is c.in-Answer.is in
+    let follows = follows_answer c.requires.led c.args.at c.in-Answer.region c.in-Answer.session event c.in-Some-find.place (sym c.find-in-Answer.ensures ∙ c.in-Some-find.is) c.args.replay.now c.requires.replay in
+    follows.place_there
+
+pub unreachable-requires-in_default-waits : goal.unreachable-requires-in_default-waits
+unreachable-requires-in_default-waits g c =
+    let event = event_at c.args.self.now c.requires.events c.args.at c.index-events-at.result (Answer c.in-Answer.region c.in-Answer.session) c.requires.at c.index-events-at.is c.in-Answer.is in
+    let follows = follows_answer c.requires.led c.args.at c.in-Answer.region c.in-Answer.session event c.in-Some-find.place (sym c.find-in-Answer.ensures ∙ c.in-Some-find.is) c.args.replay.now c.requires.replay in
+    follows.waited (sym c.waits.ensures ∙ c.in_default-waits.is)
+
+pub reply-requires-clause-region : goal.reply-requires-clause-region
+reply-requires-clause-region g c =
+    let event = event_at c.args.self.now c.requires.events c.args.at c.index-events-at.result (Answer c.in-Answer.region c.in-Answer.session) c.requires.at c.index-events-at.is c.in-Answer.is in
+    let follows = follows_answer c.requires.led c.args.at c.in-Answer.region c.in-Answer.session event c.in-Some-find.place (sym c.find-in-Answer.ensures ∙ c.in-Some-find.is) c.args.replay.now c.requires.replay in
+    follows.region_there
+
+pub reply-requires-clause-own : goal.reply-requires-clause-own
+reply-requires-clause-own g c =
+    let event = event_at c.args.self.now c.requires.events c.args.at c.index-events-at.result (Answer c.in-Answer.region c.in-Answer.session) c.requires.at c.index-events-at.is c.in-Answer.is in
+    let reply = follows_reply c.requires.led c.args.at c.in-Answer.region c.in-Answer.session event c.in-Some-find.place (sym c.find-in-Answer.ensures ∙ c.in-Some-find.is) c.args.replay.now c.requires.replay
+    c.in-Some-waits.id (sym c.waits.ensures ∙ c.in-Some-waits.is) in
+    reply.own
+
+pub reply-requires-clause-executed : goal.reply-requires-clause-executed
+reply-requires-clause-executed g c =
+    let event = event_at c.args.self.now c.requires.events c.args.at c.index-events-at.result (Answer c.in-Answer.region c.in-Answer.session) c.requires.at c.index-events-at.is c.in-Answer.is in
+    let reply = follows_reply c.requires.led c.args.at c.in-Answer.region c.in-Answer.session event c.in-Some-find.place (sym c.find-in-Answer.ensures ∙ c.in-Some-find.is) c.args.replay.now c.requires.replay
+    c.in-Some-waits.id (sym c.waits.ensures ∙ c.in-Some-waits.is) in
+    reply.executed
+
+pub returns-in-Some-clause-replay : goal.returns-in-Some-clause-replay
+returns-in-Some-clause-replay g c =
+    let event = event_at c.args.self.now c.requires.events c.args.at c.index-events-at.result (Submit c.in-Submit.region c.in-Submit.session) c.requires.at c.index-events-at.is c.in-Submit.is in
+    let follows = follows_submission c.requires.led c.args.at c.in-Submit.region c.in-Submit.session event c.in-Some.place (sym c.find.ensures ∙ c.in-Some.is) c.args.replay.now c.requires.replay in
+    c.submit.ensures ∙ follows.replay
+
+pub returns-in-Some-clause-reply : goal.returns-in-Some-clause-reply
+returns-in-Some-clause-reply g c =
+    let event = event_at c.args.self.now c.requires.events c.args.at c.index-events-at.result (Submit c.in-Submit.region c.in-Submit.session) c.requires.at c.index-events-at.is c.in-Submit.is in
+    let follows = follows_submission c.requires.led c.args.at c.in-Submit.region c.in-Submit.session event c.in-Some.place (sym c.find.ensures ∙ c.in-Some.is) c.args.replay.now c.requires.replay in
+    none_more follows.replies
+
+pub returns-in_ok-reply-in-Answer-clause-replay : goal.returns-in_ok-reply-in-Answer-clause-replay
+returns-in_ok-reply-in-Answer-clause-replay g c =
+    let event = event_at c.args.self.now c.requires.events c.args.at c.index-events-at.result (Answer c.in-Answer.region c.in-Answer.session) c.requires.at c.index-events-at.is c.in-Answer.is in
+    let follows = follows_answer c.requires.led c.args.at c.in-Answer.region c.in-Answer.session event c.in-Some-find.place (sym c.find-in-Answer.ensures ∙ c.in-Some-find.is) c.args.replay.now c.requires.replay in
+    c.answer.ensures ∙ follows.replay
+
+pub returns-in_ok-reply-in-Answer-clause-reply : goal.returns-in_ok-reply-in-Answer-clause-reply
+returns-in_ok-reply-in-Answer-clause-reply g c =
+    let event = event_at c.args.self.now c.requires.events c.args.at c.index-events-at.result (Answer c.in-Answer.region c.in-Answer.session) c.requires.at c.index-events-at.is c.in-Answer.is in
+    let reply = follows_reply c.requires.led c.args.at c.in-Answer.region c.in-Answer.session event c.in-Some-find.place (sym c.find-in-Answer.ensures ∙ c.in-Some-find.is) c.args.replay.now c.requires.replay
+    c.in-Some-waits.id (sym c.waits.ensures ∙ c.in-Some-waits.is) in
+    reply.replies c.in_ok-reply-in-Answer.reply c.in_ok-reply-in-Answer.ensures
+
+pub returns-in_default : goal.returns-in_default
+returns-in_default g c =
+    let event = event_at c.args.self.now c.requires.events c.args.at c.index-events-at.result c.index-events-at.result c.requires.at c.index-events-at.is refl in
+    let plain : (replay_at c.args.self.now c.args.at ≡ replay_at c.args.self.now (c.args.at + 1))
+    × (replies_at c.args.self.now c.args.at ≡ replies_at c.args.self.now (c.args.at + 1)) =
+    plain_event c.requires.led c.args.at c.index-events-at.result event (λ r n. c.in_default.not-Submit r n) (λ r n. c.in_default.not-Answer r n) in
+    record { replay = c.requires.replay ∙ plain.0; reply = none_more plain.1 }
