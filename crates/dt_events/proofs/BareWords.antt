@@ -1,10 +1,10 @@
 -- The bare words of a line, found one by one from a place on.
-use Rattle.std.proofs.Common.{◌≡◌, ◌≢◌, ℕ, ◌+◌, ◌<◌, ◌≤◌, ◌^◌, Bool, true, false, cond, ◌==◌, ◌||◌, ◌&&◌, nat_lt, List, []}
-use Rattle.std.proofs.Common.{◌∷◌, ◌++◌, length, get_or, drop, map, Option, Some, None, Bor, refl, sym, ◌∙◌, ap, append_assoc, append-nil}
+use Rattle.std.proofs.Common.{◌≡◌, ◌≢◌, ℕ, ◌+◌, ◌<◌, ◌≤◌, Bool, true, false, cond, ◌==◌, ◌||◌, ◌&&◌, nat_lt, List, []}
+use Rattle.std.proofs.Common.{◌∷◌, ◌++◌, length, get_or, drop, map, Option, Some, None, refl, sym, ◌∙◌, ap, append-nil}
 use Rattle.std.specs.Option.{option_map}
 use Rattle.std.specs.List.{slice_range}
 use Rattle.std.proofs.lemmas.Option.{same_Some}
-use Rattle.dt_lists.proofs.Callers.{same_head, same_tail}
+use Rattle.dt_lists.proofs.Callers.{joined_more, joined_none, same_head, same_tail}
 use Rattle.dt_text.specs.Texts.{is_text_byte}
 use Rattle.dt_text.specs.Words.{is_visible}
 use Rattle.dt_text.specs.Reading.{with_word, words_from, text_from, escape_from, after_text, BareEndsAt, words_of}
@@ -12,7 +12,6 @@ use Rattle.dt_text.proofs.Callers.{bare_begins, exact, no_more, no_word, text_be
 use Rattle.dt_text.specs.declared.word.Word.{Word}
 use Rattle.dt_text.specs.declared.word.Word.TheVariants.{Bare, Text}
 use Rattle.dt_events.specs.Events.{bare_bytes, AreBareWords}
-use Rattle.dt_events.specs.ReadingInner.{spelled, AreShort}
 
 -- one more word before others, if it is bare
 abbrev pub onto : Option (List ℕ) → Option (List (List ℕ)) → Option (List (List ℕ))
@@ -76,14 +75,6 @@ one_bare line at end inside plain visible ends =
 
 -- ---- the words of a line
 
-joined_more : (found : List (List ℕ)) (word : List ℕ) (words : Option (List (List ℕ))) → option_map (λ ws. (found ++ word ∷ []) ++ ws) words ≡ option_map (λ ws. found ++ ws) (option_map (λ ws. word ∷ ws) words)
-joined_more found word None = refl
-joined_more found word (Some ws) = ap Some (append_assoc found (word ∷ []) ws)
-
-joined_none : (words : Option (List (List ℕ))) → option_map (λ ws. [] ++ ws) words ≡ words
-joined_none None = refl
-joined_none (Some ws) = refl
-
 -- those found, and those from the place on, are those of the line
 abbrev pub AreSoFar : List ℕ → List (List ℕ) → ℕ → Type 0
 AreSoFar line found at = option_map (λ ws. found ++ ws) (bares_from line at) ≡ bares line (words_of line)
@@ -101,15 +92,6 @@ bares_go_on line found at end next before inside plain visible ends gap =
     ∙ ap (λ ws. option_map (λ vs. found ++ vs) (option_map (λ vs. slice_range line at end ∷ vs) (bares line ws))) (sym gap)
     ∙ ap (λ ws. option_map (λ vs. found ++ vs) ws) (sym (one_bare line at end inside plain visible ends))
     ∙ before
-
--- words that are read where they stand, with one more
-pub spelled-push : (found : List (Bor (List ℕ))) (word : Bor (List ℕ)) → spelled (found ++ word ∷ []) ≡ spelled found ++ word.now ∷ []
-spelled-push [] word = refl
-spelled-push (w ∷ found) word = ap (λ ws. w.now ∷ ws) (spelled-push found word)
-
-pub short-push : (found : List (List ℕ)) (word : List ℕ) → AreShort found → length word < 2 ^ 32 → AreShort (found ++ word ∷ [])
-short-push [] word short one = (one, tt)
-short-push (w ∷ found) word short one = (short.0, short-push found word short.1 one)
 
 -- ---- the whole line
 

@@ -6,7 +6,7 @@ use Rattle.std.proofs.lemmas.Grind.{common_steps}
 use Rattle.std.proofs.lemmas.List.{drop_more, take-append-le}
 use Rattle.std.proofs.lemmas.Option.{same_Some}
 use Rattle.dt_lists.specs.Lists.{Pairwise}
-use Rattle.dt_lists.proofs.Callers.{same_head, same_tail}
+use Rattle.dt_lists.proofs.Callers.{all_get, all_of_image, has_at, same_head, same_tail}
 use Rattle.dt_text.specs.Reading.{words_of}
 use Rattle.dt_text.specs.Lines.{FileLine}
 use Rattle.dt_text.specs.declared.Word.{Word}
@@ -21,9 +21,8 @@ use Rattle.dt_events.specs.ReadingInner.{Keeps, spelled, AreShort, AreIds, Reads
 
 -- each of short words is short
 pub short_at : (words : List (Bor (List ℕ))) (i : ℕ) (d : Bor (List ℕ)) → AreShort (spelled words) → i < length words → length ((get_or words i d).now) < 2 ^ 32
-short_at [] i d short within = absurd (omega arith)
-short_at (w ∷ ws) zero d short within = short.0
-short_at (w ∷ ws) (suc i) d short within = short_at ws i d short.1 (omega arith)
+short_at words i d short within =
+    all_get _ words (all_of_image (λ w. length w < 2 ^ 32) (λ (w : Bor (List ℕ)). w.now) words short) (get_or words i d) (has_at words i d within)
 
 -- words of which one is no id are no ids
 pub no_ids : (words : List (Bor (List ℕ))) (i : ℕ) (d : Bor (List ℕ)) → i < length words → ((id : TxnId) → IsCounted id → (get_or words i d).now ≢ id_text id) → (ids : List TxnId) → AreIds ids

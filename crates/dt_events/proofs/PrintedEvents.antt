@@ -36,13 +36,17 @@ digits_visible : (ds : List ℕ) → AllDigits 10 ds → list_all is_visible ds 
 digits_visible [] all = refl
 digits_visible (d ∷ ds) all = and_from _ _ (digit_visible d all.0) (digits_visible ds all.1)
 
+-- what passes a test passes a weaker one, byte by byte
+pub all_weaker : (p q : ℕ → Bool) → ((b : ℕ) → p b ≡ true → q b ≡ true) → (bs : List ℕ) → list_all p bs ≡ true → list_all q bs ≡ true
+all_weaker p q weaker [] all = refl
+all_weaker p q weaker (b ∷ bs) all =
+    let parts = and_parts _ _ all in and_from _ _ (weaker b parts.0) (all_weaker p q weaker bs parts.1)
+
 name_byte_visible : (b : ℕ) → is_name_byte b ≡ true → is_visible b ≡ true
 name_byte_visible b allowed = grind (arith, nat_tests)
 
 name_visible : (bs : List ℕ) → list_all is_name_byte bs ≡ true → list_all is_visible bs ≡ true
-name_visible [] all = refl
-name_visible (b ∷ bs) all =
-    let parts = and_parts _ _ all in and_from _ _ (name_byte_visible b parts.0) (name_visible bs parts.1)
+name_visible bs all = all_weaker is_name_byte is_visible name_byte_visible bs all
 
 no_quote : (d : ℕ) → digit_value d < 10 → d ≢ 34
 no_quote d low e = let h : 36 < 10 = subst (λ x. digit_value x < 10) e low in omega (arith, h)
@@ -204,9 +208,7 @@ visible_within : (b : ℕ) → is_visible b ≡ true → within_line b ≡ true
 visible_within b visible = grind (arith, nat_tests)
 
 word_within : (bs : List ℕ) → list_all is_visible bs ≡ true → list_all within_line bs ≡ true
-word_within [] visible = refl
-word_within (b ∷ bs) visible =
-    let parts = and_parts _ _ visible in and_from _ _ (visible_within b parts.0) (word_within bs parts.1)
+word_within bs visible = all_weaker is_visible within_line visible_within bs visible
 
 spaced_within : (ws : List (List ℕ)) → AllIn IsBareWord ws → list_all within_line (spaced ws) ≡ true
 spaced_within [] all = refl

@@ -15,5 +15,5 @@ pub use laws::{
     events_have_no_fault, files_are_one_list, files_have_an_outcome, files_have_one_fault,
     lines_are_one_event, printed_events_read_back,
 };
-pub use printed::put_event;
+pub use printed::{put_event, put_number};
 pub use reader::{EventsError, read_events};

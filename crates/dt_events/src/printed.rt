@@ -1,6 +1,7 @@
-ghost use Rattle.std.specs.Prelude.{◌≡◌, ◌∷◌, ◌++◌, [], map, OnOk, OnErr};
+ghost use Rattle.std.specs.Prelude.{◌≡◌, ◌∷◌, ◌++◌, [], length, map, take, OnOk, OnErr};
 ghost use Rattle.std.specs.Fmt.{decimal};
 ghost use Rattle.std.specs.List.{join_with_byte};
+ghost use Rattle.dt_text.specs.Words.{spaced};
 ghost use Rattle.dt_access.specs.Ids.{id_text};
 ghost use Rattle.dt_events.specs.Events.{event_line, event_text};
 ghost use Rattle.dt_events.specs.ReadingInner.{Keeps};
@@ -77,8 +78,8 @@ fn put_append(
     ensures kept { OnErr result (Keeps out.old.items out.new.items) }
 {
     put_begin(alloc, &mut *out, b"append", home)?;
-    put_number(alloc, &mut *out, u32::from(source))?;
-    put_number(alloc, &mut *out, number)
+    put_number(alloc, &mut *out, u64::from(source))?;
+    put_number(alloc, &mut *out, u64::from(number))
 }
 
 fn put_deliver(
@@ -93,9 +94,9 @@ fn put_deliver(
     ensures kept { OnErr result (Keeps out.old.items out.new.items) }
 {
     put_begin(alloc, &mut *out, b"deliver", region)?;
-    put_number(alloc, &mut *out, u32::from(home))?;
-    put_number(alloc, &mut *out, first)?;
-    put_number(alloc, &mut *out, last)
+    put_number(alloc, &mut *out, u64::from(home))?;
+    put_number(alloc, &mut *out, u64::from(first))?;
+    put_number(alloc, &mut *out, u64::from(last))
 }
 
 fn put_insert(alloc: Global, out: &mut Vec<u8>, region: u8, home: u8) -> Result<(), NoMemory>
@@ -103,7 +104,7 @@ fn put_insert(alloc: Global, out: &mut Vec<u8>, region: u8, home: u8) -> Result<
     ensures kept { OnErr result (Keeps out.old.items out.new.items) }
 {
     put_begin(alloc, &mut *out, b"insert", region)?;
-    put_number(alloc, &mut *out, u32::from(home))
+    put_number(alloc, &mut *out, u64::from(home))
 }
 
 /// Appends the text of an event with a session.
@@ -158,19 +159,19 @@ fn put_begin(alloc: Global, out: &mut Vec<u8>, kind: &[u8], region: u8) -> Resul
     ensures kept { OnErr result (Keeps out.old.items out.new.items) }
 {
     out.extend_from_slice(kind)?;
-    put_number(alloc, out, u32::from(region))
+    put_number(alloc, out, u64::from(region))
 }
 
-/// Appends a space and a number.
-fn put_number(alloc: Global, out: &mut Vec<u8>, number: u32) -> Result<(), NoMemory>
-    ensures added { OnOk result (out.new.items ≡ out.old.items ++ 32 ∷ decimal number) }
-    ensures kept { OnErr result (Keeps out.old.items out.new.items) }
+/// Appends a space and a number; after `NoMemory` the bytes begin as before.
+pub fn put_number(alloc: Global, out: &mut Vec<u8>, number: u64) -> Result<(), NoMemory>
+    ensures added { OnOk result (out.new.items ≡ out.old.items ++ spaced (decimal number ∷ [])) }
+    ensures kept { OnErr result (take (length out.old.items) out.new.items ≡ out.old.items) }
 {
     out.push(b' ')?;
     if number < 10 {
-        // As nearly all numbers of regions are.
+        // As nearly all regions, and numbers of moves and attempts, are.
         out.push(b'0' + number as u8)?;
         return Ok(());
     }
-    put_u64(alloc, out, u64::from(number))
+    put_u64(alloc, out, number)
 }

@@ -1,9 +1,11 @@
 use Rattle.std.proofs.Common.{◌≡◌, ◌<◌, ◌^◌, ◌∷◌, ◌++◌, [], ap, ◌∙◌, None, true, false, get_or, length, arith}
 use Rattle.std.specs.List.{slice_range}
 use Rattle.std.proofs.lemmas.Grind.{common_steps}
+use Rattle.std.proofs.lemmas.List.{map-append}
+use Rattle.dt_lists.proofs.Callers.{all_more}
 use Rattle.dt_text.specs.Words.{is_visible}
 use Rattle.dt_events.specs.ReadingInner.{spelled}
-use Rattle.dt_events.proofs.BareWords.{bares_begin, bares_from, bares_go_on, are_found, none_found, no_bare, no_bare_text, spelled-push, short-push}
+use Rattle.dt_events.proofs.BareWords.{bares_begin, bares_from, bares_go_on, are_found, none_found, no_bare, no_bare_text}
 use Rattle.dt_events.proofs.words.bare_words.Goals.{then-line-at-eq34-via-then-line-at-eq34, then-line-at-eq34-via-else-line-at-eq34+then-not-is_visible}
 use Rattle.dt_events.proofs.words.bare_words.Goals as goal
 
@@ -25,12 +27,12 @@ loop-at-preserved c =
     let more = bares_go_on c.args.line.now (spelled c.loop-at.found.items) c.loop-at.at c.bare_end-end.result c.gap_end-at-in-loop-at.result c.loop-at.invariant.so_far
     c.loop-at-test.true c.if-line-at-eq34.false visible ends.ends gap.same in
     let pushed : spelled c.push.new.self.items ≡ spelled c.loop-at.found.items ++ slice_range c.args.line.now c.loop-at.at c.bare_end-end.result ∷ [] =
-    ap spelled c.in_ok-push.ensures.items ∙ spelled-push c.loop-at.found.items _ in
+    ap spelled c.in_ok-push.ensures.items ∙ map-append (λ w. w.now) c.loop-at.found.items _ in
     let within : length (slice_range c.args.line.now c.loop-at.at c.bare_end-end.result) < 2 ^ 32 = grind (arith, common_steps) in
     record {
       inside = gap.inside;
       no_space = gap.no_space;
-      short = rw pushed (short-push (spelled c.loop-at.found.items) _ c.loop-at.invariant.short within);
+      short = rw pushed (all_more (λ w. length w < 2 ^ 32) (spelled c.loop-at.found.items) _ c.loop-at.invariant.short within);
       so_far = rw pushed more;
     }
 
