@@ -1,8 +1,7 @@
 -- A home is asked by a push to its list, and asking homes can be taken back.
 use Rattle.std.proofs.Common.{◌≡◌, ◌<◌, ◌+◌, ◌⊎◌, ℕ, List, [], ◌∷◌, ◌++◌, length, get_or, set, Some, None, ap, ap₂, subst, sym, refl, ◌∙◌, inl, inr, true≢false, arith, Result, Ok, Err, OnOk, OnErr}
 use Rattle.std.specs.Prelude.{Option, IsSome, option_to_list}
-use Rattle.std.proofs.lemmas.List.{length_push, length-set, get_or-set_same, get_or_read_under, same_from_push, set-get_or}
-use Rattle.dt_lists.proofs.Callers.{set_set}
+use Rattle.std.proofs.lemmas.List.{length_push, length-set, get_or-set_same, get_or_read_under, same_from_push, set-get_or, set-set}
 
 -- a list whose last item is taken off is as before that item came
 before_push : {A : Type 0} (xs was now : List A) (x : A) (last : Option A) → was ≡ xs ++ x ∷ [] → was ≡ now ++ option_to_list last → IsSome last ⊎ (was ≡ []) → now ≡ xs
@@ -17,7 +16,7 @@ taken_back lists items home x was now last lt e w taken some =
     let within : home < length lists = subst (λ k. home < k) (ap length e ∙ length-set lists home (get_or lists home [] ++ x ∷ [])) lt in
     let was_is : was ≡ get_or lists home [] ++ x ∷ [] = w ∙ ap (λ i. get_or i home was) e ∙ get_or-set_same lists home (get_or lists home [] ++ x ∷ []) was within in
     ap₂ (λ i y. set i home y) e (before_push (get_or lists home []) was now x last was_is taken some)
-    ∙ set_set lists home (get_or lists home [] ++ x ∷ []) (get_or lists home []) ∙ set-get_or lists home []
+    ∙ set-set lists home (get_or lists home [] ++ x ∷ []) (get_or lists home []) ∙ set-get_or lists home []
 
 -- the list of a home, read as it is there, is pushed to, or stays
 module _ {A T E : Type 0} (lists : List (List A)) (home : ℕ) (was now : List A) (lt : home < length lists) (w : was ≡ get_or lists home was) where

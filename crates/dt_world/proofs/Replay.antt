@@ -5,8 +5,10 @@ use Rattle.std.specs.Prelude.{Option, option_map, option_and_then, option_to_lis
 use Rattle.std.specs.List.{position}
 use Rattle.std.proofs.lemmas.List.{length_push, length-map, map-set, get_or-set_same}
 use Rattle.std.proofs.lemmas.List.Quantifiers.{position-Some}
+use Rattle.std.proofs.Math.ListN.{get_or-map}
+use Rattle.std.proofs.Math.Seq.{map-set_same}
 use Rattle.dt_lists.specs.Lists.{Has}
-use Rattle.dt_lists.proofs.Callers.{any_of_image, any_image, any_front, get_of_map, map_of_set, front_length}
+use Rattle.dt_lists.proofs.Callers.{any_of_image, any_image, any_front, front_length}
 use Rattle.dt_access.specs.Clash.{Bytes}
 use Rattle.dt_access.specs.declared.TxnId.{TxnId}
 use Rattle.dt_events.specs.declared.Event.{Event}
@@ -43,14 +45,14 @@ replies_more cluster workload all w (x ∷ xs) event =
 -- how much a region has submitted, and what a session waits for
 
 pub count_is : (w : World) (region : ℕ) → count_at (replay_of w) region ≡ length (node_at w region).submitted
-count_is w region = get_of_map (λ n. length n.submitted) w.nodes region no_node
+count_is w region = get_or-map (λ n. length n.submitted) w.nodes region no_node
 
 pub wait_is : (w : World) (place : ℕ) → wait_at (replay_of w) place ≡ (get_or w.places place idle_place).waits
-wait_is w place = get_of_map (λ p. p.waits) w.places place idle_place
+wait_is w place = get_or-map (λ p. p.waits) w.places place idle_place
 
 same_counts : (w : World) (region : ℕ) (x : Node) (places : List Place) → length x.submitted ≡ length (node_at w region).submitted
     → replay_of (record { nodes = set w.nodes region x; places = places }) ≡ replay_of (record { nodes = w.nodes; places = places })
-same_counts w region x places e = ap (λ l. record { waits = map (λ p. p.waits) places; submitted = l }) (map_of_set (λ n. length n.submitted) w.nodes region x no_node e)
+same_counts w region x places e = ap (λ l. record { waits = map (λ p. p.waits) places; submitted = l }) (map-set_same (λ n. length n.submitted) w.nodes region x no_node e)
 
 pub append_same : (cluster : Cluster) (workload : Workload) (w : World) (home source number : ℕ) → replay_of (next cluster workload w (Append home source number)) ≡ replay_of w
 append_same cluster workload w home source number = go (eqb number (taken_of w home source)) (option_and_then (txn_of w) (slice_get (asked_of w source home) number))
