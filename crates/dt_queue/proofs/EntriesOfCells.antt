@@ -25,6 +25,9 @@ use Rattle.dt_queue.specs.RowsInner.{granule_at, granule_name, name_at}
 use Rattle.dt_queue.proofs.InOrder.{IsListed, Rise, listed, listed_less, listed_more, same_list}
 use Rattle.dt_queue.proofs.EntryLists.{Slots, after_is, before_is, entry_is, greater, lesser, meets, near_in, near_rises, nearest_is, of_near, slots_of_list, to_near, without_is}
 
+or_one : (s t : Bool) → (s ≡ true) ⊎ (t ≡ true) → (s || t) ≡ true
+or_one s t c = elim c [ inl e ↦ or_left s t e | inr e ↦ or_right s t e ]
+
 module _ (k : Kept) (kept : AreQueuesKept k) where
   -- ---- cells clash where their entries do
 
@@ -47,11 +50,11 @@ module _ (k : Kept) (kept : AreQueuesKept k) where
   meets_of p q a b (inl c) =
       let name : name_at k.rows.names.keys p.1.row ≡ name_at k.rows.names.keys q.1.row = ap (name_at k.rows.names.keys) c.0 in
       and_from _ _ (eq-eqb _ _ (ap (λ (n : ℕ × Bytes). n.0) name))
-      (uses_of_row ((name_at k.rows.names.keys p.1.row).1, p.1.mode) ((name_at k.rows.names.keys q.1.row).1, q.1.mode) (ap (λ (n : ℕ × Bytes). n.1) name) (elim c.1 [ inl e ↦ or_left _ (may_change q.1.mode) e | inr e ↦ or_right (may_change p.1.mode) _ e ]))
+      (uses_of_row ((name_at k.rows.names.keys p.1.row).1, p.1.mode) ((name_at k.rows.names.keys q.1.row).1, q.1.mode) (ap (λ (n : ℕ × Bytes). n.1) name) (or_one (may_change p.1.mode) (may_change q.1.mode) c.1))
   meets_of p q a b (inr c) =
       let name = same_name p.1.row q.1.row a b c.0 in
       and_from _ _ (eq-eqb _ _ (ap (λ (n : ℕ × Bytes). n.0) name))
-      (uses_of_granule ((name_at k.rows.names.keys p.1.row).1, p.1.mode) ((name_at k.rows.names.keys q.1.row).1, q.1.mode) (ap (λ (n : ℕ × Bytes). n.1) name) (elim c.1 [ inl e ↦ or_left _ (is_whole q.1.mode) e | inr e ↦ or_right (is_whole p.1.mode) _ e ]))
+      (uses_of_granule ((name_at k.rows.names.keys p.1.row).1, p.1.mode) ((name_at k.rows.names.keys q.1.row).1, q.1.mode) (ap (λ (n : ℕ × Bytes). n.1) name) (or_one (is_whole p.1.mode) (is_whole q.1.mode) c.1))
 
   of_meets : (p q : ℕ × Cell) → p.1.row < length k.rows.names.keys → q.1.row < length k.rows.names.keys → meets k.rows.names.keys p q ≡ true → CellsClash k.rows p.1 q.1
   of_meets p q a b e =
