@@ -9,7 +9,7 @@ use Rattle.dt_lists.proofs.Callers.{any_of_test, test_of_any}
 use Rattle.dt_access.specs.declared.TxnId.{TxnId}
 use Rattle.dt_txn.specs.declared.Txn.{Txn}
 use Rattle.dt_txn.specs.Transaction.{with_number, set_of, targets_of, homes_of}
-use Rattle.dt_txn.specs.Asking.{ask}
+use Rattle.dt_txn.specs.HomesAsked.{ask}
 use Rattle.dt_agreement.specs.Invariant.{has_home}
 use Rattle.dt_txn.proofs.Callers.{with_number_all}
 

@@ -24,7 +24,7 @@ use Rattle.dt_workload.specs.declared.Ranked.{Ranked}
 use Rattle.dt_workload.specs.declared.Workload.{Workload}
 use Rattle.dt_workload.specs.Valid.{RankedFits, IsValidSession, IsValidWorkload}
 use Rattle.dt_session.specs.World.{World, Node, Place, Submission, opening_table, no_node, node_at, asked_of, taken_of, log_of, logs_of, submissions, submission_of, attempt_of, txn_of, session_at}
-use Rattle.dt_txn.specs.Asking.{ask}
+use Rattle.dt_txn.specs.HomesAsked.{ask}
 use Rattle.dt_txn.proofs.Callers.{ask_length}
 use Rattle.dt_session.specs.Step.{MayTry, MaySubmit, awaited_at, body_of, upcoming_id, next_attempt, attempt_for, node_submitted, world_submitted, called, submitted}
 use Rattle.dt_session.specs.Run.{txns_of}

@@ -3,7 +3,7 @@ use Rattle.std.proofs.Common.{◌≡◌, ℕ, ◌+◌, ◌<◌, length, replicat
 use Rattle.std.proofs.lemmas.List.{length-replicate}
 use Rattle.dt_access.specs.Clash.{Bytes}
 use Rattle.dt_outside.specs.Folder.{Files, IsAboveLimit}
-use Rattle.dt_command.specs.Loading.{HasFile}
+use Rattle.dt_command.specs.TaskFiles.{HasFile}
 
 -- there are bytes above every limit
 long_bytes : (limit : ℕ) → (bytes : Bytes) × limit < length bytes

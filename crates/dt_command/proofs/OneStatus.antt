@@ -25,7 +25,7 @@ use Rattle.dt_command.specs.declared.status.Status.TheVariants.{Done, NoMemory, 
 use Rattle.dt_command.specs.declared.status.EventsCause.{EventsCause}
 use Rattle.dt_command.specs.declared.status.EventsCause.TheVariants.{TooLong, Form, Rule}
 use Rattle.dt_command.specs.Tasks.{Task, Replay, Run, Big, Asks, AskFor, IsBuiltin, IsClusterFile, AreAForm, builtin_word, task_words, cluster_word, workload_word, events_word}
-use Rattle.dt_command.specs.Loading.{HasFile, HasCluster, HasEvents, Loaded, HoldCluster, HoldWorkload, HoldEvents, unnumbered}
+use Rattle.dt_command.specs.TaskFiles.{HasFile, HasCluster, HasEvents, Loaded, HoldCluster, HoldWorkload, HoldEvents, unnumbered}
 use Rattle.dt_command.specs.Causes.{AreBadCluster, HasBadCluster, AreBadWorkload, HasBadWorkload, IsFirstIllegal, AreBadEvents, HasBadEvents, WasMissed, CouldNotRead, CanBeDone, CallsFor, IsDue}
 use Rattle.dt_command.specs.RefusalCode.{IsRefusal}
 use Rattle.dt_command.proofs.WordForms.{two_bytes}

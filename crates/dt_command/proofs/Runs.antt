@@ -13,7 +13,7 @@ use Rattle.dt_gen.specs.Summary.{big_text, summary_of}
 use Rattle.dt_gen.proofs.Callers.{each_summary}
 use Rattle.dt_world.specs.WorldReport.{report_of}
 use Rattle.dt_command.specs.Tasks.{Run}
-use Rattle.dt_command.specs.Loading.{Loaded}
+use Rattle.dt_command.specs.TaskFiles.{Loaded}
 use Rattle.dt_command.specs.Headline.{BigRun, Headline}
 use Rattle.dt_command.specs.RefusalCode.{IsReportOfRun, IsSummaryOfRun, IsTextOfRun}
 use Rattle.dt_command.proofs.TextOrRefusal.{headline_of}

@@ -8,7 +8,7 @@ use Rattle.dt_session.specs.World.{World, opening_world}
 use Rattle.dt_session.specs.Step.{IsLegal, next, rule_of}
 use Rattle.dt_session.specs.Run.{AreLegal, world_after}
 use Rattle.dt_agreement.proofs.Callers.{append_legal, world_from_append}
-use Rattle.dt_command.specs.Loading.{unnumbered}
+use Rattle.dt_command.specs.TaskFiles.{unnumbered}
 use Rattle.dt_world.specs.WorldView.{WorldView, kept_next}
 use Rattle.dt_world.specs.declared.StepError.{StepError}
 use Rattle.dt_world.specs.declared.StepError.TheVariants.{Illegal}

@@ -26,7 +26,7 @@ use Rattle.dt_command.specs.declared.status.Status.TheVariants.{Done, BadWords, 
 use Rattle.dt_command.specs.declared.status.EventsCause.{EventsCause}
 use Rattle.dt_command.specs.declared.status.EventsCause.TheVariants.{TooLong, Form, Rule}
 use Rattle.dt_command.specs.Tasks.{Task, Replay, Run, Big, AreAForm, AskFor, IsClusterFile, cluster_word, workload_word, events_word}
-use Rattle.dt_command.specs.Loading.{HasFile, HoldEvents, NamesThis, Loaded, HasEvents, file_limit, unnumbered}
+use Rattle.dt_command.specs.TaskFiles.{HasFile, HoldEvents, NamesThis, Loaded, HasEvents, file_limit, unnumbered}
 
 -- what is wrong with the bytes of a cluster's file: they are too long, or they are no cluster, and this is their first fault
 abbrev pub AreBadCluster : ClusterFault → Bytes → Type 0

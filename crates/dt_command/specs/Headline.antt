@@ -1,6 +1,6 @@
 -- The headline, and when it must come true.
 --
--- It is put together of what was asked and loaded (Loading), and of what is reported: events that are legal, on which all
+-- It is put together of what was asked and loaded (TaskFiles), and of what is reported: events that are legal, on which all
 -- regions agree, and the bytes of their report. A replay is given its events; a run makes them, and leaves nothing undone. A
 -- big run makes its own load too, and reports three lines. Read next: Causes, for what is answered instead; then Answers, for
 -- all that a call promises.
@@ -20,7 +20,7 @@ use Rattle.dt_report.specs.Report.{report_text}
 use Rattle.dt_gen.specs.Summary.{big_text, summary_of}
 use Rattle.dt_world.specs.WorldReport.{report_of}
 use Rattle.dt_command.specs.Tasks.{Task, Replay, Run, Big}
-use Rattle.dt_command.specs.Loading.{Loaded, HasEvents, unnumbered}
+use Rattle.dt_command.specs.TaskFiles.{Loaded, HasEvents, unnumbered}
 
 -- what is reported: each event is legal after those before it; all regions agree on outcomes, tables, the order of an attempt
 -- that was answered before another was submitted, and causes; and the report of these events was written

@@ -1,5 +1,5 @@
 pub mod Tasks
-pub mod Loading
+pub mod TaskFiles
 pub mod Headline
 pub mod Causes
 pub mod Answers

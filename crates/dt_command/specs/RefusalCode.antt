@@ -25,7 +25,7 @@ use Rattle.dt_world.specs.declared.StepError.{StepError}
 use Rattle.dt_world.specs.declared.StepError.TheVariants.{Illegal}
 use Rattle.dt_world.specs.declared.StepError.TheVariants as step
 use Rattle.dt_command.specs.Tasks.{Task, Big, AreAForm, AskFor, IsClusterFile}
-use Rattle.dt_command.specs.Loading.{HasCluster, HasFile, file_limit}
+use Rattle.dt_command.specs.TaskFiles.{HasCluster, HasFile, file_limit}
 use Rattle.dt_command.specs.Headline.{AreOfARun, IsDone}
 use Rattle.dt_command.specs.Causes.{AreBadCluster, AreBadWorkload, CanBeDone, CouldNotRead, HasBadCluster, HasBadEvents, HasBadWorkload, IsFirstIllegal, WasMissed}
 

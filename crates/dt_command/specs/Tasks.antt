@@ -3,7 +3,7 @@
 -- The words of the command line, without the program's name, are those of a task, or a fault of the caller. Most tasks name a
 -- cluster by their second word and the file of a workload by their third; what else there is differs from task to task.
 -- So a new task is one case more here and in each definition by cases on tasks, and no other definition speaks of its words.
--- Read next: Loading, for what the named files hold.
+-- Read next: TaskFiles, for what the named files hold.
 use Rattle.std.specs.Prelude.{◌≡◌, ◌≢◌, ℕ, ◌<◌, ◌≤◌, ◌⊎◌, List, [], ◌∷◌, ◌++◌, length, map, codes, String, string_bytes, slice_get, Option, Some, None}
 use Rattle.std.specs.Fmt.{decimal}
 use Rattle.dt_access.specs.Clash.{Bytes}

@@ -6,7 +6,7 @@ ghost use Rattle.dt_session.specs.Run.{AreLegal, world_after};
 ghost use Rattle.dt_report.specs.Report.{report_text};
 ghost use Rattle.dt_world.specs.WorldReport.{report_of};
 ghost use Rattle.dt_command.specs.TaskCode.{IsRight, asked_for};
-ghost use Rattle.dt_command.specs.Loading.{file_limit, unnumbered};
+ghost use Rattle.dt_command.specs.TaskFiles.{file_limit, unnumbered};
 ghost use Rattle.dt_command.specs.RefusalCode.{IsStepRefusal, IsTextOf, refusal_of};
 
 use crate::files::{load_both, load_events};

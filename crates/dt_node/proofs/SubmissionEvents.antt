@@ -14,7 +14,7 @@ use Rattle.dt_events.specs.Stamps.{events_of}
 use Rattle.dt_proc.specs.Tree.{ProcTree}
 use Rattle.dt_txn.specs.declared.Body.{Body}
 use Rattle.dt_txn.specs.declared.Txn.{Txn}
-use Rattle.dt_txn.specs.Asking.{ask}
+use Rattle.dt_txn.specs.HomesAsked.{ask}
 use Rattle.dt_txn.specs.Replica.{taken_from}
 use Rattle.dt_txn.specs.Transaction.{homes_of, targets_of}
 use Rattle.dt_txn.proofs.Callers.{set_of_ascending}

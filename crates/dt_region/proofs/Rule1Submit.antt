@@ -12,7 +12,7 @@ use Rattle.dt_txn.specs.declared.txn.Body.{Body}
 use Rattle.dt_txn.specs.declared.txn.Txn.{Txn}
 use Rattle.dt_proc.specs.Tree.{ProcTree}
 use Rattle.dt_txn.specs.Transaction.{annotate, homes_of, BodyFits, IsValid}
-use Rattle.dt_txn.specs.Asking.{ask}
+use Rattle.dt_txn.specs.HomesAsked.{ask}
 use Rattle.dt_txn.proofs.Callers.{ask_length}
 use Rattle.dt_region.specs.Region.{RegionState, RegionView, find_txn, held}
 use Rattle.dt_region.specs.Rules.{id_for, txn_for, after_submit}

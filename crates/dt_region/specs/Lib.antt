@@ -11,7 +11,7 @@ pub mod Rounds
 pub mod StepsInner
 pub mod Underway
 pub use Rattle.dt_txn.specs.Transaction
-pub use Rattle.dt_txn.specs.Asking
+pub use Rattle.dt_txn.specs.HomesAsked
 pub use Rattle.dt_txn.specs.Execution
 pub use Rattle.dt_txn.specs.Serial
 pub use Rattle.dt_txn.specs.Replica

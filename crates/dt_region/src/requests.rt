@@ -1,7 +1,7 @@
 ghost use Rattle.std.specs.Prelude.{◌≡◌, ◌<◌, List, [], ◌∷◌, ◌++◌, get_or, set, vec_len, OnOk, OnErr};
 ghost use Rattle.dt_lists.specs.Lists.{AllIn};
 ghost use Rattle.dt_access.specs.declared.TxnId.{TxnId};
-ghost use Rattle.dt_txn.specs.Asking.{ask};
+ghost use Rattle.dt_txn.specs.HomesAsked.{ask};
 
 use dt_access::{Ids, TxnId};
 use dt_text::NoMemory;

@@ -2,7 +2,7 @@
 
 use crate::calls::{Call, procs_of};
 use crate::feeding::Row;
-use crate::rounds::{Open, Telling, parts, told_of};
+use crate::rounds::{Open, RoundReport, parts, told_of};
 use dt_access::TxnId;
 use dt_graph::QueueSched;
 use dt_lock::Gate;
@@ -85,7 +85,7 @@ fn told<R: Threads + Wait + Sync, G: Gate>(
         parts(rows.as_slice()),
         Some(workers),
         gate,
-        Telling::Outcomes,
+        RoundReport::Outcomes,
     );
     forget(procs);
     told

@@ -1,7 +1,7 @@
 //! That as many workers are at work at once as there may be, and never one more.
 
 use crate::feeding::Row;
-use crate::rounds::{GET, Telling, parts, told_of};
+use crate::rounds::{GET, RoundReport, parts, told_of};
 use crate::wrong;
 use dt_access::TxnId;
 use dt_graph::QueueSched;
@@ -113,7 +113,7 @@ fn go_through<R: Threads + Wait + Sync>(
         parts(rows.as_slice()),
         Some(workers),
         gate,
-        Telling::Events,
+        RoundReport::Events,
     )?;
     Ok(())
 }

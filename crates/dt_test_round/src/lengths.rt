@@ -3,7 +3,7 @@
 use crate::calls::{Call, procs_of};
 use crate::feeding::Row;
 use crate::meeting::Meeting;
-use crate::rounds::{Telling, parts, told_of};
+use crate::rounds::{RoundReport, parts, told_of};
 use crate::wrong;
 use dt_access::TxnId;
 use dt_graph::QueueSched;
@@ -89,7 +89,7 @@ fn passes<R: Threads + Wait + Sync>(
         parts(&APART),
         Some(workers),
         &gate,
-        Telling::Events,
+        RoundReport::Events,
     )?;
     Ok(gate.passed.load(Ordering::SeqCst))
 }
@@ -113,7 +113,7 @@ fn meet<R: Threads + Wait + Sync>(rt: &R, alloc: Global, procs: &Procs) -> Resul
         parts(&APART),
         Some(2),
         &gate,
-        Telling::Events,
+        RoundReport::Events,
     )?;
     Ok(gate.meeting.has_seen_two())
 }

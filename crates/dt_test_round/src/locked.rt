@@ -2,7 +2,7 @@
 
 use crate::feeding::Row;
 use crate::meeting::Meeting;
-use crate::rounds::{PUT, PUT_H, Telling, parts, told_of};
+use crate::rounds::{PUT, PUT_H, RoundReport, parts, told_of};
 use dt_graph::QueueSched;
 use dt_proc::{Procs, builtin_procs};
 use std::alloc::Global;
@@ -23,7 +23,7 @@ fn meet<R: Threads + Wait + Sync>(rt: &R, alloc: Global, procs: &Procs) -> Resul
         parts(&APART),
         Some(2),
         &gate,
-        Telling::Events,
+        RoundReport::Events,
     )?;
     Ok(gate.has_seen_two())
 }

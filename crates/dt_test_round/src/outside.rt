@@ -3,7 +3,7 @@
 use crate::calls::{Call, procs_of};
 use crate::feeding::Row;
 use crate::lengths::put_block;
-use crate::rounds::{Telling, parts, told_of};
+use crate::rounds::{RoundReport, parts, told_of};
 use dt_access::TxnId;
 use dt_graph::QueueSched;
 use dt_lock::Gate;
@@ -116,7 +116,7 @@ fn are_committed<R: Threads + Wait + Sync>(
         parts(&CHAINS),
         Some(2),
         &Relay::new(),
-        Telling::Events,
+        RoundReport::Events,
     )?;
     Ok(told.as_slice().ends_with(BEHIND))
 }

@@ -67,7 +67,7 @@ pub struct Story<'a> {
 /// What is reported of a region after a round: its events, in their order, and whether it is drained; or what it came to, whatever
 /// the order was.
 #[derive(Clone, Copy)]
-pub enum Telling {
+pub enum RoundReport {
     Events,
     Outcomes,
 }
@@ -145,13 +145,13 @@ fn tell<S: Scheduler>(
     alloc: Global,
     region: &Region<S>,
     story: Story,
-    telling: Telling,
+    telling: RoundReport,
 ) -> Result<Vec<u8>, Fail> {
     let mut told = Vec::new(alloc);
     let count = story.calls.len().saturating_add(story.rows.len());
     match telling {
-        Telling::Events => put_events(alloc, &mut told, region, count)?,
-        Telling::Outcomes => put_outcomes(alloc, &mut told, region, story.rows)?,
+        RoundReport::Events => put_events(alloc, &mut told, region, count)?,
+        RoundReport::Outcomes => put_outcomes(alloc, &mut told, region, story.rows)?,
     }
     Ok(told)
 }
@@ -165,7 +165,7 @@ pub fn told_of<R: Threads + Wait + Sync, S: Scheduler + Drop + Send, G: Gate>(
     story: Story,
     workers: Option<u32>,
     gate: &G,
-    telling: Telling,
+    telling: RoundReport,
 ) -> Result<Vec<u8>, Fail> {
     if story.number >= story.regions || story.regions > 8 {
         return Err(Fail::from("the region is one of eight at most"));
@@ -290,7 +290,15 @@ fn check_by<R: Threads + Wait + Sync, S: Scheduler + Drop + Send, G: Gate>(
     gate: &G,
 ) -> Result<(), Fail> {
     for (row, (story, want, other)) in ROUNDS.iter().enumerate() {
-        let told = told_of::<R, S, G>(rt, alloc, procs, *story, workers, gate, Telling::Events)?;
+        let told = told_of::<R, S, G>(
+            rt,
+            alloc,
+            procs,
+            *story,
+            workers,
+            gate,
+            RoundReport::Events,
+        )?;
         if told.as_slice() != *want && told.as_slice() != *other {
             return Err(wrong(row));
         }

@@ -1,6 +1,6 @@
 pub mod Accesses
 pub mod Transaction
-pub mod Asking
+pub mod HomesAsked
 pub mod Execution
 pub mod ReadingInner
 pub mod Staleness

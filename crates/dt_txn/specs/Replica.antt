@@ -15,7 +15,7 @@ use Rattle.dt_txn.specs.declared.txn.Txn.{Txn}
 use Rattle.dt_txn.specs.declared.outcome.Outcome.{Outcome}
 use Rattle.dt_txn.specs.declared.txn.Body.{Body}
 use Rattle.dt_txn.specs.Transaction.{annotate, homes_of}
-use Rattle.dt_txn.specs.Asking.{ask}
+use Rattle.dt_txn.specs.HomesAsked.{ask}
 use Rattle.dt_txn.specs.Execution.{one}
 use Rattle.dt_txn.specs.Serial.{after}
 

@@ -2,7 +2,7 @@ use Rattle.std.proofs.Common.{◌≡◌, ◌∙◌, Err, Option, refl, subst}
 use Rattle.std.proofs.lemmas.Result.{err_from_is_err_and}
 use Rattle.dt_outside.specs.Folder.{Files}
 use Rattle.dt_command.specs.TaskCode.{asked_for, word_of}
-use Rattle.dt_command.specs.Loading.{HasFile, HoldEvents, Loaded}
+use Rattle.dt_command.specs.TaskFiles.{HasFile, HoldEvents, Loaded}
 use Rattle.dt_command.proofs.TextOrRefusal.{KeepsFiles, no_events, no_size, not_loaded, passed_on, refused_text, replayed_text}
 use Rattle.dt_command.proofs.replay.replay_text.Goals as goal
 

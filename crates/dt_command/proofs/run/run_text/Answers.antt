@@ -1,7 +1,7 @@
 use Rattle.std.proofs.Common.{◌≡◌, Err, Ok, refl}
 use Rattle.std.proofs.lemmas.Result.{err_from_is_err_and}
 use Rattle.dt_command.specs.TaskCode.{run_asked_for, word_of}
-use Rattle.dt_command.specs.Loading.{Loaded}
+use Rattle.dt_command.specs.TaskFiles.{Loaded}
 use Rattle.dt_command.proofs.TextOrRefusal.{made_text, no_run_size, not_loaded, passed_on, refused_text}
 use Rattle.dt_command.proofs.Runs.{text_headline}
 use Rattle.dt_command.proofs.run.run_text.Goals as goal
