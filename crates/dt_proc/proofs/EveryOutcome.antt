@@ -1,6 +1,6 @@
 -- Every text has an outcome: the first pass comes to an end at it, and where that finds no fault, the second pass reports on names
 -- and kinds alone.
-use Rattle.std.proofs.Common.{◌≡◌, inl, inr, ℕ, List, [], Ok, Err, refl}
+use Rattle.std.proofs.Common.{◌≡◌, inl, inr, ℕ, List, [], Err, refl}
 use Rattle.dt_syntax.specs.declared.token.Placed.{Placed}
 use Rattle.dt_syntax.specs.FirstPass.{PassesFirst}
 use Rattle.dt_syntax.proofs.Callers.{FirstPassEnds, first_pass_ends}
@@ -22,15 +22,12 @@ telling text tokens passes told is = record {
 }
 
 -- what the second pass reports is the outcome
-second : (text : List ℕ) (tokens : List Placed) (passes : PassesFirst text tokens) (told : Checked (List ProcTree)) → check_procs [] passes.grammar.0 ≡ told →
+pub second : (text : List ℕ) (tokens : List Placed) (passes : PassesFirst text tokens) (told : Checked (List ProcTree)) → check_procs [] passes.grammar.0 ≡ told →
     Outcome text told
-second text tokens passes (Ok procs) is = telling text tokens passes (Ok procs) is
-second text tokens passes (Err (fault.Twice place)) is = telling text tokens passes (Err (fault.Twice place)) is
-second text tokens passes (Err (fault.Unknown place)) is = telling text tokens passes (Err (fault.Unknown place)) is
-second text tokens passes (Err (fault.Kind place)) is = telling text tokens passes (Err (fault.Kind place)) is
 second text tokens passes (Err (fault.Syntax place)) is = absurd (late_procs [] passes.grammar.0 (fault.Syntax place) is)
 second text tokens passes (Err (fault.TooMany place)) is = absurd (late_procs [] passes.grammar.0 (fault.TooMany place) is)
 second text tokens passes (Err fault.NoMemory) is = absurd (late_procs [] passes.grammar.0 fault.NoMemory is)
+second text tokens passes told is = telling text tokens passes told is
 
 -- every text has an outcome
 pub every_text : TextsHaveAnOutcome

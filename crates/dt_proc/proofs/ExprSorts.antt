@@ -1,5 +1,5 @@
 -- What the second pass makes fits.
-use Rattle.std.proofs.Common.{◌≡◌, inl, inr, ℕ, suc, ◌<◌, Bool, true, false, cond, List, [], ◌∷◌, map, length, slice_get, Option, Some, None, Ok, Err, refl, ap, subst, nat_eq}
+use Rattle.std.proofs.Common.{◌≡◌, inl, inr, ℕ, suc, ◌<◌, Bool, true, false, cond, List, [], ◌∷◌, map, length, slice_get, Option, Some, None, Ok, Err, refl, subst, nat_eq}
 use Rattle.std.specs.Option.{option_map}
 use Rattle.std.specs.Cmp.Lexicographic.{pointwise}
 use Rattle.std.proofs.lemmas.Option.{slice_get_within}
@@ -19,18 +19,18 @@ use Rattle.dt_syntax.specs.Grammar.{at, Syntax, chain, minus, denial, int, text,
 use Rattle.dt_syntax.specs.Grammar.{links_tokens, Reader, reads_int, reads_text, reads_presence, Maker, makes_length, makes_text}
 use Rattle.dt_syntax.specs.Limits.{AllSound}
 use Rattle.dt_syntax.proofs.Callers.{sound_left, sound_right}
+use Rattle.dt_lists.proofs.Callers.{some_same}
 
 -- what is reported has P
 abbrev pub Holds : {A : Type 0} → (A → Type 0) → Checked A → Type 0
 Holds {A} P told = (a : A) → told ≡ Ok a → P a
 
-value_of : {A : Type 0} → A → Checked A → A
-value_of other (Ok a) = a
-value_of other (Err e) = other
+-- equal answers report one thing
+pub ok_same : {A : Type 0} (a b : A) → ◌≡◌ {A = Checked A} (Ok a) (Ok b) → a ≡ b
+ok_same a b e = cc
 
 pub holds_ok : {A : Type 0} (P : A → Type 0) (a : A) → P a → Holds P (Ok a)
-unfolding value_of
-holds_ok P a h b e = subst P (ap (value_of a) e) h
+holds_ok P a h b e = subst P (ok_same a b e) h
 
 pub holds_after : {A B : Type 0} (P : B → Type 0) (told : Checked A) (next : A → Checked B) → ((a : A) → told ≡ Ok a → Holds P (next a)) → Holds P (after_ok told next)
 holds_after P (Ok a) next h = h a refl
@@ -46,24 +46,15 @@ sorts scope = map (λ v. v.1) scope.variables
 abbrev pub writes : Scope → List Bool
 writes scope = map (λ k. k.1) scope.keys
 
--- the entry of a name stands at its number
-entry_or : {A : Type 0} → ℕ × A → Option (ℕ × A) → ℕ × A
-entry_or d None = d
-entry_or d (Some r) = r
-
-entry_is : {A : Type 0} (r s : ℕ × A) → ◌≡◌ {A = Option (ℕ × A)} (Some r) (Some s) → r ≡ s
-unfolding entry_or
-entry_is r s e = ap (entry_or r) e
-
 -- an entry stands at its number
 abbrev pub Stands : {A : Type 0} → List A → ℕ × A → Type 0
 Stands xs r = slice_get xs r.0 ≡ Some r.1
 
 entry_here : {A : Type 0} (b : Bool) (x : A) (xs : List A) (o : Option (ℕ × A)) (r : ℕ × A) →
     ((s : ℕ × A) → o ≡ Some s → Stands xs s) → cond b (Some (0, x)) (option_map (λ q. (suc q.0, q.1)) o) ≡ Some r → Stands (x ∷ xs) r
-entry_here true x xs o r later e = subst (Stands (x ∷ xs)) (entry_is (0, x) r e) refl
+entry_here true x xs o r later e = subst (Stands (x ∷ xs)) (some_same {x = (0, x)} {y = r} e) refl
 entry_here false x xs None r later e = absurd cc
-entry_here false x xs (Some s) r later e = subst (Stands (x ∷ xs)) (entry_is (suc s.0, s.1) r e) (later s refl)
+entry_here false x xs (Some s) r later e = subst (Stands (x ∷ xs)) (some_same {x = (suc s.0, s.1)} {y = r} e) (later s refl)
 
 pub entry_place : {A : Type 0} (es : List (List ℕ × A)) (n : List ℕ) (r : ℕ × A) → entry_of es n ≡ Some r → Stands (map (λ e. e.1) es) r
 entry_place [] n r e = absurd cc
@@ -75,55 +66,28 @@ StandsInScope scope (Variable n s) = slice_get (sorts scope) n ≡ Some s
 StandsInScope scope (Key k w) = slice_get (writes scope) k ≡ Some w
 StandsInScope scope Unknown = Unit {0}
 
-fits_sort : (o : Op) (s t : Sort) → fits_both o s t ≡ true → TakesSort o s × (t ≡ s)
-fits_sort op.Or sort.Int sort.Int e = absurd cc
-fits_sort op.Or sort.Text sort.Text e = absurd cc
-fits_sort op.Or sort.Bool sort.Bool e = (refl, refl)
-fits_sort op.And sort.Int sort.Int e = absurd cc
-fits_sort op.And sort.Text sort.Text e = absurd cc
-fits_sort op.And sort.Bool sort.Bool e = (refl, refl)
-fits_sort op.Equal sort.Int sort.Int e = (inl refl, refl)
-fits_sort op.Equal sort.Text sort.Text e = (inr refl, refl)
-fits_sort op.Equal sort.Bool sort.Bool e = absurd cc
-fits_sort op.Differ sort.Int sort.Int e = (inl refl, refl)
-fits_sort op.Differ sort.Text sort.Text e = (inr refl, refl)
-fits_sort op.Differ sort.Bool sort.Bool e = absurd cc
-fits_sort op.Less sort.Int sort.Int e = (inl refl, refl)
-fits_sort op.Less sort.Text sort.Text e = (inr refl, refl)
-fits_sort op.Less sort.Bool sort.Bool e = absurd cc
-fits_sort op.AtMost sort.Int sort.Int e = (inl refl, refl)
-fits_sort op.AtMost sort.Text sort.Text e = (inr refl, refl)
-fits_sort op.AtMost sort.Bool sort.Bool e = absurd cc
-fits_sort op.More sort.Int sort.Int e = (inl refl, refl)
-fits_sort op.More sort.Text sort.Text e = (inr refl, refl)
-fits_sort op.More sort.Bool sort.Bool e = absurd cc
-fits_sort op.AtLeast sort.Int sort.Int e = (inl refl, refl)
-fits_sort op.AtLeast sort.Text sort.Text e = (inr refl, refl)
-fits_sort op.AtLeast sort.Bool sort.Bool e = absurd cc
-fits_sort op.Add sort.Int sort.Int e = (refl, refl)
-fits_sort op.Add sort.Text sort.Text e = absurd cc
-fits_sort op.Add sort.Bool sort.Bool e = absurd cc
-fits_sort op.Sub sort.Int sort.Int e = (refl, refl)
-fits_sort op.Sub sort.Text sort.Text e = absurd cc
-fits_sort op.Sub sort.Bool sort.Bool e = absurd cc
-fits_sort op.Join sort.Int sort.Int e = absurd cc
-fits_sort op.Join sort.Text sort.Text e = (refl, refl)
-fits_sort op.Join sort.Bool sort.Bool e = absurd cc
-fits_sort op.Mul sort.Int sort.Int e = (refl, refl)
-fits_sort op.Mul sort.Text sort.Text e = absurd cc
-fits_sort op.Mul sort.Bool sort.Bool e = absurd cc
-fits_sort op.Div sort.Int sort.Int e = (refl, refl)
-fits_sort op.Div sort.Text sort.Text e = absurd cc
-fits_sort op.Div sort.Bool sort.Bool e = absurd cc
-fits_sort op.Rem sort.Int sort.Int e = (refl, refl)
-fits_sort op.Rem sort.Text sort.Text e = absurd cc
-fits_sort op.Rem sort.Bool sort.Bool e = absurd cc
-fits_sort o sort.Int sort.Text e = absurd cc
-fits_sort o sort.Int sort.Bool e = absurd cc
-fits_sort o sort.Text sort.Int e = absurd cc
-fits_sort o sort.Text sort.Bool e = absurd cc
-fits_sort o sort.Bool sort.Int e = absurd cc
-fits_sort o sort.Bool sort.Text e = absurd cc
+fits_sort : (s t : Sort) (o : Op) → fits_both o s t ≡ true → TakesSort o s × (t ≡ s)
+fits_sort sort.Bool sort.Bool op.Or e = (refl, refl)
+fits_sort sort.Bool sort.Bool op.And e = (refl, refl)
+fits_sort sort.Int sort.Int op.Equal e = (inl refl, refl)
+fits_sort sort.Text sort.Text op.Equal e = (inr refl, refl)
+fits_sort sort.Int sort.Int op.Differ e = (inl refl, refl)
+fits_sort sort.Text sort.Text op.Differ e = (inr refl, refl)
+fits_sort sort.Int sort.Int op.Less e = (inl refl, refl)
+fits_sort sort.Text sort.Text op.Less e = (inr refl, refl)
+fits_sort sort.Int sort.Int op.AtMost e = (inl refl, refl)
+fits_sort sort.Text sort.Text op.AtMost e = (inr refl, refl)
+fits_sort sort.Int sort.Int op.More e = (inl refl, refl)
+fits_sort sort.Text sort.Text op.More e = (inr refl, refl)
+fits_sort sort.Int sort.Int op.AtLeast e = (inl refl, refl)
+fits_sort sort.Text sort.Text op.AtLeast e = (inr refl, refl)
+fits_sort sort.Int sort.Int op.Add e = (refl, refl)
+fits_sort sort.Int sort.Int op.Sub e = (refl, refl)
+fits_sort sort.Text sort.Text op.Join e = (refl, refl)
+fits_sort sort.Int sort.Int op.Mul e = (refl, refl)
+fits_sort sort.Int sort.Int op.Div e = (refl, refl)
+fits_sort sort.Int sort.Int op.Rem e = (refl, refl)
+fits_sort s t o e = absurd cc
 
 key_means : (scope : Scope) (o : Option (ℕ × Bool)) → ((r : ℕ × Bool) → o ≡ Some r → Stands (writes scope) r) → StandsInScope scope (as_key_entry o)
 key_means scope None h = tt
@@ -142,12 +106,7 @@ pub same_is : (s t : Sort) → same_sort s t ≡ true → s ≡ t
 same_is sort.Int sort.Int e = refl
 same_is sort.Text sort.Text e = refl
 same_is sort.Bool sort.Bool e = refl
-same_is sort.Int sort.Text e = absurd cc
-same_is sort.Int sort.Bool e = absurd cc
-same_is sort.Text sort.Int e = absurd cc
-same_is sort.Text sort.Bool e = absurd cc
-same_is sort.Bool sort.Int e = absurd cc
-same_is sort.Bool sort.Text e = absurd cc
+same_is s t e = absurd cc
 
 pub not_truth : (s : Sort) → same_sort s sort.Bool ≡ false → IsStoredSort s
 not_truth sort.Int e = inl refl
@@ -194,7 +153,7 @@ maker_fits scope makes_text p a h =
 combined_fits : (scope : Scope) (p : ℕ) (o : Op) (a b : Typed) → HasItsSort scope a → HasItsSort scope b → Holds (HasItsSort scope) (combined p o a b)
 combined_fits scope p o a b h k =
     holds_cond (HasItsSort scope) (fits_both o a.1 b.1) (Ok (tree.binary o a.0 b.0, sort_given o)) (Err (fault.Kind p))
-    (λ e. let f = fits_sort o a.1 b.1 e in holds_ok (HasItsSort scope) (tree.binary o a.0 b.0, sort_given o)
+    (λ e. let f = fits_sort a.1 b.1 o e in holds_ok (HasItsSort scope) (tree.binary o a.0 b.0, sort_given o)
     (a.1, f.0, h, subst (λ s. HasSort (sorts scope) (length (writes scope)) b.0 s) f.1 k, refl))
     (λ e c is. absurd cc)
 

@@ -1,5 +1,5 @@
 -- What a walk over tokens answers, put together from its parts.
-use Rattle.std.proofs.Common.{◌≡◌, inl, inr, ℕ, ◌≤◌, List, [], ◌∷◌, ◌++◌, Ok, Err, refl, sym, ap, ◌∙◌, subst, arith}
+use Rattle.std.proofs.Common.{◌≡◌, inl, inr, ℕ, ◌≤◌, List, [], ◌∷◌, ◌++◌, Ok, Err, refl, sym, ap, ◌∙◌, subst, arith, append_assoc}
 use Rattle.std.proofs.Common.{get_or, length, Bool, true, false, ℤ}
 use Rattle.dt_syntax.specs.declared.token.Token.{Token}
 use Rattle.dt_syntax.specs.declared.token.Token.TheVariants as tok
@@ -28,6 +28,12 @@ pub err_then : {A B : Type 0} (told : Checked A) (next : A → Checked B) (befor
     WalkAnswers told before (Err e) → WalkAnswers (after_ok told next) rest (Err e)
 err_then told next before rest e (inl m) = inl m
 err_then told next before rest e (inr s) = inr (ap (λ t. after_ok t next) s)
+
+-- one more of a list, after those that were reported
+pub one_more : {A : Type 0} (told : Checked (List A)) (before : List A) (one : A) →
+    after_ok (after_ok told (λ more. Ok (one ∷ more))) (λ more. Ok (before ++ more)) ≡ after_ok told (λ more. Ok ((before ++ one ∷ []) ++ more))
+one_more (Ok more) before one = ap Ok (sym (append_assoc before (one ∷ []) more))
+one_more (Err e) before one = refl
 
 -- what the first token of an operand says of it, of what follows the token, and of what follows the operand
 abbrev pub Shape : ℕ → Scope → Token → ℕ → List Placed → Syntax → List Placed → Type 0

@@ -10,6 +10,8 @@ use Rattle.dt_proc.specs.declared.tree.KeyDecl.{KeyDecl}
 use Rattle.dt_proc.specs.declared.error.ProcError.{ProcError}
 use Rattle.dt_proc.specs.Names.{Scope}
 use Rattle.dt_proc.specs.SecondPass.{Checked, after_ok, check_param, check_more_params, check_part, check_parts, check_key, check_keys, with_new_key}
+use Rattle.dt_proc.proofs.ExprSorts.{ok_same}
+use Rattle.dt_proc.proofs.ExprWalk.{one_more}
 use Rattle.dt_proc.specs.WalkInner.{WalkAnswers, left_with, key_told, keys_told, params_told}
 use Rattle.dt_syntax.specs.FrontsInner.{comma_param}
 use Rattle.dt_syntax.specs.Grammar.{at, Param, param_tokens, KeyPart, KeySyntax, Params, no_param, params, params_tokens}
@@ -41,17 +43,12 @@ params_fault scope all before rest e n p more is (inr h) =
 abbrev pub PartsTold : Scope → List (ℕ × KeyPart) → List KeyItem → Checked (List KeyItem)
 PartsTold scope all before = after_ok (check_parts scope all) (λ is. Ok (before ++ is))
 
-parts_one : (t : Checked (List KeyItem)) (before : List KeyItem) (i : KeyItem) →
-    after_ok (after_ok t (λ is. Ok (i ∷ is))) (λ is. Ok (before ++ is)) ≡ after_ok t (λ is. Ok ((before ++ i ∷ []) ++ is))
-parts_one (Ok is) before i = ap Ok (sym (append_assoc before (i ∷ []) is))
-parts_one (Err e) before i = refl
-
 pub parts_told : (scope : Scope) (all : List (ℕ × KeyPart)) (before between : List KeyItem) (n : ℕ) (p : KeyPart) (more : List (ℕ × KeyPart)) (i : KeyItem) →
     all ≡ (n, p) ∷ more → check_part scope p ≡ Ok i → between ≡ before ++ i ∷ [] → PartsTold scope all before ≡ PartsTold scope more between
 parts_told scope all before between n p more i is told pushed =
     ap (λ a. PartsTold scope a before) is
     ∙ ap (λ t. after_ok (after_ok t (λ i. after_ok (check_parts scope more) (λ is. Ok (i ∷ is)))) (λ is. Ok (before ++ is))) told
-    ∙ parts_one (check_parts scope more) before i ∙ ap (PartsTold scope more) (sym pushed)
+    ∙ one_more (check_parts scope more) before i ∙ ap (PartsTold scope more) (sym pushed)
 
 pub parts_fault : (scope : Scope) (all : List (ℕ × KeyPart)) (items : List KeyItem) (before rest : List Placed) (e : ProcError) (n : ℕ) (p : KeyPart) (more : List (ℕ × KeyPart)) →
     all ≡ (n, p) ∷ more → WalkAnswers (check_part scope p) before (Err e) → WalkAnswers (PartsTold scope all items) rest (Err e)
@@ -80,10 +77,6 @@ keys_one : (t : Checked (List KeyDecl × Scope)) (keys : List KeyDecl) (d : KeyD
 keys_one (Ok r) keys d = pair_ok r.1 (keys ++ d ∷ r.0) ((keys ++ d ∷ []) ++ r.0) (sym (append_assoc keys (d ∷ []) r.0))
 keys_one (Err e) keys d = refl
 
-abbrev value_of : {A : Type 0} → A → Checked A → A
-value_of other (Ok a) = a
-value_of other (Err e) = other
-
 -- one key more
 keys_after : (scope : Scope) (keys : List KeyDecl) (k : KeySyntax) (more : List KeySyntax) (t : Checked KeyDecl) (one : Scope) (made : List KeyDecl) → check_key scope k ≡ t →
     after_ok {A = KeyDecl} {B = Scope × List KeyDecl} t (λ d. Ok (with_new_key scope k.name k.write, keys ++ d ∷ [])) ≡ Ok (one, made) → keys_told scope keys (k ∷ more) ≡ keys_told one made more
@@ -93,7 +86,7 @@ keys_after scope keys k more (Ok d) one made is told =
     (λ d. after_ok {A = List KeyDecl × Scope} {B = List KeyDecl × Scope} (check_keys (with_new_key scope k.name k.write) more)
     (λ r. Ok (d ∷ r.0, r.1)))) (λ r. Ok (r.1, keys ++ r.0))) is
     ∙ keys_one (check_keys (with_new_key scope k.name k.write) more) keys d
-    ∙ ap (λ (v : Scope × List KeyDecl). keys_told v.0 v.1 more) (ap (value_of {A = Scope × List KeyDecl} (with_new_key scope k.name k.write, keys ++ d ∷ [])) told)
+    ∙ ap (λ (v : Scope × List KeyDecl). keys_told v.0 v.1 more) (ok_same {A = Scope × List KeyDecl} (with_new_key scope k.name k.write, keys ++ d ∷ []) (one, made) told)
 
 pub keys_next : (scope one : Scope) (keys made : List KeyDecl) (all : List KeySyntax) (k : KeySyntax) (more : List KeySyntax) → all ≡ k ∷ more →
     key_told scope keys k ≡ Ok (one, made) → keys_told scope keys all ≡ keys_told one made more

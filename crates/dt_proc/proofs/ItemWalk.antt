@@ -10,6 +10,7 @@ use Rattle.dt_proc.specs.Names.{Scope}
 use Rattle.dt_proc.specs.SecondPass.{Checked, after_ok, check, key_of, needs_stored, check_item, check_items, check_all_items}
 use Rattle.dt_syntax.specs.Grammar.{front_place, at, Bracketed, bracketed_tokens, Syntax, syntax_tokens, IsLevel, Item, row_item, value_item, item_tokens, IsItem}
 use Rattle.dt_proc.specs.WalkInner.{WalkAnswers}
+use Rattle.dt_proc.proofs.ExprWalk.{one_more}
 use Rattle.dt_syntax.proofs.Callers.{AreItems, front_token, next_item}
 use Rattle.dt_lists.proofs.Callers.{same_head, same_tail}
 
@@ -43,12 +44,6 @@ ItemsLeft scope told gifts left e rest =
 pub items_start : (scope : Scope) (i : Item) (more : List (ℕ × Item)) (g : GiveTree) (gifts : List GiveTree) → check_item scope i ≡ Ok g → gifts ≡ g ∷ [] →
     check_all_items scope i more ≡ after_ok (check_items scope more) (λ gs. Ok (gifts ++ gs))
 items_start scope i more g gifts told is = rw (told, is) refl
-
--- one item more
-one_more : (told : Checked (List GiveTree)) (gifts : List GiveTree) (g : GiveTree) →
-    after_ok (after_ok told (λ gs. Ok (g ∷ gs))) (λ gs. Ok (gifts ++ gs)) ≡ after_ok told (λ gs. Ok ((gifts ++ g ∷ []) ++ gs))
-one_more (Ok gs) gifts g = ap Ok (sym (append_assoc gifts (g ∷ []) gs))
-one_more (Err e) gifts g = refl
 
 pub record IsNextItem (scope : Scope) (told : Checked (List GiveTree)) (gifts : List GiveTree) (after : List Placed) (e : ℕ) (rest : List Placed) : Type 0 where
   pub item : Item

@@ -1,8 +1,9 @@
 -- That the keys and parameters which the second pass makes fit.
-use Rattle.std.proofs.Common.{◌≡◌, ℕ, zero, suc, Bool, List, [], ◌∷◌, ◌++◌, map, length, slice_get, append_assoc, append-nil, Option, Some, Ok, Err, refl, sym, ap, ◌∙◌, subst}
+use Rattle.std.proofs.Common.{◌≡◌, ℕ, zero, suc, Bool, List, [], ◌∷◌, ◌++◌, map, length, slice_get, append_assoc, append-nil, Some, Ok, Err, refl, sym, ap, ◌∙◌, subst}
 use Rattle.std.specs.List.{flat_map}
 use Rattle.std.proofs.lemmas.List.{map-append}
 use Rattle.dt_lists.specs.Lists.{AllIn}
+use Rattle.dt_lists.proofs.Callers.{some_same}
 use Rattle.dt_syntax.specs.declared.kinds.Kind.{Kind}
 use Rattle.dt_syntax.specs.declared.kinds.Kind.TheVariants as kind
 use Rattle.dt_proc.specs.declared.tree.Sort.{Sort}
@@ -36,12 +37,9 @@ int_kind : (k : Kind) → sort_of k ≡ sort.Int → k ≡ kind.Int
 int_kind kind.Int e = refl
 int_kind kind.Text e = absurd cc
 
-some_is : {A : Type 0} (a b : A) → ◌≡◌ {A = Option A} (Some a) (Some b) → a ≡ b
-some_is a b e = cc
-
 param_at : (kinds : List Kind) (n : ℕ) (s : Sort) (k : Kind) → ((j : Kind) → sort_of j ≡ s → j ≡ k) → slice_get (map sort_of kinds) n ≡ Some s → slice_get kinds n ≡ Some k
 param_at [] n s k only e = absurd cc
-param_at (j ∷ kinds) zero s k only e = ap Some (only j (some_is (sort_of j) s e))
+param_at (j ∷ kinds) zero s k only e = ap Some (only j (some_same {x = sort_of j} {y = s} e))
 param_at (j ∷ kinds) (suc n) s k only e = param_at kinds n s k only e
 
 param_fits : (kinds : List Kind) (scope : Scope) (p : ℕ) (s : Sort) (k : Kind) (m : Meaning) → HasParams kinds scope → ((j : Kind) → sort_of j ≡ s → j ≡ k) → StandsInScope scope m →

@@ -10,6 +10,7 @@ pub mod HeadWalk
 pub mod ItemWalk
 pub mod KeySorts
 pub mod OneOutcome
+pub mod ProcNames
 pub mod ProcWalk
 pub mod ProcsWalk
 pub mod Rooms

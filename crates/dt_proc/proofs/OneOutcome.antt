@@ -1,5 +1,5 @@
 -- A text has one outcome.
-use Rattle.std.proofs.Common.{◌≡◌, ℕ, List, [], ◌∷◌, Ok, Err, sym, ap, ◌∙◌, subst, append-nil}
+use Rattle.std.proofs.Common.{◌≡◌, ℕ, List, [], ◌∷◌, Err, sym, ap, ◌∙◌, subst, append-nil}
 use Rattle.dt_proc.specs.declared.error.ProcError.TheVariants as fault
 use Rattle.dt_proc.specs.Tree.{ProcTree}
 use Rattle.dt_syntax.specs.Grammar.{InGrammar}
@@ -30,40 +30,24 @@ unfolding stop_of
 stopped text (Err (fault.Syntax p)) h = record { before = h.before; after = h.after; well = h.well; stops = h.told }
 stopped text (Err (fault.TooMany p)) h = record { before = h.before; after = h.token ∷ h.after; well = h.well; stops = (h.goes_on, h.too_many, h.stands) }
 stopped text (Err fault.NoMemory) h = absurd h
-stopped text (Err (fault.Twice p)) h = read_whole text (Err (fault.Twice p)) h
-stopped text (Err (fault.Unknown p)) h = read_whole text (Err (fault.Unknown p)) h
-stopped text (Err (fault.Kind p)) h = read_whole text (Err (fault.Kind p)) h
-stopped text (Ok procs) h = read_whole text (Ok procs) h
+stopped text r h = read_whole text r h
 
 is_wrong : (p : ℕ) (s : Checked (List ProcTree)) → wrong p ≡ stop_of s → Err (fault.Syntax p) ≡ s
 unfolding stop_of
 is_wrong p (Err (fault.Syntax q)) e = ap (λ n. Err (fault.Syntax n)) (same_wrong p q e)
-is_wrong p (Err (fault.TooMany q)) e = absurd cc
-is_wrong p (Err fault.NoMemory) e = absurd cc
-is_wrong p (Err (fault.Twice q)) e = absurd cc
-is_wrong p (Err (fault.Unknown q)) e = absurd cc
-is_wrong p (Err (fault.Kind q)) e = absurd cc
-is_wrong p (Ok procs) e = absurd cc
+is_wrong p s e = absurd cc
 
 is_many : (p : ℕ) (s : Checked (List ProcTree)) → many p ≡ stop_of s → Err (fault.TooMany p) ≡ s
 unfolding stop_of
-is_many p (Err (fault.Syntax q)) e = absurd cc
 is_many p (Err (fault.TooMany q)) e = ap (λ n. Err (fault.TooMany n)) (same_many p q e)
-is_many p (Err fault.NoMemory) e = absurd cc
-is_many p (Err (fault.Twice q)) e = absurd cc
-is_many p (Err (fault.Unknown q)) e = absurd cc
-is_many p (Err (fault.Kind q)) e = absurd cc
-is_many p (Ok procs) e = absurd cc
+is_many p s e = absurd cc
 
 is_told : (text : List ℕ) (s : Checked (List ProcTree)) → end ≡ stop_of s → Outcome text s → SecondTells text s
 unfolding stop_of
 is_told text (Err (fault.Syntax q)) e k = absurd cc
 is_told text (Err (fault.TooMany q)) e k = absurd cc
 is_told text (Err fault.NoMemory) e k = absurd k
-is_told text (Err (fault.Twice q)) e k = k
-is_told text (Err (fault.Unknown q)) e k = k
-is_told text (Err (fault.Kind q)) e k = k
-is_told text (Ok procs) e k = k
+is_told text s e k = k
 
 one_telling : (text : List ℕ) (r s : Checked (List ProcTree)) → SecondTells text r → SecondTells text s → r ≡ s
 one_telling text r s h k =
@@ -76,10 +60,7 @@ unfolding stop_of
 told_one text (Err (fault.Syntax p)) s h k e = is_wrong p s e
 told_one text (Err (fault.TooMany p)) s h k e = is_many p s e
 told_one text (Err fault.NoMemory) s h k e = absurd h
-told_one text (Err (fault.Twice p)) s h k e = one_telling text (Err (fault.Twice p)) s h (is_told text s e k)
-told_one text (Err (fault.Unknown p)) s h k e = one_telling text (Err (fault.Unknown p)) s h (is_told text s e k)
-told_one text (Err (fault.Kind p)) s h k e = one_telling text (Err (fault.Kind p)) s h (is_told text s e k)
-told_one text (Ok procs) s h k e = one_telling text (Ok procs) s h (is_told text s e k)
+told_one text r s h k e = one_telling text r s h (is_told text s e k)
 
 -- a text has one outcome
 pub one_outcome : (text : List ℕ) (r s : Checked (List ProcTree)) → Outcome text r → Outcome text s → r ≡ s

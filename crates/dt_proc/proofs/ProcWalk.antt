@@ -1,8 +1,6 @@
 -- A procedure, as the walk over it finds it.
-use Rattle.std.proofs.Common.{◌≡◌, inl, inr, ℕ, ◌≤◌, Bool, true, false, cond, List, [], ◌∷◌, ◌++◌, map, length, append_assoc, Ok, Err, refl, sym, ap, ◌∙◌, subst, arith}
-use Rattle.std.proofs.Common.{nat_eq}
-use Rattle.std.specs.List.{flat_map, list_any}
-use Rattle.std.specs.Cmp.Lexicographic.{pointwise}
+use Rattle.std.proofs.Common.{◌≡◌, inl, inr, ℕ, ◌≤◌, Bool, true, cond, List, [], ◌∷◌, ◌++◌, map, length, append_assoc, Ok, Err, refl, sym, ap, ◌∙◌, subst, arith}
+use Rattle.std.specs.List.{flat_map}
 use Rattle.dt_text.specs.Texts.{IsName}
 use Rattle.dt_syntax.specs.declared.kinds.Kind.{Kind}
 use Rattle.dt_proc.specs.declared.tree.KeyDecl.{KeyDecl}
@@ -19,6 +17,7 @@ use Rattle.dt_proc.specs.WalkInner.{WalkAnswers, params_told, keys_told}
 use Rattle.dt_syntax.specs.Limits.{AllSound, IsSmall}
 use Rattle.dt_proc.proofs.ExprSorts.{holds_ok, holds_after, sorts, writes}
 use Rattle.dt_syntax.proofs.Callers.{proc_cut, sound_left, sound_right}
+use Rattle.dt_proc.proofs.ProcNames.{Free, is_named}
 use Rattle.dt_proc.proofs.KeySorts.{HasParams, KeysMade, keys_make, ParamsMade, params_make}
 use Rattle.dt_proc.proofs.StatementSorts.{block_fits}
 
@@ -28,38 +27,33 @@ walked_proc p =
     after_ok {A = Scope × List Kind} (params_told p.params) (λ s. after_ok {A = Scope × List KeyDecl} (keys_told s.0 [] (p.key ∷ p.more_keys))
     (λ r. after_ok {A = BlockTree} (check_block r.0 p.body) (λ b. Ok (record { name = p.name; params = s.1; keys = r.1; body = b }))))
 
-kinds_with : {B : Type 0} (t : Checked Scope) (kinds : List Kind) (next : Scope × List Kind → Checked B) →
-    after_ok {A = Scope} {B = B} t (λ s. next (s, kinds)) ≡ after_ok {A = Scope × List Kind} {B = B} (after_ok {A = Scope} {B = Scope × List Kind} t (λ s. Ok (s, kinds))) next
-kinds_with (Ok s) kinds next = refl
-kinds_with (Err e) kinds next = refl
-
-keys_with : {B : Type 0} (t : Checked (List KeyDecl × Scope)) (next : Scope × List KeyDecl → Checked B) →
-    after_ok {A = List KeyDecl × Scope} {B = B} t (λ r. next (r.1, r.0))
-    ≡ after_ok {A = Scope × List KeyDecl} {B = B} (after_ok {A = List KeyDecl × Scope} {B = Scope × List KeyDecl} t (λ r. Ok (r.1, r.0))) next
-keys_with (Ok s) next = refl
-keys_with (Err e) next = refl
+-- what is reported in another form, before what goes on with it
+after_made : {A B C : Type 0} (t : Checked A) (form : A → B) (next : B → Checked C) →
+    after_ok {A = A} {B = C} t (λ a. next (form a)) ≡ after_ok {A = B} {B = C} (after_ok {A = A} {B = B} t (λ a. Ok (form a))) next
+after_made (Ok a) form next = refl
+after_made (Err e) form next = refl
 
 after_same : {A B : Type 0} (t : Checked A) (f g : A → Checked B) → ((a : A) → f a ≡ g a) → after_ok t f ≡ after_ok t g
 after_same (Ok a) f g h = h a
 after_same (Err e) f g h = refl
 
-pub proc_is : (before : List ProcTree) (p : ProcSyntax) → list_any (λ (q : ProcTree). pointwise nat_eq q.name p.name) before ≡ false → check_proc before p ≡ walked_proc p
+pub proc_is : (before : List ProcTree) (p : ProcSyntax) → Free before p → check_proc before p ≡ walked_proc p
 proc_is before p free =
     let made : Scope → Scope × List KeyDecl → Checked ProcTree =
     λ s r. after_ok {A = BlockTree} (check_block r.0 p.body) (λ b. Ok (record { name = p.name; params = param_kinds p.params; keys = r.1; body = b })) in
     let keys = p.key ∷ p.more_keys in
     ap (λ t. cond t (Err (fault.Twice p.name_at)) (after_ok {A = Scope} (check_params p.params) (λ s. after_ok {A = List KeyDecl × Scope} (check_keys s keys) (λ r. made s (r.1, r.0))))) free
     ∙ after_same (check_params p.params) (λ s. after_ok {A = List KeyDecl × Scope} (check_keys s keys) (λ r. made s (r.1, r.0)))
-    (λ s. after_ok {A = Scope × List KeyDecl} (keys_told s [] keys) (made s)) (λ s. keys_with (check_keys s keys) (made s))
-    ∙ kinds_with (check_params p.params) (param_kinds p.params)
+    (λ s. after_ok {A = Scope × List KeyDecl} (keys_told s [] keys) (made s)) (λ s. after_made {A = List KeyDecl × Scope} {B = Scope × List KeyDecl} (check_keys s keys) (λ r. (r.1, r.0)) (made s))
+    ∙ after_made {A = Scope} {B = Scope × List Kind} (check_params p.params) (λ s. (s, param_kinds p.params))
     (λ s. after_ok {A = Scope × List KeyDecl} (keys_told s.0 [] keys) (λ r. after_ok {A = BlockTree} (check_block r.0 p.body) (λ b. Ok (record { name = p.name; params = s.1; keys = r.1; body = b }))))
 
-pub proc_twice : (before : List ProcTree) (p : ProcSyntax) (name : List ℕ) (place : ℕ) → list_any (λ (q : ProcTree). pointwise nat_eq q.name name) before ≡ true →
+pub proc_twice : (before : List ProcTree) (p : ProcSyntax) (name : List ℕ) (place : ℕ) → is_named before name ≡ true →
     name ≡ p.name → place ≡ p.name_at → check_proc before p ≡ Err (fault.Twice place)
 proc_twice before p name place taken is at_place =
     ap (λ t. cond t (Err (fault.Twice p.name_at)) (after_ok {A = Scope} (check_params p.params) (λ s. after_ok {A = List KeyDecl × Scope} (check_keys s (p.key ∷ p.more_keys))
     (λ r. after_ok {A = BlockTree} (check_block r.1 p.body) (λ b. Ok (record { name = p.name; params = param_kinds p.params; keys = r.0; body = b }))))))
-    (ap (λ n. list_any (λ (q : ProcTree). pointwise nat_eq q.name n) before) (sym is) ∙ taken)
+    (ap (is_named before) (sym is) ∙ taken)
     ∙ ap (λ n. Err (fault.Twice n)) (sym at_place)
 
 -- the parameters that are reported
@@ -114,9 +108,6 @@ after_params p s =
 
 after_keys : ProcSyntax → List Kind → Scope × List KeyDecl → Checked ProcTree
 after_keys p kinds r = after_ok {A = BlockTree} (check_block r.0 p.body) (λ b. Ok (record { name = p.name; params = kinds; keys = r.1; body = b }))
-
-abbrev pub Free : List ProcTree → ProcSyntax → Type 0
-Free before p = list_any (λ (q : ProcTree). pointwise nat_eq q.name p.name) before ≡ false
 
 told_after_params : (before : List ProcTree) (p : ProcSyntax) (s : Scope × List Kind) → Free before p → params_told p.params ≡ Ok s → check_proc before p ≡ after_params p s
 unfolding after_params
@@ -177,15 +168,15 @@ IsNamed ts place name after =
     (p : ℕ) (n : List ℕ) (rest : List Placed) → at p (tok.Name n) ∷ rest ≡ ts → (place ≡ p) × (name ≡ n) × (after ≡ rest)
 
 -- the name of a procedure, and what follows it, after the word
-pub name_read : (p : ProcSyntax) (rest ts one : List Placed) (place : ℕ) (name : List ℕ) (named : List Placed) → proc_tokens p ++ rest ≡ ts →
+pub name_read : {ts one named : List Placed} {place : ℕ} {name : List ℕ} (p : ProcSyntax) (rest : List Placed) → proc_tokens p ++ rest ≡ ts →
     FollowsFirst ts one → IsNamed one place name named → (place ≡ p.name_at) × (name ≡ p.name) × (named ≡ at p.open_at tok.Open ∷ params_left p rest)
-name_read p rest ts one place name named e follows is =
+name_read {ts} p rest e follows is =
     is p.name_at p.name (at p.open_at tok.Open ∷ params_left p rest)
     (sym (follows (at p.word_at tok.Proc) (at p.name_at (tok.Name p.name) ∷ at p.open_at tok.Open ∷ params_left p rest) (proc_cut p rest ts e)))
 
 -- the same, with the `(`
-pub head_read : (p : ProcSyntax) (rest ts one : List Placed) (place : ℕ) (name : List ℕ) (named opened : List Placed) → proc_tokens p ++ rest ≡ ts →
+pub head_read : {ts one named opened : List Placed} {place : ℕ} {name : List ℕ} (p : ProcSyntax) (rest : List Placed) → proc_tokens p ++ rest ≡ ts →
     FollowsFirst ts one → IsNamed one place name named → FollowsFirst named opened → (place ≡ p.name_at) × (name ≡ p.name) × (params_left p rest ≡ opened)
-head_read p rest ts one place name named opened e follows is after =
-    let n = name_read p rest ts one place name named e follows is in
+head_read p rest e follows is after =
+    let n = name_read p rest e follows is in
     (n.0, n.1, sym (after (at p.open_at tok.Open) (params_left p rest) (sym n.2)))

@@ -1,59 +1,27 @@
 -- Procedures, one after another, as the walk over them finds them.
-use Rattle.std.proofs.Common.{◌≡◌, ◌⊎◌, inl, inr, ℕ, ◌+◌, ◌≤◌, Bool, true, false, ◌||◌, ◌==◌, List, [], ◌∷◌, ◌++◌, map, length, append_assoc, append-nil, Ok}
-use Rattle.std.proofs.Common.{Err, refl, sym, ap, ◌∙◌, subst, arith, nat_eq}
-use Rattle.std.specs.List.{list_any}
-use Rattle.std.specs.Cmp.Lexicographic.{pointwise, bytes_decides}
-use Rattle.std.proofs.lemmas.List.{length-append, map-append}
-use Rattle.dt_lists.specs.Lists.{AllIn, Has, Distinct}
-use Rattle.dt_lists.proofs.Callers.{all_more, distinct_push}
+use Rattle.std.proofs.Common.{◌≡◌, ◌⊎◌, inl, inr, ℕ, ◌+◌, ◌≤◌, true, false, ◌==◌, List, [], ◌∷◌, ◌++◌, length, append-nil, Ok}
+use Rattle.std.proofs.Common.{Err, refl, sym, ap, ◌∙◌, subst, arith}
+use Rattle.std.proofs.lemmas.List.{length-append}
+use Rattle.dt_lists.specs.Lists.{AllIn, Distinct}
+use Rattle.dt_lists.proofs.Callers.{all_more}
 use Rattle.dt_syntax.specs.declared.token.Placed.{Placed}
 use Rattle.dt_proc.specs.declared.error.ProcError.{ProcError}
 use Rattle.dt_proc.specs.declared.error.ProcError.TheVariants as fault
-use Rattle.dt_proc.specs.declared.tree.KeyDecl.{KeyDecl}
-use Rattle.dt_proc.specs.Names.{Scope}
 use Rattle.dt_proc.specs.Tree.{ProcTree}
 use Rattle.dt_proc.specs.Sound.{IsSoundProc}
-use Rattle.dt_proc.specs.SecondPass.{Checked, after_ok, check_params, check_keys, check_block, check_proc, check_procs}
-use Rattle.dt_syntax.specs.Grammar.{param_kinds, ProcSyntax, proc_tokens, procs_tokens, IsProc, AreProcSyntaxes}
+use Rattle.dt_proc.specs.SecondPass.{Checked, after_ok, check_proc, check_procs}
+use Rattle.dt_syntax.specs.Grammar.{ProcSyntax, proc_tokens, procs_tokens, IsProc, AreProcSyntaxes}
 use Rattle.dt_proc.specs.WalkInner.{WalkAnswers, PassGives, StartsProc, AreFewProcs}
 use Rattle.dt_syntax.specs.Limits.{AllSound, IsSmall}
 use Rattle.std.proofs.lemmas.Bool.Decides.{nat_tests}
 use Rattle.dt_syntax.specs.FirstPass.{PassesFirst, NoneTooMany, FirstFault}
 use Rattle.dt_syntax.specs.declared.error.SyntaxError.{SyntaxError}
 use Rattle.dt_syntax.specs.declared.error.SyntaxError.TheVariants as syntax
-use Rattle.dt_proc.specs.Outcome.{Outcome, SecondTells, told_first}
-use Rattle.dt_proc.proofs.ExprSorts.{Holds, holds_ok, holds_after, holds_cond}
+use Rattle.dt_proc.specs.Outcome.{Outcome, told_first}
+use Rattle.dt_proc.proofs.EveryOutcome.{second}
+use Rattle.dt_proc.proofs.ExprWalk.{one_more}
 use Rattle.dt_syntax.proofs.Callers.{sound_left, sound_right, text_sound, procs_small}
-use Rattle.dt_proc.proofs.ProcWalk.{Free}
-use Rattle.dt_proc.proofs.Faults.{IsLate, late_procs}
-
--- a procedure that is reported has a new name, the one that is spelled
-abbrev IsNew : List ProcTree → ProcSyntax → ProcTree → Type 0
-IsNew before p q = Free before p × (q.name ≡ p.name)
-
-proc_new : (before : List ProcTree) (p : ProcSyntax) → Holds (IsNew before p) (check_proc before p)
-proc_new before p =
-    holds_cond (IsNew before p) (list_any (λ (q : ProcTree). pointwise nat_eq q.name p.name) before) (Err (fault.Twice p.name_at)) _ (λ e a is. absurd cc)
-    (λ e. holds_after (IsNew before p) (check_params p.params) _
-    (λ s _. holds_after {A = List KeyDecl × Scope} (IsNew before p) (check_keys s (p.key ∷ p.more_keys)) _
-    (λ r _. holds_after (IsNew before p) (check_block r.1 p.body) _
-    (λ b _. holds_ok (IsNew before p) (record { name = p.name; params = param_kinds p.params; keys = r.0; body = b }) (e, refl)))))
-
-names : List ProcTree → List (List ℕ)
-names procs = map (λ (p : ProcTree). p.name) procs
-
-not_named : (before : List ProcTree) (n : List ℕ) → list_any (λ (q : ProcTree). pointwise nat_eq q.name n) before ≡ false → ¬ (Has (names before) n)
-unfolding names
-not_named [] n free h = h
-not_named (q ∷ before) n free (inl e) = split (pointwise nat_eq q.name n) ((bytes_decides q.name n).1 e) free
-  where
-    split : (b : Bool) → b ≡ true → (b || list_any (λ (q : ProcTree). pointwise nat_eq q.name n) before) ≡ false → ⊥
-    split b t f = cc
-not_named (q ∷ before) n free (inr h) = not_named before n (rest (pointwise nat_eq q.name n) free) h
-  where
-    rest : (b : Bool) → (b || list_any (λ (q : ProcTree). pointwise nat_eq q.name n) before) ≡ false → list_any (λ (q : ProcTree). pointwise nat_eq q.name n) before ≡ false
-    rest true f = absurd cc
-    rest false f = f
+use Rattle.dt_proc.proofs.ProcNames.{distinct_more, names}
 
 -- what is left of the procedures: few enough, and each of the grammar
 pub record Left (made : ℕ) (ts : List Placed) : Type 0 where
@@ -72,7 +40,7 @@ ToldSoFar tokens items rest =
 
 pub record Going (tokens : List Placed) (items : List ProcTree) (rest : List Placed) : Type 0 where
   pub sound : AllIn IsSoundProc items
-  pub distinct : Distinct (map (λ p. p.name) items)
+  pub distinct : Distinct (names items)
   pub left : Left (length items) rest
   pub told : ToldSoFar tokens items rest
 
@@ -107,11 +75,6 @@ next_left before item ts after some l right = first l.all l.good l.small l.few l
           cut = sym told.1;
         }
 
-one_more : (t : Checked (List ProcTree)) (before : List ProcTree) (item : ProcTree) →
-    after_ok (after_ok t (λ qs. Ok (item ∷ qs))) (λ r. Ok (before ++ r)) ≡ after_ok t (λ r. Ok ((before ++ item ∷ []) ++ r))
-one_more (Ok qs) before item = ap Ok (sym (append_assoc before (item ∷ []) qs))
-one_more (Err e) before item = refl
-
 next_told : (tokens : List Placed) (before : List ProcTree) (item : ProcTree) (ts after : List Placed) → ¬ (ts ≡ []) → ToldSoFar tokens before ts → Right before ts (Ok (item, after)) →
     ToldSoFar tokens (before ++ item ∷ []) after
 next_told tokens before item ts after some so right ps good cut = first (so ps good cut).0 (so ps good cut).1 (so ps good cut).2 (so ps good cut).3
@@ -128,17 +91,13 @@ next_told tokens before item ts after some so right ps good cut = first (so ps g
               ∙ one_more (check_procs (before ++ item ∷ []) qs) before item,
         )
 
-next_distinct : (before : List ProcTree) (item : ProcTree) (ts after : List Placed) → ¬ (ts ≡ []) → Left (length before) ts → Distinct (map (λ p. p.name) before) →
-    Right before ts (Ok (item, after)) → Distinct (map (λ p. p.name) (before ++ item ∷ []))
-unfolding names
+next_distinct : (before : List ProcTree) (item : ProcTree) (ts after : List Placed) → ¬ (ts ≡ []) → Left (length before) ts → Distinct (names before) →
+    Right before ts (Ok (item, after)) → Distinct (names (before ++ item ∷ []))
 next_distinct before item ts after some l d right = first l.all l.good l.cut
   where
-    first : (all : List ProcSyntax) → AreProcSyntaxes all → procs_tokens all ≡ ts → Distinct (map (λ p. p.name) (before ++ item ∷ []))
+    first : (all : List ProcSyntax) → AreProcSyntaxes all → procs_tokens all ≡ ts → Distinct (names (before ++ item ∷ []))
     first [] good cut = absurd (some (sym cut))
-    first (p ∷ ps) good cut =
-        let new = proc_new before p item (right p (procs_tokens ps) good.0 cut).0 in
-        let other : ¬ (Has (names before) item.name) = subst (λ n. ¬ (Has (names before) n)) (sym new.1) (not_named before p.name new.0) in
-        subst Distinct (sym (map-append (λ (p : ProcTree). p.name) before (item ∷ []))) (distinct_push (names before) item.name d other)
+    first (p ∷ ps) good cut = distinct_more before p item (right p (procs_tokens ps) good.0 cut).0 d
 
 pub going_next : (tokens : List Placed) (before : List ProcTree) (item : ProcTree) (ts after : List Placed) → ¬ (ts ≡ []) → Going tokens before ts → IsSoundProc item →
     Right before ts (Ok (item, after)) → Going tokens (before ++ item ∷ []) after
@@ -189,38 +148,14 @@ passed_few text tokens h =
       cut = h.grammar.2;
     }
 
-tells : (text : List ℕ) (tokens : List Placed) (told : Checked (List ProcTree)) → PassesFirst text tokens → ((ps : List ProcSyntax) → AreProcSyntaxes ps → procs_tokens ps ≡ tokens → check_procs [] ps ≡ told) →
-    SecondTells text told
-tells text tokens told h is = record {
-  tokens = tokens;
-  passes = h;
-  spelled = h.grammar.0;
-  grammar = h.grammar.1;
-  spells = h.grammar.2;
-  tells = is h.grammar.0 h.grammar.1 h.grammar.2;
-}
-
-second_outcome : (text : List ℕ) (e : ProcError) → IsLate e → SecondTells text (Err e) → Outcome text (Err e)
-second_outcome text (fault.Twice p) h s = s
-second_outcome text (fault.Unknown p) h s = s
-second_outcome text (fault.Kind p) h s = s
-second_outcome text (fault.Syntax p) h s = absurd h
-second_outcome text (fault.TooMany p) h s = absurd h
-second_outcome text fault.NoMemory h s = absurd h
-
 abbrev pub GivesAll : List Placed → Checked (List ProcTree) → Type 0
 GivesAll tokens r = (ps : List ProcSyntax) → AreProcSyntaxes ps → procs_tokens ps ≡ tokens → PassGives (check_procs [] ps) r
 
 -- what the second pass gives is the outcome of a text that the first pass lets through
 pub outcome_second : (text : List ℕ) (tokens : List Placed) (r : Checked (List ProcTree)) → PassesFirst text tokens → GivesAll tokens r → (r ≡ Err fault.NoMemory) ⊎ Outcome text r
-outcome_second text tokens (Ok procs) h g = inr (tells text tokens (Ok procs) h g)
-outcome_second text tokens (Err e) h g = chosen (g h.grammar.0 h.grammar.1 h.grammar.2)
-  where
-    chosen : (e ≡ fault.NoMemory) ⊎ (check_procs [] h.grammar.0 ≡ Err e) → (◌≡◌ {A = Checked (List ProcTree)} (Err e) (Err fault.NoMemory)) ⊎ Outcome text (Err e)
-    chosen (inl m) = inl (ap Err m)
-    chosen (inr is) =
-        inr (second_outcome text e (late_procs [] h.grammar.0 e is)
-        (record { tokens = tokens; passes = h; spelled = h.grammar.0; grammar = h.grammar.1; spells = h.grammar.2; tells = is }))
+outcome_second text tokens (Ok procs) h g = inr (second text tokens h (Ok procs) (g h.grammar.0 h.grammar.1 h.grammar.2))
+outcome_second text tokens (Err e) h g =
+    elim (g h.grammar.0 h.grammar.1 h.grammar.2) [ inl m ↦ inl (ap Err m) | inr is ↦ inr (second text tokens h (Err e) is) ]
 
 pub some_left : (ts : List Placed) → false ≡ (length ts == 0) → ¬ (ts ≡ [])
 some_left [] e = absurd cc

@@ -1,18 +1,17 @@
 -- The procedures that a text means are sound, and so are the built-in ones.
-use Rattle.std.proofs.Common.{◌≡◌, inl, inr, ℕ, suc, ◌≤◌, Bool, true, false, ◌||◌, ◌&&◌, not, List, [], ◌∷◌, ◌++◌, map, length, append_assoc, append-nil, Ok}
-use Rattle.std.proofs.Common.{Err, refl, sym, ap, ◌∙◌, subst, arith, nat_eq}
-use Rattle.std.specs.List.{list_any, list_all}
+use Rattle.std.proofs.Common.{◌≡◌, inl, inr, ℕ, suc, ◌≤◌, Bool, true, false, ◌&&◌, not, nat_le, nat_lt, List, [], ◌∷◌, ◌++◌, map, length, append_assoc, append-nil, Ok}
+use Rattle.std.proofs.Common.{Err, refl, sym, ap, ◌∙◌, subst, arith, nat_eq, ltb-true, leb-true}
+use Rattle.std.specs.List.{list_all}
 use Rattle.std.specs.Cmp.Lexicographic.{pointwise, bytes_decides}
 use Rattle.std.proofs.lemmas.Bool.{and_parts, false≢true}
-use Rattle.std.proofs.lemmas.List.{map-append}
-use Rattle.dt_lists.specs.Lists.{AllIn, Has, Distinct}
-use Rattle.dt_lists.proofs.Callers.{distinct_push}
+use Rattle.dt_lists.specs.Lists.{AllIn, Distinct}
+use Rattle.dt_text.specs.Texts.{is_name_byte}
 use Rattle.dt_proc.specs.declared.error.ProcError.TheVariants as fault
 use Rattle.dt_proc.specs.declared.tree.KeyDecl.{KeyDecl}
 use Rattle.dt_proc.specs.declared.tree.Sort.TheVariants as sort
 use Rattle.dt_proc.specs.Names.{Scope}
 use Rattle.dt_proc.specs.Tree.{ProcTree}
-use Rattle.dt_proc.specs.Sound.{IsSoundProc, AreProcs}
+use Rattle.dt_proc.specs.Sound.{IsSoundProc, IsSoundItem, AreSound, AreProcs, sort_of}
 use Rattle.dt_proc.specs.Builtin.{put, note, get, del, add, div, sum, xfer, builtin_procs}
 use Rattle.dt_proc.specs.SecondPass.{after_ok, check_params, check_keys, check_block, check_proc, check_procs}
 use Rattle.dt_syntax.specs.Grammar.{param_kinds, ProcSyntax, proc_tokens, procs_tokens}
@@ -21,43 +20,20 @@ use Rattle.dt_syntax.specs.FirstPass.{NoneTooMany}
 use Rattle.dt_proc.specs.Outcome.{Outcome}
 use Rattle.dt_proc.proofs.ExprSorts.{Holds, holds_ok, holds_after, holds_cond}
 use Rattle.dt_syntax.proofs.Callers.{sound_left, sound_right, text_sound, procs_small}
+use Rattle.dt_proc.proofs.ProcNames.{distinct_more, is_named, names}
 use Rattle.dt_proc.proofs.ProcWalk.{proc_sound}
 
-abbrev is_named : List ProcTree → List ℕ → Bool
-is_named procs name = list_any (λ (q : ProcTree). pointwise nat_eq q.name name) procs
-
-abbrev names : List ProcTree → List (List ℕ)
-names procs = map (λ (p : ProcTree). p.name) procs
-
--- a procedure that is reported fits, and its name is new
-abbrev IsNext : List ProcTree → ProcTree → Type 0
-IsNext before q = IsSoundProc q × (is_named before q.name ≡ false)
-
-next_fits : (before : List ProcTree) (p : ProcSyntax) → AllSound (proc_tokens p) → IsSmall p → Holds (IsNext before) (check_proc before p)
+next_fits : (before : List ProcTree) (p : ProcSyntax) → AllSound (proc_tokens p) → IsSmall p → Holds IsSoundProc (check_proc before p)
 next_fits before p sound small =
-    holds_cond (IsNext before) (is_named before p.name) (Err (fault.Twice p.name_at)) _ (λ e q is. absurd cc)
-    (λ free. holds_after (IsNext before) (check_params p.params) _
-    (λ s params. holds_after {A = List KeyDecl × Scope} (IsNext before) (check_keys s (p.key ∷ p.more_keys)) _
-    (λ r keys. holds_after (IsNext before) (check_block r.1 p.body) _
-    (λ b body. holds_ok (IsNext before) (record { name = p.name; params = param_kinds p.params; keys = r.0; body = b }) (
-      proc_sound p p.name s r.1 (param_kinds p.params) r.0 b sound small sound.1.0
-          (ap (λ t. after_ok {A = Scope} t (λ s. Ok (s, param_kinds p.params))) params)
-          (ap (λ t. after_ok {A = List KeyDecl × Scope} t (λ r. Ok (r.1, [] ++ r.0))) keys)
-          body,
-      free,
-    )))))
-
-named_within : (procs : List ProcTree) (name : List ℕ) → Has (names procs) name → is_named procs name ≡ true
-named_within [] name h = absurd h
-named_within (q ∷ procs) name (inl e) = left (pointwise nat_eq q.name name) ((bytes_decides q.name name).1 e)
-  where
-    left : (b : Bool) → b ≡ true → (b || is_named procs name) ≡ true
-    left b e = cc
-named_within (q ∷ procs) name (inr h) = right (pointwise nat_eq q.name name) (named_within procs name h)
-  where
-    right : (b : Bool) → is_named procs name ≡ true → (b || is_named procs name) ≡ true
-    right true e = refl
-    right false e = e
+    holds_cond IsSoundProc (is_named before p.name) (Err (fault.Twice p.name_at)) _ (λ e q is. absurd cc)
+    (λ free. holds_after IsSoundProc (check_params p.params) _
+    (λ s params. holds_after {A = List KeyDecl × Scope} IsSoundProc (check_keys s (p.key ∷ p.more_keys)) _
+    (λ r keys. holds_after IsSoundProc (check_block r.1 p.body) _
+    (λ b body. holds_ok IsSoundProc (record { name = p.name; params = param_kinds p.params; keys = r.0; body = b })
+    (proc_sound p p.name s r.1 (param_kinds p.params) r.0 b sound small sound.1.0
+    (ap (λ t. after_ok {A = Scope} t (λ s. Ok (s, param_kinds p.params))) params)
+    (ap (λ t. after_ok {A = List KeyDecl × Scope} t (λ r. Ok (r.1, [] ++ r.0))) keys)
+    body)))))
 
 -- procedures that are reported after others are as many as are spelled, and fit, and their names are new
 abbrev AreNext : List ProcTree → List ProcSyntax → List ProcTree → Type 0
@@ -70,12 +46,10 @@ all_fit before [] small sound distinct =
 all_fit before (p ∷ ps) small sound distinct =
     holds_after (AreNext before (p ∷ ps)) (check_proc before p) _ (λ q told.
     let one = next_fits before p (sound_left (proc_tokens p) (procs_tokens ps) sound) small.0 q told in
-    let new : ¬ (Has (names before) q.name) = λ h. false≢true (sym one.1 ∙ named_within before q.name h) in
-    let longer : Distinct (names (before ++ q ∷ [])) = subst Distinct (sym (map-append (λ (p : ProcTree). p.name) before (q ∷ []))) (distinct_push (names before) q.name distinct new) in
     holds_after (AreNext before (p ∷ ps)) (check_procs (before ++ q ∷ []) ps) _ (λ qs rest.
-    let more = all_fit (before ++ q ∷ []) ps small.1 (sound_right (proc_tokens p) (procs_tokens ps) sound) longer qs rest in
+    let more = all_fit (before ++ q ∷ []) ps small.1 (sound_right (proc_tokens p) (procs_tokens ps) sound) (distinct_more before p q told distinct) qs rest in
     holds_ok (AreNext before (p ∷ ps)) (q ∷ qs)
-    (ap suc more.0, (one.0, more.1), subst (λ v. Distinct (names v)) (append_assoc before (q ∷ []) qs) more.2)))
+    (ap suc more.0, (one, more.1), subst (λ v. Distinct (names v)) (append_assoc before (q ∷ []) qs) more.2)))
 
 -- the procedures that a text means are sound
 pub outcome_sound : (text : List ℕ) (procs : List ProcTree) → Outcome text (Ok procs) → AreProcs procs
@@ -108,98 +82,69 @@ unfolding are_apart
 apart_distinct [] e = tt
 apart_distinct (n ∷ ns) e = (other_names n ns ((and_parts _ _ e).0), apart_distinct ns ((and_parts (list_all (λ m. not (pointwise nat_eq n m)) ns) _ e).1))
 
+-- whether a procedure has a name, few parameters, and some keys, but few
+abbrev is_within : ProcTree → Bool
+is_within p =
+    nat_lt 0 (length p.name) && (nat_le (length p.name) 32 && (list_all is_name_byte p.name
+    && (nat_le (length p.params) 16 && (nat_le 1 (length p.keys) && nat_le (length p.keys) 16))))
+
+sound_within : (p : ProcTree) → is_within p ≡ true → AllIn (λ k. AllIn (IsSoundItem p.params) k.items) p.keys → AreSound (map sort_of p.params) (map (λ k. k.write) p.keys) p.body →
+    IsSoundProc p
+sound_within p h items body =
+    let some = and_parts (nat_lt 0 (length p.name)) _ h in
+    let short = and_parts (nat_le (length p.name) 32) _ some.1 in
+    let spelled = and_parts (list_all is_name_byte p.name) _ short.1 in
+    let few = and_parts (nat_le (length p.params) 16) _ spelled.1 in
+    let keys = and_parts (nat_le 1 (length p.keys)) _ few.1 in
+    record {
+      name = (ltb-true _ _ some.0, leb-true _ _ short.0, spelled.0);
+      few_params = leb-true _ _ few.0;
+      some_key = leb-true _ _ keys.0;
+      few_keys = leb-true _ _ keys.1;
+      items = items;
+      body = body;
+    }
+
 put_sound : IsSoundProc put
-put_sound = record {
-  name = (omega arith, omega arith, refl);
-  few_params = omega arith;
-  some_key = omega arith;
-  few_keys = omega arith;
-  items = ((refl, tt), tt);
-  body = (refl, (sort.Int, inl refl, refl), tt);
-}
+put_sound = sound_within put refl ((refl, tt), tt) (refl, (sort.Int, inl refl, refl), tt)
 
 note_sound : IsSoundProc note
-note_sound = record {
-  name = (omega arith, omega arith, refl);
-  few_params = omega arith;
-  some_key = omega arith;
-  few_keys = omega arith;
-  items = ((refl, tt), tt);
-  body = (refl, (sort.Text, inr refl, refl), tt);
-}
+note_sound = sound_within note refl ((refl, tt), tt) (refl, (sort.Text, inr refl, refl), tt)
 
 get_sound : IsSoundProc get
-get_sound = record {
-  name = (omega arith, omega arith, refl);
-  few_params = omega arith;
-  some_key = omega arith;
-  few_keys = omega arith;
-  items = ((refl, tt), tt);
-  body = ((omega arith, tt), tt);
-}
+get_sound = sound_within get refl ((refl, tt), tt) ((omega arith, tt), tt)
 
 del_sound : IsSoundProc del
-del_sound = record {
-  name = (omega arith, omega arith, refl);
-  few_params = omega arith;
-  some_key = omega arith;
-  few_keys = omega arith;
-  items = ((refl, tt), tt);
-  body = (refl, tt);
-}
+del_sound = sound_within del refl ((refl, tt), tt) (refl, tt)
 
 add_sound : IsSoundProc add
-add_sound = record {
-  name = (omega arith, omega arith, refl);
-  few_params = omega arith;
-  some_key = omega arith;
-  few_keys = omega arith;
-  items = ((refl, tt), tt);
-  body = ((refl, omega arith), (refl, (sort.Int, inl refl, (sort.Int, refl, (refl, omega arith), refl, refl)), tt), (refl, (sort.Int, inl refl, refl), tt), (((sort.Int, inl refl, (refl, omega arith)), tt), tt));
-}
+add_sound =
+    sound_within add refl ((refl, tt), tt)
+    ((refl, omega arith), (refl, (sort.Int, inl refl, (sort.Int, refl, (refl, omega arith), refl, refl)), tt), (refl, (sort.Int, inl refl, refl), tt), (((sort.Int, inl refl, (refl, omega arith)), tt), tt))
 
 div_sound : IsSoundProc div
-div_sound = record {
-  name = (omega arith, omega arith, refl);
-  few_params = omega arith;
-  some_key = omega arith;
-  few_keys = omega arith;
-  items = ((refl, tt), tt);
-  body = (((sort.Int, inl refl, (sort.Int, refl, (refl, omega arith), refl, refl)), tt), tt);
-}
+div_sound = sound_within div refl ((refl, tt), tt) (((sort.Int, inl refl, (sort.Int, refl, (refl, omega arith), refl, refl)), tt), tt)
 
 sum_sound : IsSoundProc sum
-sum_sound = record {
-  name = (omega arith, omega arith, refl);
-  few_params = omega arith;
-  some_key = omega arith;
-  few_keys = omega arith;
-  items = ((refl, tt), ((refl, tt), tt));
-  body = (((sort.Int, inl refl, (sort.Int, refl, (refl, omega arith), (refl, omega arith), refl)), tt), tt);
-}
+sum_sound =
+    sound_within sum refl ((refl, tt), ((refl, tt), tt)) (((sort.Int, inl refl, (sort.Int, refl, (refl, omega arith), (refl, omega arith), refl)), tt), tt)
 
 xfer_sound : IsSoundProc xfer
-xfer_sound = record {
-  name = (omega arith, omega arith, refl);
-  few_params = omega arith;
-  some_key = omega arith;
-  few_keys = omega arith;
-  items = ((refl, tt), ((refl, tt), tt));
-  body = (
-    (sort.Int, inl refl, (refl, omega arith), refl, refl),
-    ((omega arith, refl), tt),
-    tt,
-    (
-      refl,
-      (sort.Int, inl refl, (sort.Int, refl, (refl, omega arith), refl, refl)),
+xfer_sound =
+    sound_within xfer refl ((refl, tt), ((refl, tt), tt)) (
+      (sort.Int, inl refl, (refl, omega arith), refl, refl),
+      ((omega arith, refl), tt),
+      tt,
       (
         refl,
         (sort.Int, inl refl, (sort.Int, refl, (refl, omega arith), refl, refl)),
-        (((sort.Int, inl refl, (refl, omega arith)), ((sort.Int, inl refl, (refl, omega arith)), tt)), tt),
+        (
+          refl,
+          (sort.Int, inl refl, (sort.Int, refl, (refl, omega arith), refl, refl)),
+          (((sort.Int, inl refl, (refl, omega arith)), ((sort.Int, inl refl, (refl, omega arith)), tt)), tt),
+        ),
       ),
-    ),
-  );
-}
+    )
 
 -- the built-in procedures are sound
 pub builtin_sound : AreProcs builtin_procs

@@ -6,7 +6,6 @@ use Rattle.dt_lists.specs.Lists.{AllIn}
 use Rattle.dt_proc.specs.declared.tree.Sort.{Sort}
 use Rattle.dt_proc.specs.declared.tree.Sort.TheVariants as sort
 use Rattle.dt_syntax.specs.declared.token.Token.TheVariants as tok
-use Rattle.dt_syntax.specs.declared.token.Placed.{Placed}
 use Rattle.dt_proc.specs.Names.{Scope, meaning_in}
 use Rattle.dt_proc.specs.Sound.{HasSort, IsSoundGift, AreSound}
 use Rattle.dt_proc.specs.Tree as tree
@@ -17,7 +16,7 @@ use Rattle.dt_syntax.specs.Grammar.{front_place, at, syntax_tokens, Item, row_it
 use Rattle.dt_syntax.specs.Grammar.{clear_key, when, choose, abort, give, Statements, nothing, first, statement_tokens, statements_tokens}
 use Rattle.dt_syntax.specs.Limits.{AllSound}
 use Rattle.dt_proc.proofs.ExprSorts.{Holds, holds_ok, holds_after, sorts, writes, means, HasItsSort, key_fits, written_fits, needs_fits, stored_fits, check_fits}
-use Rattle.dt_syntax.proofs.Callers.{sound_left, sound_right}
+use Rattle.dt_syntax.proofs.Callers.{next_item, sound_left, sound_right}
 
 abbrev FitsGift : Scope → GiveTree → Type 0
 FitsGift scope g = IsSoundGift (sorts scope) (length (writes scope)) g
@@ -32,9 +31,6 @@ item_fits scope (value_item x) h =
 
 abbrev FitGifts : Scope → List GiveTree → Type 0
 FitGifts scope gs = AllIn (FitsGift scope) gs
-
-abbrev next_item : ℕ × Item → List Placed
-next_item m = at m.0 tok.Comma ∷ item_tokens m.1
 
 items_fit : (scope : Scope) (more : List (ℕ × Item)) → AllSound (flat_map next_item more) → Holds (FitGifts scope) (check_items scope more)
 items_fit scope [] h = holds_ok (FitGifts scope) [] tt

@@ -1,5 +1,5 @@
 -- The statements of a block, as the walk over them finds them.
-use Rattle.std.proofs.Common.{◌≡◌, ◌⊎◌, inl, inr, ℕ, List, [], ◌∷◌, ◌++◌, length, take, Bool, true, false, cond, Ok, Err, refl, sym, ap, ◌∙◌}
+use Rattle.std.proofs.Common.{◌≡◌, ◌⊎◌, inl, inr, ℕ, List, [], ◌∷◌, ◌++◌, length, take, true, false, Ok, Err, refl, sym, ap, ◌∙◌}
 use Rattle.std.proofs.Common.{subst, arith, append_assoc, append-nil, length-append}
 use Rattle.std.proofs.lemmas.List.{take-append-le}
 use Rattle.std.proofs.Math.Seq.{take-length}
@@ -7,15 +7,15 @@ use Rattle.dt_syntax.specs.declared.token.Token.TheVariants as tok
 use Rattle.dt_syntax.specs.declared.token.Placed.{Placed}
 use Rattle.dt_proc.specs.declared.tree.Sort.{Sort}
 use Rattle.dt_proc.specs.declared.error.ProcError.{ProcError}
-use Rattle.dt_proc.specs.declared.error.ProcError.TheVariants as fault
 use Rattle.dt_proc.specs.Tree as tree
 use Rattle.dt_proc.specs.Tree.{ExprTree, GiveTree, StmtTree, BlockTree, done, then, joined}
 use Rattle.dt_proc.specs.Names.{Scope, meaning_in}
-use Rattle.dt_proc.specs.SecondPass.{Checked, Typed, after_ok, with_new_variable, as_new, as_written, needs, same_sort, check, check_all_items, check_block, check_statement}
+use Rattle.dt_proc.specs.SecondPass.{Checked, Typed, after_ok, with_new_variable, as_new, as_written, needs, check, check_all_items, check_block, check_statement}
 use Rattle.dt_proc.specs.declared.tree.Sort.TheVariants as sort
 use Rattle.dt_proc.specs.WalkInner.{WalkAnswers, StartsBlock, StartsElse, StartsIf}
 use Rattle.dt_syntax.specs.FrontsInner.{NoElse, EndsBlock}
 use Rattle.dt_syntax.specs.Grammar.{at, Syntax, syntax_tokens, IsLevel, Statement, let_new, set_key, clear_key, when, choose, abort, give, Statements, nothing, first, statement_tokens, statements_tokens, IsStatement, AreStatements}
+use Rattle.dt_proc.proofs.ExprSorts.{Holds, holds_ok, holds_after, stored_fits}
 use Rattle.dt_syntax.proofs.Callers.{begins_other, no_else}
 use Rattle.dt_lists.proofs.Callers.{same_head, same_tail}
 
@@ -78,46 +78,30 @@ one_more : (t : Checked BlockTree) (s : StmtTree) (block : BlockTree) →
 one_more (Ok b) s block = ap Ok (sym (joined_assoc block (then s done) b))
 one_more (Err e) s block = refl
 
+-- after a statement, what was visible is visible still
+abbrev Keeps : Scope → Scope × StmtTree → Type 0
+Keeps scope r = Grown scope r.0
+
 -- a statement lets at most one variable more
-scope_of : Scope → Checked (Scope × StmtTree) → Scope
-scope_of other (Ok r) = r.0
-scope_of other (Err e) = other
-
--- whatever is reported, what was visible is visible still
-abbrev Keeps : Scope → Checked (Scope × StmtTree) → Type 0
-Keeps scope told = (new : Scope) (step : StmtTree) → told ≡ Ok (new, step) → Grown scope new
-
-keeps_ok : (scope other : Scope) (s : StmtTree) → Grown scope other → Keeps scope (Ok (other, s))
-unfolding scope_of
-keeps_ok scope other s g new step e = subst (Grown scope) (ap (scope_of other) e) g
-
-keeps_after : {A : Type 0} (scope : Scope) (told : Checked A) (next : A → Checked (Scope × StmtTree)) → ((a : A) → Keeps scope (next a)) → Keeps scope (after_ok told next)
-keeps_after scope (Ok a) next h = h a
-keeps_after scope (Err e) next h = λ new step is. absurd cc
-
-keeps_stored : (scope : Scope) (b : Bool) (p : ℕ) (s : StmtTree) → Keeps scope (cond b (Err (fault.Kind p)) (Ok (scope, s)))
-keeps_stored scope true p s = λ new step is. absurd cc
-keeps_stored scope false p s = keeps_ok scope scope s (grown_start scope)
-
-lets : (scope : Scope) (s : Statement) → Keeps scope (check_statement scope s)
+lets : (scope : Scope) (s : Statement) → Holds (Keeps scope) (check_statement scope s)
 lets scope (let_new p q n i x e) =
-    keeps_after {A = Unit {0}} scope (as_new q (meaning_in scope n)) _ (λ u. keeps_after {A = Typed} scope (check scope x) _
-    (λ a. keeps_ok scope (with_new_variable scope n a.1) (tree.let_new a.0) (record { keys = refl; variables = ((n, a.1) ∷ [], refl) })))
+    holds_after {A = Unit {0}} (Keeps scope) (as_new q (meaning_in scope n)) _ (λ u _. holds_after {A = Typed} (Keeps scope) (check scope x) _
+    (λ a _. holds_ok (Keeps scope) (with_new_variable scope n a.1, tree.let_new a.0) (record { keys = refl; variables = ((n, a.1) ∷ [], refl) })))
 lets scope (set_key p q n i x e) =
-    keeps_after {A = ℕ} scope (as_written q (meaning_in scope n)) _ (λ k. keeps_after {A = Typed} scope (check scope x) _
-    (λ a. keeps_stored scope (same_sort a.1 sort.Bool) p (tree.set_row k a.0)))
+    holds_after {A = ℕ} (Keeps scope) (as_written q (meaning_in scope n)) _ (λ k _. holds_after {A = Typed} (Keeps scope) (check scope x) _
+    (λ a _. stored_fits (Keeps scope) p a (scope, tree.set_row k a.0) (λ _. grown_start scope)))
 lets scope (clear_key p q n e) =
-    keeps_after {A = ℕ} scope (as_written q (meaning_in scope n)) _ (λ k. keeps_ok scope scope (tree.clear_row k) (grown_start scope))
+    holds_after {A = ℕ} (Keeps scope) (as_written q (meaning_in scope n)) _ (λ k _. holds_ok (Keeps scope) (scope, tree.clear_row k) (grown_start scope))
 lets scope (when p x b ss e) =
-    keeps_after {A = Typed} scope (check scope x) _ (λ a. keeps_after {A = ExprTree} scope (needs p sort.Bool a a.0) _
-    (λ f. keeps_after {A = BlockTree} scope (check_block scope ss) _ (λ c. keeps_ok scope scope (tree.choose f c done) (grown_start scope))))
+    holds_after {A = Typed} (Keeps scope) (check scope x) _ (λ a _. holds_after {A = ExprTree} (Keeps scope) (needs p sort.Bool a a.0) _
+    (λ f _. holds_after {A = BlockTree} (Keeps scope) (check_block scope ss) _ (λ c _. holds_ok (Keeps scope) (scope, tree.choose f c done) (grown_start scope))))
 lets scope (choose p x b ss e w o rs g) =
-    keeps_after {A = Typed} scope (check scope x) _ (λ a. keeps_after {A = ExprTree} scope (needs p sort.Bool a a.0) _
-    (λ f. keeps_after {A = BlockTree} scope (check_block scope ss) _ (λ c. keeps_after {A = BlockTree} scope (check_block scope rs) _
-    (λ d. keeps_ok scope scope (tree.choose f c d) (grown_start scope)))))
-lets scope (abort p q t e) = keeps_ok scope scope (tree.abort_with t) (grown_start scope)
+    holds_after {A = Typed} (Keeps scope) (check scope x) _ (λ a _. holds_after {A = ExprTree} (Keeps scope) (needs p sort.Bool a a.0) _
+    (λ f _. holds_after {A = BlockTree} (Keeps scope) (check_block scope ss) _ (λ c _. holds_after {A = BlockTree} (Keeps scope) (check_block scope rs) _
+    (λ d _. holds_ok (Keeps scope) (scope, tree.choose f c d) (grown_start scope)))))
+lets scope (abort p q t e) = holds_ok (Keeps scope) (scope, tree.abort_with t) (grown_start scope)
 lets scope (give p i more e) =
-    keeps_after {A = List GiveTree} scope (check_all_items scope i more) _ (λ gs. keeps_ok scope scope (tree.give_all gs) (grown_start scope))
+    holds_after {A = List GiveTree} (Keeps scope) (check_all_items scope i more) _ (λ gs _. holds_ok (Keeps scope) (scope, tree.give_all gs) (grown_start scope))
 
 pub step_told : (outer scope new : Scope) (told : Checked BlockTree) (block after : BlockTree) (left : List Placed) (e : ℕ) (rest : List Placed) (s : StmtTree) (us : List Placed) →
     Grown outer scope → (n : IsFirstStatement scope told block left e rest) → check_statement scope n.step ≡ Ok (new, s) → after ≡ joined block (then s done) →
@@ -128,7 +112,7 @@ step_told outer scope new told block after left e rest s us grown n is pushed cu
   sym cut,
   n.told_as ∙ ap (λ t. after_ok (after_ok t (λ r. after_ok (check_block r.0 n.more) (λ b. Ok (then r.1 b)))) (λ b. Ok (joined block b))) is
       ∙ one_more (check_block new n.more) s block ∙ ap (λ v. after_ok (check_block new n.more) (λ b. Ok (joined v b))) (sym pushed),
-  grows outer scope new grown (lets scope n.step new s is),
+  grows outer scope new grown (lets scope n.step (new, s) is),
 )
   where
     grows : (a b c : Scope) → Grown a b → Grown b c → Grown a c

@@ -1,26 +1,22 @@
-use Rattle.std.proofs.Common.{inr, ◌∷◌, ap, sym, ◌∙◌, Ok, Err, subst, length, ◌<◌, nat_eq}
-use Rattle.std.specs.List.{list_any}
-use Rattle.std.specs.Cmp.Lexicographic.{pointwise}
+use Rattle.std.proofs.Common.{inr, ◌∷◌, ap, sym, ◌∙◌, Ok, Err, subst, length, ◌<◌}
 use Rattle.std.proofs.lemmas.Result.{err_from_is_err_and}
 use Rattle.dt_text.specs.Texts.{IsName}
-use Rattle.dt_proc.specs.Tree.{ProcTree}
 use Rattle.dt_proc.specs.WalkInner.{WalkAnswers, keys_told}
-use Rattle.dt_proc.proofs.ProcWalk.{Free, proc_twice, proc_sound, params_first_fault, keys_first_fault, body_first_fault, proc_told, name_read, head_read, keys_left, body_left}
+use Rattle.dt_proc.proofs.ProcNames.{Free, is_named}
+use Rattle.dt_proc.proofs.ProcWalk.{proc_twice, proc_sound, params_first_fault, keys_first_fault, body_first_fault, proc_told, name_read, head_read, keys_left, body_left}
 use Rattle.dt_syntax.proofs.Callers.{proc_longer}
 use Rattle.dt_proc.proofs.reader.proc.Goals as goal
 
 pub returns-then-is_taken-clause-right : goal.returns-then-is_taken-clause-right
 returns-then-is_taken-clause-right c = λ p rest h e.
-    let name = name_read p rest c.args.tokens.now c.after_one.result.now c.named-place.result.0 c.named-place.result.1.now c.named-place.result.2.now e
-    c.after_one.ensures.right c.named-place.ensures.right in
+    let name = name_read p rest e c.after_one.ensures.right c.named-place.ensures.right in
     inr (proc_twice c.args.before.now p c.named-place.result.1.now c.named-place.result.0 (sym c.is_taken.ensures ∙ c.if-is_taken.true) name.1 name.0)
 
 pub returns-in_err-scope-clause-right : goal.returns-in_err-scope-clause-right
 returns-in_err-scope-clause-right c = λ p rest h e.
     let r = err_from_is_err_and c.from_residual.result c.from_residual.ensures.1 in
-    let head = head_read p rest c.args.tokens.now c.after_one.result.now c.named-place.result.0 c.named-place.result.1.now c.named-place.result.2.now c.after_one-2.result.now e
-    c.after_one.ensures.right c.named-place.ensures.right c.after_one-2.ensures.right in
-    let free : Free c.args.before.now p = ap (λ n. list_any (λ (q : ProcTree). pointwise nat_eq q.name n) c.args.before.now) (sym head.1) ∙ sym c.is_taken.ensures ∙ c.if-is_taken.false in
+    let head = head_read p rest e c.after_one.ensures.right c.named-place.ensures.right c.after_one-2.ensures.right in
+    let free : Free c.args.before.now p = ap (is_named c.args.before.now) (sym head.1) ∙ sym c.is_taken.ensures ∙ c.if-is_taken.false in
     let keyed = keys_left p rest in
     let ps = c.in_err-scope.ensures.right p.params p.close_at keyed head.2 in
     rw (r.1, r.2) (params_first_fault c.args.before.now p keyed rest _ free ps)
@@ -28,9 +24,8 @@ returns-in_err-scope-clause-right c = λ p rest h e.
 pub returns-in_err-rest-clause-right : goal.returns-in_err-rest-clause-right
 returns-in_err-rest-clause-right c = λ p rest h e.
     let r = err_from_is_err_and c.from_residual-in_err-rest.result c.from_residual-in_err-rest.ensures.1 in
-    let head = head_read p rest c.args.tokens.now c.after_one.result.now c.named-place.result.0 c.named-place.result.1.now c.named-place.result.2.now c.after_one-2.result.now e
-    c.after_one.ensures.right c.named-place.ensures.right c.after_one-2.ensures.right in
-    let free : Free c.args.before.now p = ap (λ n. list_any (λ (q : ProcTree). pointwise nat_eq q.name n) c.args.before.now) (sym head.1) ∙ sym c.is_taken.ensures ∙ c.if-is_taken.false in
+    let head = head_read p rest e c.after_one.ensures.right c.named-place.ensures.right c.after_one-2.ensures.right in
+    let free : Free c.args.before.now p = ap (is_named c.args.before.now) (sym head.1) ∙ sym c.is_taken.ensures ∙ c.if-is_taken.false in
     let keyed = keys_left p rest in
     let ps = c.in_ok-scope.ensures.right p.params p.close_at keyed head.2 in
     let inside = body_left p rest in
@@ -41,9 +36,8 @@ returns-in_err-rest-clause-right c = λ p rest h e.
 pub returns-in_err-body-clause-right : goal.returns-in_err-body-clause-right
 returns-in_err-body-clause-right c = λ p rest h e.
     let r = err_from_is_err_and c.from_residual-in_err-body.result c.from_residual-in_err-body.ensures.1 in
-    let head = head_read p rest c.args.tokens.now c.after_one.result.now c.named-place.result.0 c.named-place.result.1.now c.named-place.result.2.now c.after_one-2.result.now e
-    c.after_one.ensures.right c.named-place.ensures.right c.after_one-2.ensures.right in
-    let free : Free c.args.before.now p = ap (λ n. list_any (λ (q : ProcTree). pointwise nat_eq q.name n) c.args.before.now) (sym head.1) ∙ sym c.is_taken.ensures ∙ c.if-is_taken.false in
+    let head = head_read p rest e c.after_one.ensures.right c.named-place.ensures.right c.after_one-2.ensures.right in
+    let free : Free c.args.before.now p = ap (is_named c.args.before.now) (sym head.1) ∙ sym c.is_taken.ensures ∙ c.if-is_taken.false in
     let keyed = keys_left p rest in
     let ps = c.in_ok-scope.ensures.right p.params p.close_at keyed head.2 in
     let inside = body_left p rest in
@@ -58,8 +52,7 @@ new-requires c =
     let rest = c.requires.starts.rest in
     let h = c.requires.starts.good in
     let e = c.requires.starts.cut in
-    let head = head_read p rest c.args.tokens.now c.after_one.result.now c.named-place.result.0 c.named-place.result.1.now c.named-place.result.2.now c.after_one-2.result.now e
-    c.after_one.ensures.right c.named-place.ensures.right c.after_one-2.ensures.right in
+    let head = head_read p rest e c.after_one.ensures.right c.named-place.ensures.right c.after_one-2.ensures.right in
     let keyed = keys_left p rest in
     let ps = c.in_ok-scope.ensures.right p.params p.close_at keyed head.2 in
     let inside = body_left p rest in
@@ -75,8 +68,7 @@ returns-clause-shorter c =
     let rest = c.requires.starts.rest in
     let h = c.requires.starts.good in
     let e = c.requires.starts.cut in
-    let head = head_read p rest c.args.tokens.now c.after_one.result.now c.named-place.result.0 c.named-place.result.1.now c.named-place.result.2.now c.after_one-2.result.now e
-    c.after_one.ensures.right c.named-place.ensures.right c.after_one-2.ensures.right in
+    let head = head_read p rest e c.after_one.ensures.right c.named-place.ensures.right c.after_one-2.ensures.right in
     let keyed = keys_left p rest in
     let ps = c.in_ok-scope.ensures.right p.params p.close_at keyed head.2 in
     let inside = body_left p rest in
@@ -87,9 +79,8 @@ returns-clause-shorter c =
 
 pub returns-clause-right : goal.returns-clause-right
 returns-clause-right c = λ p rest h e.
-    let head = head_read p rest c.args.tokens.now c.after_one.result.now c.named-place.result.0 c.named-place.result.1.now c.named-place.result.2.now c.after_one-2.result.now e
-    c.after_one.ensures.right c.named-place.ensures.right c.after_one-2.ensures.right in
-    let free : Free c.args.before.now p = ap (λ n. list_any (λ (q : ProcTree). pointwise nat_eq q.name n) c.args.before.now) (sym head.1) ∙ sym c.is_taken.ensures ∙ c.if-is_taken.false in
+    let head = head_read p rest e c.after_one.ensures.right c.named-place.ensures.right c.after_one-2.ensures.right in
+    let free : Free c.args.before.now p = ap (is_named c.args.before.now) (sym head.1) ∙ sym c.is_taken.ensures ∙ c.if-is_taken.false in
     let keyed = keys_left p rest in
     let ps = c.in_ok-scope.ensures.right p.params p.close_at keyed head.2 in
     let inside = body_left p rest in
@@ -107,8 +98,7 @@ more_keys-requires-clause-starts c =
     let p = c.requires.starts.one in
     let rest = c.requires.starts.rest in
     let e = c.requires.starts.cut in
-    let head = head_read p rest c.args.tokens.now c.after_one.result.now c.named-place.result.0 c.named-place.result.1.now c.named-place.result.2.now c.after_one-2.result.now e
-    c.after_one.ensures.right c.named-place.ensures.right c.after_one-2.ensures.right in
+    let head = head_read p rest e c.after_one.ensures.right c.named-place.ensures.right c.after_one-2.ensures.right in
     let ps = c.in_ok-scope.ensures.right p.params p.close_at (keys_left p rest) head.2 in
     record { more = p.key ∷ p.more_keys; begin_at = p.begin_at; rest = body_left p rest; cut = sym ps.1 }
 
@@ -117,8 +107,7 @@ block-requires-clause-starts c =
     let p = c.requires.starts.one in
     let rest = c.requires.starts.rest in
     let e = c.requires.starts.cut in
-    let head = head_read p rest c.args.tokens.now c.after_one.result.now c.named-place.result.0 c.named-place.result.1.now c.named-place.result.2.now c.after_one-2.result.now e
-    c.after_one.ensures.right c.named-place.ensures.right c.after_one-2.ensures.right in
+    let head = head_read p rest e c.after_one.ensures.right c.named-place.ensures.right c.after_one-2.ensures.right in
     let ps = c.in_ok-scope.ensures.right p.params p.close_at (keys_left p rest) head.2 in
     let ks = c.in_ok-rest.ensures.right (p.key ∷ p.more_keys) p.begin_at (body_left p rest) (sym ps.1) in
     record { all = p.body; end_at = p.end_at; rest = rest; good = c.requires.starts.good; cut = sym ks.1 }
