@@ -1,6 +1,6 @@
 -- The list of the keys of a call: it ascends, and holds each key that a declaration gives, with Write if any declaration of
 -- it is.
-use Rattle.std.proofs.Common.{◌≡◌, ◌<◌, ◌≤◌, ◌+◌, ◌||◌, ℕ, length, take, drop, set, ◌++◌, ap₂, add-one, arith, zero, suc, Bool, true, false, List, []}
+use Rattle.std.proofs.Common.{◌≡◌, ◌<◌, ◌≤◌, ◌+◌, ◌||◌, ℕ, length, take, drop, set, ◌++◌, ap₂, add-one, add-zero, arith, zero, suc, Bool, true, false, List, []}
 use Rattle.std.proofs.Common.{◌∷◌, map, get_or, slice_get, Some, refl, sym, ap, subst, ◌∙◌, inl, inr}
 use Rattle.std.specs.List.{fold}
 use Rattle.std.proofs.Math.Seq.{drop-cons}
@@ -10,9 +10,8 @@ use Rattle.std.specs.declared.cmp.Ordering.{Ordering}
 use Rattle.std.specs.declared.cmp.Ordering.TheVariants.{Less, Equal, Greater}
 use Rattle.std.specs.Cmp.Lexicographic.{slice_cmp, bytes_decides, texts_ties, nat_list_cmp_total}
 use Rattle.std.proofs.lemmas.Bool.{or_left, or_right}
-use Rattle.std.proofs.lemmas.Option.{slice_get_within}
-use Rattle.dt_lists.specs.Lists.{AnyIn, AllIn, Pairwise}
-use Rattle.dt_lists.proofs.Callers.{all_map}
+use Rattle.dt_lists.specs.Lists.{AnyIn, AllIn}
+use Rattle.dt_lists.proofs.Callers.{all_map, pairwise_length, place_within}
 use Rattle.dt_text.specs.declared.Value.{Value}
 use Rattle.dt_access.specs.Clash.{Bytes, is_whole}
 use Rattle.dt_access.specs.Orders.{KeyBefore, HasAscendingKeys}
@@ -35,7 +34,6 @@ use Rattle.dt_eval.specs.Keys.{HasKeys, IsFirstBadKey, distinct_uses, key_text, 
 pub same_by_cmp : (a b : Bytes) → slice_cmp nat_cmp a b ≡ Equal → a ≡ b
 same_by_cmp a b e = (bytes_decides a b).0 (texts_ties a b ∙ ap is_eq e)
 
--- what compares as greater stands after
 -- what holds of the keys of a list and of a new key holds of all after it was added
 with_use_all : (P : Bytes → Type 0) (vs : List (Bytes × Bool)) (u : Bytes × Bool) → AllIn (λ v. P v.0) vs → P u.0 → AllIn (λ v. P v.0) (with_use vs u)
 with_use_all P [] u all p = (p, tt)
@@ -168,19 +166,13 @@ written_use args (d ∷ ds) (suc k) e = inr (written_use args ds k e)
 
 one_within : (params : List Kind) (n : ℕ) → length params ≡ n → (i : KeyItem) → IsSoundItem params i → IsItemWithin n i
 one_within params n e (item.Text t) s = tt
-one_within params n e (item.Param p) s = subst (λ m. p < m) e (slice_get_within params p kind.Text s)
-one_within params n e (item.Show p) s = subst (λ m. p < m) e (slice_get_within params p kind.Int s)
-
-pub fits_length : (params : List Kind) (args : List Value) → Pairwise IsOfKind params args → length params ≡ length args
-fits_length [] [] f = refl
-fits_length [] (v ∷ args) f = absurd f
-fits_length (k ∷ params) [] f = absurd f
-fits_length (k ∷ params) (v ∷ args) f = ap suc (fits_length params args f.1)
+one_within params n e (item.Param p) s = subst (λ m. p < m) e (place_within params p kind.Text s)
+one_within params n e (item.Show p) s = subst (λ m. p < m) e (place_within params p kind.Int s)
 
 pub items_within : (proc : ProcTree) (args : List Value) → IsSoundProc proc → Fits proc args → AllIn (λ (d : KeyDecl). AllIn (IsItemWithin (length args)) d.items) proc.keys
 items_within proc args sound fits =
     all_map (λ (d : KeyDecl). AllIn (IsSoundItem proc.params) d.items) (λ (d : KeyDecl). AllIn (IsItemWithin (length args)) d.items) proc.keys
-    (λ (d : KeyDecl) s. all_map (IsSoundItem proc.params) (IsItemWithin (length args)) d.items (one_within proc.params (length args) (fits_length proc.params args fits)) s) sound.items
+    (λ (d : KeyDecl) s. all_map (IsSoundItem proc.params) (IsItemWithin (length args)) d.items (one_within proc.params (length args) (pairwise_length IsOfKind proc.params args fits)) s) sound.items
 
 -- a use that is put in at a place
 
@@ -213,9 +205,6 @@ same_read (x ∷ xs) (suc i) v w below p q = same_read xs i v w (omega arith) p 
 
 zero_add : (j : ℕ) → 0 + j ≡ j
 zero_add j = omega arith
-
-add_zero : (n : ℕ) → n + 0 ≡ n
-add_zero n = omega arith
 
 shifted : (n j : ℕ) → n + suc j ≡ n + 1 + j
 shifted n j = omega arith
@@ -250,7 +239,7 @@ module _ (proc : ProcTree) (args : List Value) (declarations : List KeyDecl) (nu
   }
 
   pub gathers_bad : ¬ (IsKey (key_text args d.items)) → (i : ℕ) → i ≡ number → IsFirstBadKey (names_of proc args) i
-  gathers_bad bad i e = subst (IsFirstBadKey (names_of proc args)) (add_zero number ∙ sym e) (known.first 0 (subst (λ ds. IsFirstBadKey (names_given args ds) 0) (sym declared) bad))
+  gathers_bad bad i e = subst (IsFirstBadKey (names_of proc args)) (add-zero number ∙ sym e) (known.first 0 (subst (λ ds. IsFirstBadKey (names_given args ds) 0) (sym declared) bad))
 
 module _ (proc : ProcTree) (args : List Value) (declarations : List KeyDecl) (number : ℕ) (uses : List (Bytes × Bool)) (past : length declarations ≤ number) (known : Gathers proc args declarations number uses) where
   all_used : uses ≡ distinct_uses proc args

@@ -93,8 +93,6 @@ ranged z = gives (is_small z) (FitsSigned w64 z) (Int z) cause.Overflow (small_d
 -- numbers
 
 numbers : (o : Op) (a b : ℤ) → TakesSort o sort.Int → Fixes (of_numbers o a b) (OfNumbers o a b)
-numbers Or a b t = cc
-numbers And a b t = cc
 numbers Equal a b t = tells (int_eq a b) (a ≡ b) (Decides-int_eq a b)
 numbers Differ a b t = tells (not (int_eq a b)) (a ≢ b) (Decides-not (int_eq a b) (Decides-int_eq a b))
 numbers Less a b t = tells (int_lt a b) (a <ℤ b) (lt_decides a b)
@@ -103,16 +101,14 @@ numbers More a b t = tells (int_lt b a) (b <ℤ a) (lt_decides b a)
 numbers AtLeast a b t = tells (int_le b a) (b ≤ℤ a) (le_decides b a)
 numbers Add a b t = ranged (a +ℤ b)
 numbers Sub a b t = ranged (a -ℤ b)
-numbers Join a b t = cc
 numbers Mul a b t = ranged (a *ℤ b)
 numbers Div a b t = unless (is_zero b) b (in_range (int_div a b)) (λ r. IsInRange r (int_div a b)) (zero_decides b) (ranged (int_div a b))
 numbers Rem a b t =
     unless (is_zero b) b (cond (is_small (int_div a b)) (Ok (Int (int_rem a b))) (Err cause.Overflow)) (λ r. GivesIf r (FitsSigned w64 (int_div a b)) (Int (int_rem a b)) cause.Overflow) (zero_decides b)
     (gives (is_small (int_div a b)) (FitsSigned w64 (int_div a b)) (Int (int_rem a b)) cause.Overflow (small_decides (int_div a b)))
+numbers o a b t = cc
 
 numbers_taken : (o : Op) (a b : ℤ) (r : Result Datum Cause) → OfNumbers o a b r → TakesSort o sort.Int
-numbers_taken Or a b r h = absurd h
-numbers_taken And a b r h = absurd h
 numbers_taken Equal a b r h = inl refl
 numbers_taken Differ a b r h = inl refl
 numbers_taken Less a b r h = inl refl
@@ -121,10 +117,10 @@ numbers_taken More a b r h = inl refl
 numbers_taken AtLeast a b r h = inl refl
 numbers_taken Add a b r h = refl
 numbers_taken Sub a b r h = refl
-numbers_taken Join a b r h = absurd h
 numbers_taken Mul a b r h = refl
 numbers_taken Div a b r h = refl
 numbers_taken Rem a b r h = refl
+numbers_taken o a b r h = absurd h
 
 -- texts
 
@@ -178,60 +174,42 @@ few_decides n m = (λ e. of_yes n m e (leb_tells n m), λ h. yes_of n m h (leb_t
     yes_of n m h (inr k) = absurd (omega (arith, h, k.1))
 
 texts : (o : Op) (s t : Bytes) → TakesSort o sort.Text → Fixes (of_texts o s t) (OfTexts o s t)
-texts Or s t k = cc
-texts And s t k = cc
 texts Equal s t k = tells (same_key s t) (s ≡ t) (same_decides s t)
 texts Differ s t k = tells (not (same_key s t)) (s ≢ t) (Decides-not (same_key s t) (same_decides s t))
 texts Less s t k = tells (is_lt (text_order s t)) (KeyBefore s t) (less_decides s t)
 texts AtMost s t k = tells (is_le (text_order s t)) (¬ (KeyBefore t s)) (at_most_decides s t)
 texts More s t k = tells (is_gt (text_order s t)) (KeyBefore t s) (more_decides s t)
 texts AtLeast s t k = tells (is_ge (text_order s t)) (¬ (KeyBefore s t)) (at_least_decides s t)
-texts Add s t k = cc
-texts Sub s t k = cc
 texts Join s t k = gives (nat_le (length (s ++ t)) 256) (length (s ++ t) ≤ 256) (Text (s ++ t)) cause.Long (few_decides (length (s ++ t)) 256)
-texts Mul s t k = cc
-texts Div s t k = cc
-texts Rem s t k = cc
+texts o s t k = cc
 
 texts_taken : (o : Op) (s t : Bytes) (r : Result Datum Cause) → OfTexts o s t r → TakesSort o sort.Text
-texts_taken Or s t r h = absurd h
-texts_taken And s t r h = absurd h
 texts_taken Equal s t r h = inr refl
 texts_taken Differ s t r h = inr refl
 texts_taken Less s t r h = inr refl
 texts_taken AtMost s t r h = inr refl
 texts_taken More s t r h = inr refl
 texts_taken AtLeast s t r h = inr refl
-texts_taken Add s t r h = absurd h
-texts_taken Sub s t r h = absurd h
 texts_taken Join s t r h = refl
-texts_taken Mul s t r h = absurd h
-texts_taken Div s t r h = absurd h
-texts_taken Rem s t r h = absurd h
+texts_taken o s t r h = absurd h
 
 -- truths
+
+-- what compares takes numbers or texts
+no_truths : (sort.Bool ≡ sort.Int) ⊎ (sort.Bool ≡ sort.Text) → ⊥
+no_truths (inl e) = cc
+no_truths (inr e) = cc
 
 truths : (o : Op) (a b : Bool) → TakesSort o sort.Bool → Operates o (Truth a) (Truth b) (of_truths o a b)
 truths Or a b t = refl
 truths And a b t = refl
-truths Equal a b (inl e) = cc
-truths Equal a b (inr e) = cc
-truths Differ a b (inl e) = cc
-truths Differ a b (inr e) = cc
-truths Less a b (inl e) = cc
-truths Less a b (inr e) = cc
-truths AtMost a b (inl e) = cc
-truths AtMost a b (inr e) = cc
-truths More a b (inl e) = cc
-truths More a b (inr e) = cc
-truths AtLeast a b (inl e) = cc
-truths AtLeast a b (inr e) = cc
-truths Add a b t = cc
-truths Sub a b t = cc
-truths Join a b t = cc
-truths Mul a b t = cc
-truths Div a b t = cc
-truths Rem a b t = cc
+truths Equal a b t = absurd (no_truths t)
+truths Differ a b t = absurd (no_truths t)
+truths Less a b t = absurd (no_truths t)
+truths AtMost a b t = absurd (no_truths t)
+truths More a b t = absurd (no_truths t)
+truths AtLeast a b t = absurd (no_truths t)
+truths o a b t = cc
 
 -- the function gives what the cases say of two operands
 pub operate_is : (o : Op) (a b : Datum) (r : Result Datum Cause) → Operates o a b r → operate o a b ≡ r
@@ -246,12 +224,7 @@ pub is_operate : (o : Op) (a b : Datum) (s : Sort) → TakesSort o s → sort_of
 is_operate o (Int a) (Int b) s t p q = (numbers o a b (subst (TakesSort o) (sym p) t)).0
 is_operate o (Text x) (Text y) s t p q = (texts o x y (subst (TakesSort o) (sym p) t)).0
 is_operate o (Truth a) (Truth b) s t p q = truths o a b (subst (TakesSort o) (sym p) t)
-is_operate o (Int a) (Text y) s t p q = let e : sort.Int ≡ sort.Text = p ∙ sym q in cc
-is_operate o (Int a) (Truth b) s t p q = let e : sort.Int ≡ sort.Bool = p ∙ sym q in cc
-is_operate o (Text x) (Int b) s t p q = let e : sort.Text ≡ sort.Int = p ∙ sym q in cc
-is_operate o (Text x) (Truth b) s t p q = let e : sort.Text ≡ sort.Bool = p ∙ sym q in cc
-is_operate o (Truth a) (Int b) s t p q = let e : sort.Bool ≡ sort.Int = p ∙ sym q in cc
-is_operate o (Truth a) (Text y) s t p q = let e : sort.Bool ≡ sort.Text = p ∙ sym q in cc
+is_operate o a b s t p q = let e : sort_of_datum a ≡ sort_of_datum b = p ∙ sym q in cc
 
 -- what decides
 pub decides_is : (o : Op) (a : Datum) → cases.Decides o a → decides o a ≡ true

@@ -1,6 +1,6 @@
 -- What an expression gives has the sort of the expression.
 use Rattle.std.proofs.Common.{◌≡◌, ℕ, ℤ, neg_ℤ, nat_le, Bool, true, false, cond, List, ◌++◌, length, map, Some, Ok, Err, refl, sym, subst, ◌∙◌}
-use Rattle.std.specs.Prelude.{◌+ℤ◌, ◌-ℤ◌, ◌*ℤ◌, int_div, int_rem, Option, None, Result, IfOk, slice_get, option_map}
+use Rattle.std.specs.Prelude.{◌+ℤ◌, ◌-ℤ◌, ◌*ℤ◌, int_div, int_rem, Option, None, Result, slice_get, option_map}
 use Rattle.std.proofs.lemmas.Bool.{true≢false}
 use Rattle.std.proofs.lemmas.Option.{slice_get-map}
 use Rattle.dt_text.specs.declared.Value.{Value}
@@ -9,18 +9,18 @@ use Rattle.dt_access.specs.Clash.{Bytes}
 use Rattle.dt_proc.specs.declared.tree.Sort.{Sort}
 use Rattle.dt_proc.specs.declared.tree.Sort.TheVariants as sort
 use Rattle.dt_syntax.specs.declared.operator.Op.{Op}
-use Rattle.dt_syntax.specs.declared.operator.Op.TheVariants.{Or, And, Equal, Differ, Less, AtMost, More, AtLeast, Add, Sub, Join, Mul, Div, Rem}
+use Rattle.dt_syntax.specs.declared.operator.Op.TheVariants.{Or, And, Add, Sub, Join, Mul, Div, Rem}
 use Rattle.dt_proc.specs.Tree.{ExprTree, number, text, truth, variable, number_of, text_of, has_value, length_of, shown, negative, opposite, binary}
 use Rattle.dt_proc.specs.Sound.{HasSort, sort_given}
 use Rattle.dt_eval.specs.declared.finish.Cause.{Cause}
 use Rattle.dt_eval.specs.declared.finish.Cause.TheVariants as cause
 use Rattle.dt_eval.specs.declared.state.Datum.{Datum}
 use Rattle.dt_eval.specs.declared.state.Datum.TheVariants.{Int, Text, Bool as Truth}
-use Rattle.dt_eval.specs.Data.{unless_aborted, sort_of_datum}
+use Rattle.dt_eval.specs.Data.{row_at, unless_aborted, sort_of_datum}
 use Rattle.dt_eval.specs.Expressions.{in_range, is_small, is_zero, of_numbers, of_texts, of_truths, operate, decides, variable_in, number_in, text_in}
 use Rattle.dt_eval.specs.Expressions.{byte_count, printed_datum, negated, other_truth, evaluated}
-use Rattle.dt_eval.specs.declared.stop.Stop.{Stop}
-use Rattle.dt_eval.specs.FrameInner.{EvalAnswers, GivesSort}
+use Rattle.dt_eval.specs.declared.frame.Frame.{Frame}
+use Rattle.dt_eval.specs.FrameInner.{GivesSort, HasSortIn, seen, told_in}
 
 value_if : (s : Sort) (b : Bool) (d : Datum) (c : Cause) → sort_of_datum d ≡ s → GivesSort s (cond b (Ok d) (Err c))
 value_if s true d c e = e
@@ -33,46 +33,37 @@ abort_if s false c r g = g
 ranged : (z : ℤ) → GivesSort sort.Int (in_range z)
 ranged z = value_if sort.Int (is_small z) (Int z) cause.Overflow refl
 
+-- what no operator takes leads to no value; an operator that compares gives a truth, whatever it compares
 numbers_sort : (o : Op) (a b : ℤ) → GivesSort (sort_given o) (of_numbers o a b)
 numbers_sort Or a b = tt
 numbers_sort And a b = tt
-numbers_sort Equal a b = refl
-numbers_sort Differ a b = refl
-numbers_sort Less a b = refl
-numbers_sort AtMost a b = refl
-numbers_sort More a b = refl
-numbers_sort AtLeast a b = refl
+numbers_sort Join a b = tt
 numbers_sort Add a b = ranged (a +ℤ b)
 numbers_sort Sub a b = ranged (a -ℤ b)
-numbers_sort Join a b = tt
 numbers_sort Mul a b = ranged (a *ℤ b)
 numbers_sort Div a b = abort_if sort.Int (is_zero b) cause.Zero (in_range (int_div a b)) (ranged (int_div a b))
 numbers_sort Rem a b =
     abort_if sort.Int (is_zero b) cause.Zero (cond (is_small (int_div a b)) (Ok (Int (int_rem a b))) (Err cause.Overflow))
     (value_if sort.Int (is_small (int_div a b)) (Int (int_rem a b)) cause.Overflow refl)
+numbers_sort o a b = refl
 
 texts_sort : (o : Op) (s t : Bytes) → GivesSort (sort_given o) (of_texts o s t)
 texts_sort Or s t = tt
 texts_sort And s t = tt
-texts_sort Equal s t = refl
-texts_sort Differ s t = refl
-texts_sort Less s t = refl
-texts_sort AtMost s t = refl
-texts_sort More s t = refl
-texts_sort AtLeast s t = refl
 texts_sort Add s t = tt
 texts_sort Sub s t = tt
 texts_sort Join s t = value_if sort.Text (nat_le (length (s ++ t)) 256) (Text (s ++ t)) cause.Long refl
 texts_sort Mul s t = tt
 texts_sort Div s t = tt
 texts_sort Rem s t = tt
+texts_sort o s t = refl
 
 truths_sort : (o : Op) (a b : Bool) → GivesSort (sort_given o) (of_truths o a b)
 truths_sort Or a b = refl
 truths_sort And a b = refl
 truths_sort o a b = tt
 
-pub operate_sort : (o : Op) (a b : Datum) → GivesSort (sort_given o) (operate o a b)
+operate_sort : (o : Op) (a b : Datum) → GivesSort (sort_given o) (operate o a b)
 operate_sort o (Int a) (Int b) = numbers_sort o a b
 operate_sort o (Text s) (Text t) = texts_sort o s t
 operate_sort o (Truth a) (Truth b) = truths_sort o a b
@@ -121,7 +112,7 @@ after : (s : Sort) (r : Result Datum Cause) (f : Datum → Result Datum Cause) �
 after s (Ok d) f k = k d
 after s (Err c) f k = tt
 
-pub as_wanted : (s t : Sort) (r : Result Datum Cause) → s ≡ t → GivesSort t r → GivesSort s r
+as_wanted : (s t : Sort) (r : Result Datum Cause) → s ≡ t → GivesSort t r → GivesSort s r
 as_wanted s t r e g = subst (λ x. GivesSort x r) (sym e) g
 
 -- where an expression has a sort, what it gives has it
@@ -146,7 +137,6 @@ sort_kept variables row keys (binary o f g) s h =
     decided o a true e r g = decides_sort o a e
     decided o a false e r g = g
 
--- an answer has the sort of what is answered
-pub sort_of_answer : (s : Sort) (told : Result Datum Cause) (r : Result Datum Stop) → GivesSort s told → EvalAnswers told r → IfOk r (λ d. sort_of_datum d ≡ s)
-sort_of_answer s told (Ok d) g a = subst (GivesSort s) a g
-sort_of_answer s told (Err e) g a = tt
+-- so what an expression gives in a frame has the sort that the expression has there
+pub given_sort : (frame : Frame) (f : ExprTree) (d : Datum) (s : Sort) → told_in frame f ≡ Ok d → HasSortIn frame f s → sort_of_datum d ≡ s
+given_sort frame f d s told h = subst (GivesSort s) told (sort_kept frame.variables (row_at frame.rows.0 (seen frame)) _ f s h)

@@ -1,4 +1,4 @@
-ghost use Rattle.std.specs.Prelude.{◌≡◌, ◌<◌, length, map, Ok, IfOk, OnOk, IfSome, option_copied};
+ghost use Rattle.std.specs.Prelude.{◌≡◌, ◌<◌, length, map, Ok, IfOk, OnOk, IfSome};
 ghost use Rattle.dt_lists.specs.Lists.{AllIn};
 ghost use Rattle.dt_proc.specs.declared.tree.Sort.{Sort};
 ghost use Rattle.dt_proc.specs.declared.tree.Sort.TheVariants as sort;
@@ -20,7 +20,7 @@ use crate::state::Datum;
 use crate::stop::Stop;
 use crate::variables::Variables;
 use dt_proc::{Expr, Give, Op, Stmt, Stmts};
-use dt_text::{Common, NoMemory, Value};
+use dt_text::{Common, Value};
 use std::alloc::Global;
 
 /// What a run knows between two statements.
@@ -37,6 +37,7 @@ pub(crate) struct Frame<'a> {
 impl Frame<'_> {
     /// What an expression gives. Operands are evaluated from the left, and the right one only where the left one does not
     /// decide.
+    #[tactic(auto, using(crate::proofs::SortLaws::given_sort))]
     pub(crate) fn value_of(&self, alloc: Global, expr: &Expr) -> Result<Datum, Stop>
         requires { IsSorted self.now (expr_tree expr.now) }
         ensures answer { EvalAnswers (told_in self.now (expr_tree expr.now)) result }
@@ -250,18 +251,11 @@ impl Frame<'_> {
         ensures { EvalAnswers (gift_value self.now.rows.0 (give_tree item.now) (seen self.now)) result }
     {
         match item {
-            Give::Row(key) => Ok(copied(alloc, self.rows.value(*key))?),
+            Give::Row(key) => match self.rows.value(*key) {
+                Some(value) => Ok(Some(value.copy(alloc)?)),
+                None => Ok(None),
+            },
             Give::Value(value) => Ok(Some(stored(self.given_by(alloc, value)?))),
         }
-    }
-}
-
-/// A copy of what is borrowed, if there is something.
-fn copied(alloc: Global, value: Option<&Value>) -> Result<Option<Value>, NoMemory>
-    ensures { IfOk result (λ copy. copy ≡ option_copied value.entry) }
-{
-    match value {
-        Some(value) => Ok(Some(value.copy(alloc)?)),
-        None => Ok(None),
     }
 }
