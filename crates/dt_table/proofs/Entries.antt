@@ -1,14 +1,16 @@
 -- A list of entries with a look-up by `==`, and the finite map that it makes: how a write of one entry changes both.
-use Rattle.std.proofs.Common.{◌≡◌, Bool, true, false, cond, List, [], ◌∷◌, map, refl, sym, ap, ◌∙◌, subst, Some, None}
+use Rattle.std.proofs.Common.{◌≡◌, Bool, true, false, cond, List, [], ◌∷◌, map, refl, sym, ap, ◌∙◌, subst, Option, Some, None}
 use Rattle.std.specs.Option.{option_map}
-use Rattle.std.specs.Ordering.{eq_by_cmp}
-use Rattle.std.specs.declared.cmp.Ordering.{Ordering}
-use Rattle.std.specs.Cmp.{IsTotalOrder, IsEquivalence}
+use Rattle.std.specs.Cmp.{IsEquivalence}
+use Rattle.std.specs.Cmp.Lexicographic.{nat_list_cmp_total, nat_list_eq_equiv}
 use Rattle.std.specs.Map.{lookup}
-use Rattle.std.specs.FinMap.{get, insert, from_entries, get-insert, get-from_entries, same_map, IsAntisymmetric}
-use Rattle.std.specs.FinMap.Entries.{find}
+use Rattle.std.specs.FinMap.{get, insert, from_entries, same_map}
+use Rattle.std.proofs.lemmas.Map.Made.{lookup-map_values}
 use Rattle.indexmap.specs.IndexMap.{insert_entry}
 use Rattle.dt_lists.specs.Lists.{AllIn}
+use Rattle.dt_access.specs.Clash.{Bytes, same_key}
+use Rattle.dt_table.proofs.SortedEntries.{order, exact, get-lookup}
+use Rattle.dt_table.proofs.TableLaws.{get-put}
 
 module _ {K V : Type 0} (eq : K → K → Bool) where
   -- a look-up after an insert
@@ -54,30 +56,26 @@ module _ {K V : Type 0} (eq : K → K → Bool) where
           | false ↦ λ _ later. AllIn-lookup es k v all.1 later
         ] refl there
 
-module _ {K : Type 0} {R : K → K → Ordering} {eq : K → K → Bool} (o : IsTotalOrder R) (ties : (x y : K) → eq x y ≡ eq_by_cmp R x y) where
-  module _ {V X : Type 0} (f : V → X) where
-    find-map : (es : List (K × V)) (q : K) → find R q (map (λ e. (e.0, f e.1)) es) ≡ option_map f (lookup (eq q) es)
-    find-map [] q = refl
-    find-map (e ∷ es) q =
-        let rest : List (K × X) = map (λ e. (e.0, f e.1)) es in
-        ap (λ b. cond b (Some (f e.1)) (find R q rest)) (sym (ties q e.0))
-        ∙ elim (eq q e.0) as (λ b. cond b (Some (f e.1)) (find R q rest) ≡ option_map f (cond b (Some e.1) (lookup (eq q) es))) [ true ↦ refl | false ↦ find-map es q ]
+-- where the entries answer as others do with k at a new value, their map is the map of the others with it
+pub insert-lookup : {X : Type 0} (es fs : List (Bytes × X)) (k : Bytes) (x : X) → ((q : Bytes) → lookup (same_key q) fs ≡ cond (same_key k q) (Some x) (lookup (same_key q) es))
+    → from_entries {R = order} fs ≡ insert (from_entries es) k x
+insert-lookup es fs k x answers = same_map nat_list_cmp_total exact _ _ (λ q.
+    get-lookup fs q ∙ answers q ∙ ap (λ b. cond b (Some x) (lookup (same_key q) es)) (nat_list_eq_equiv.symm k q)
+    ∙ sym (get-put (from_entries es) k x q ∙ ap (cond (same_key q k) (Some x)) (get-lookup es q)))
 
-    -- the map of the entries, with f at each value, answers f of what a look-up finds
-    pub get-from_map : (es : List (K × V)) (q : K) → get (from_entries {R = R} (map (λ e. (e.0, f e.1)) es)) q ≡ option_map f (lookup (eq q) es)
-    get-from_map es q = get-from_entries o (map (λ e. (e.0, f e.1)) es) q ∙ find-map es q
+module _ {V X : Type 0} (f : V → X) where
+  -- the map of the entries, with f at each value, answers f of what a look-up finds
+  pub get-from_map : (es : List (Bytes × V)) (q : Bytes) → get (from_entries {R = order} (map (λ e. (e.0, f e.1)) es)) q ≡ option_map f (lookup (same_key q) es)
+  get-from_map es q = get-lookup (map (λ e. (e.0, f e.1)) es) q ∙ lookup-map_values f (same_key q) es
 
-    -- an insert into the list is an insert into the map
-    pub insert-from_map : IsEquivalence eq → IsAntisymmetric R → (es : List (K × V)) (k : K) (w : V)
-        → from_entries {R = R} (map (λ e. (e.0, f e.1)) (insert_entry eq es k w)) ≡ insert (from_entries (map (λ e. (e.0, f e.1)) es)) k (f w)
-    insert-from_map laws exact es k w = same_map o exact _ _ at
-      where
-        by : (q : K) (b : Bool) → option_map f (cond b (Some w) (lookup (eq q) es)) ≡ cond b (Some (f w)) (option_map f (lookup (eq q) es))
-        by q true = refl
-        by q false = refl
-
-        at : (q : K) → get (from_entries {R = R} (map (λ e. (e.0, f e.1)) (insert_entry eq es k w))) q ≡ get (insert (from_entries {R = R} (map (λ e. (e.0, f e.1)) es)) k (f w)) q
-        at q =
-            get-from_map (insert_entry eq es k w) q ∙ ap (option_map f) (lookup-insert_entry eq laws es k w q) ∙ by q (eq k q)
-            ∙ ap (λ b. cond b (Some (f w)) (option_map f (lookup (eq q) es))) (laws.symm k q ∙ ties q k)
-            ∙ sym (get-insert o (from_entries (map (λ e. (e.0, f e.1)) es)) k (f w) q ∙ ap (cond (eq_by_cmp R q k) (Some (f w))) (get-from_map es q))
+  -- an insert into the list is an insert into the map
+  pub insert-from_map : (es : List (Bytes × V)) (k : Bytes) (w : V)
+      → from_entries {R = order} (map (λ e. (e.0, f e.1)) (insert_entry same_key es k w)) ≡ insert (from_entries (map (λ e. (e.0, f e.1)) es)) k (f w)
+  insert-from_map es k w = insert-lookup (map (λ e. (e.0, f e.1)) es) (map (λ e. (e.0, f e.1)) (insert_entry same_key es k w)) k (f w) (λ q.
+      lookup-map_values f (same_key q) (insert_entry same_key es k w)
+      ∙ ap (option_map f) (lookup-insert_entry same_key nat_list_eq_equiv es k w q) ∙ by (same_key k q) (lookup (same_key q) es)
+      ∙ ap (cond (same_key k q) (Some (f w))) (sym (lookup-map_values f (same_key q) es)))
+    where
+      by : (b : Bool) (o : Option V) → option_map f (cond b (Some w) o) ≡ cond b (Some (f w)) (option_map f o)
+      by true o = refl
+      by false o = refl

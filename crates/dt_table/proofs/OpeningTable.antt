@@ -2,15 +2,10 @@
 use Rattle.std.proofs.Common.{◌≡◌, ℕ, zero, suc, ◌+◌, ◌<◌, false, cond, List, [], ◌∷◌, ◌++◌, map, length, take, get_or, refl, sym, ap, ◌∙◌, arith}
 use Rattle.std.proofs.lemmas.List.{map-id, map-append, take_more}
 use Rattle.indexmap.specs.IndexMap.{insert_entry}
-use Rattle.dt_lists.specs.Lists.{AllIn}
+use Rattle.dt_lists.proofs.Callers.{all_get, all_of_image, has_at}
 use Rattle.dt_access.specs.Clash.{Bytes, same_key}
 use Rattle.dt_access.specs.Orders.{HasDistinctKeys}
 use Rattle.dt_access.proofs.Callers.{same_key_other}
-
-at_place : {A : Type 0} (P : Bytes → Type 0) (xs : List (Bytes × A)) (i : ℕ) (d : Bytes × A) → AllIn P (map (λ e. e.0) xs) → i < length xs → P (get_or xs i d).0
-at_place P [] i d all within = absurd (omega arith)
-at_place P (x ∷ xs) zero d all within = all.0
-at_place P (x ∷ xs) (suc i) d all within = at_place P xs i d all.1 (omega arith)
 
 module _ {A B : Type 0} (entry : Bytes × A → Bytes × B) (same : (e : Bytes × A) → (entry e).0 ≡ e.0) where
   -- the entry of a key that none of the entries before it has goes last
@@ -20,7 +15,9 @@ module _ {A B : Type 0} (entry : Bytes × A → Bytes × B) (same : (e : Bytes �
   insert_entry-next (x ∷ xs) zero d w distinct within = refl
   insert_entry-next (x ∷ xs) (suc i) d w distinct within =
       let key = (get_or xs i d).0 in
-      let apart : same_key key (entry x).0 ≡ false = ap (same_key key) (same x) ∙ same_key_other key x.0 (λ e. at_place (λ y. ¬ (x.0 ≡ y)) xs i d distinct.0 (omega arith) (sym e)) in
+      let others = all_of_image (λ y. ¬ (x.0 ≡ y)) (λ e. e.0) xs distinct.0 in
+      let other : ¬ (x.0 ≡ key) = all_get (λ e. ¬ (x.0 ≡ e.0)) xs others (get_or xs i d) (has_at xs i d (omega arith)) in
+      let apart : same_key key (entry x).0 ≡ false = ap (same_key key) (same x) ∙ same_key_other key x.0 (λ e. other (sym e)) in
       ap (λ b. cond b (((entry x).0, w) ∷ map entry (take i xs)) (entry x ∷ insert_entry same_key (map entry (take i xs)) key w)) apart
       ∙ ap (λ l. entry x ∷ l) (insert_entry-next xs i d w distinct.1 (omega arith))
 

@@ -6,9 +6,9 @@ use Rattle.std.specs.Cmp.Lexicographic.{nat_list_cmp_total, texts_ties, bytes_de
 use Rattle.std.specs.List.{IsDistinct, AllByRecursion, list_any}
 use Rattle.std.specs.List.Sorted.{IsSortedBy}
 use Rattle.std.specs.Map.{lookup, keys_of}
-use Rattle.std.specs.FinMap.{FinMap, get, keys, retain_keys, contains_key-keys, get-from_entries, get-retain_keys, same_map}
-use Rattle.std.specs.FinMap.{IsAntisymmetric, slice_cmp-IsAntisymmetric, nat_cmp-IsAntisymmetric}
+use Rattle.std.specs.FinMap.{FinMap, get, keys, retain_keys, contains_key-keys, get-retain_keys, same_map}
 use Rattle.std.specs.Option.{option_map}
+use Rattle.std.proofs.Math.Bool.{and-false, or-true}
 use Rattle.std.proofs.lemmas.List.Folds.{list_any-append}
 use Rattle.std.proofs.lemmas.List.Sorted.{IsPermutation-map}
 use Rattle.dt_lists.specs.Lists.{AllIn}
@@ -22,7 +22,7 @@ use Rattle.dt_table.specs.StoredMovesInner.{history, table_view, IsSoundTable}
 use Rattle.dt_table.specs.declared.stored.StoredUnit.{StoredUnit}
 use Rattle.dt_table.specs.declared.table.Table.TheInside.{Inside}
 use Rattle.dt_table.proofs.Entries.{get-from_map}
-use Rattle.dt_table.proofs.SortedEntries.{order, find-lookup, in_order-sorted, IsSortedBy-map}
+use Rattle.dt_table.proofs.SortedEntries.{order, exact, get-lookup, in_order-sorted, IsSortedBy-map}
 use Rattle.dt_table.proofs.StoredUnits.{value_of-view, unit_in, FitsMoves-found, counter_of-found, moves_of-absent}
 use Rattle.dt_access.proofs.Callers.{same_key_self}
 
@@ -45,12 +45,8 @@ pub each_of_them : (ks : List Bytes) → AllIn (λ k. list_any (same_key k) ks �
 each_of_them [] = tt
 each_of_them (k ∷ ks) = (
   ap (λ b. b || list_any (same_key k) ks) (same_key_self k),
-  all_map _ _ ks (λ q h. ap (λ b. same_key q k || b) h ∙ or_true (same_key q k)) (each_of_them ks),
+  all_map _ _ ks (λ q h. ap (λ b. same_key q k || b) h ∙ or-true (same_key q k)) (each_of_them ks),
 )
-  where
-    or_true : (b : Bool) → (b || true) ≡ true
-    or_true true = refl
-    or_true false = refl
 
 -- two lists without a common key, each without the same key twice, have none twice together
 pub distinct_append : (xs ys : List Bytes) → IsDistinct same_key xs → IsDistinct same_key ys → AllIn (λ x. list_any (same_key x) ys ≡ false) xs → IsDistinct same_key (xs ++ ys)
@@ -120,7 +116,7 @@ keys_of-set (k ∷ ks) = ap (λ l. k ∷ l) (keys_of-set ks)
 
 -- a set has a key where the list has it
 get-set : (ks : List Bytes) (q : Bytes) → get (set_of_keys ks) q ≡ cond (list_any (same_key q) ks) there None
-get-set ks q = get-from_entries nat_list_cmp_total (map in_set ks) q ∙ find-lookup (map in_set ks) q ∙ at ks
+get-set ks q = get-lookup (map in_set ks) q ∙ at ks
   where
     at : (ks : List Bytes) → lookup (same_key q) (map in_set ks) ≡ cond (list_any (same_key q) ks) there None
     at [] = refl
@@ -151,8 +147,9 @@ module _ (a : Inside) (sound : IsSoundTable a) (vd : IsDistinct same_key (keys_o
   abbrev pub collected : List Bytes
   collected = keys_with_value vals ++ moved_without_value vals units
 
-  abbrev moved_in : Bytes → Bool
-  moved_in q = passes_at (λ k (s : StoredUnit). nat_lt 0 s.counter && not (has_value vals k)) q (lookup (same_key q) units)
+  -- whether a unit was moved and has no value as a key
+  abbrev is_bare : Bytes → StoredUnit → Bool
+  is_bare key s = nat_lt 0 s.counter && not (has_value vals key)
 
   any-keys_with_value : (q : Bytes) → list_any (same_key q) (keys_with_value vals) ≡ has_value vals q
   any-keys_with_value q = kept_any (λ k v. is_some v) vals q vd ∙ by (lookup (same_key q) vals)
@@ -161,22 +158,18 @@ module _ (a : Inside) (sound : IsSoundTable a) (vd : IsDistinct same_key (keys_o
       by None = refl
       by (Some v) = refl
 
-  any-moved : (q : Bytes) → list_any (same_key q) (moved_without_value vals units) ≡ moved_in q
-  any-moved q = kept_any (λ k (s : StoredUnit). nat_lt 0 s.counter && not (has_value vals k)) units q ud
-
-  and_false : (b : Bool) → (b && false) ≡ false
-  and_false true = refl
-  and_false false = refl
+  any-moved : (q : Bytes) → list_any (same_key q) (moved_without_value vals units) ≡ passes_at is_bare q (lookup (same_key q) units)
+  any-moved q = kept_any is_bare units q ud
 
   -- no key is collected twice
   collected_distinct : IsDistinct same_key collected
   collected_distinct =
-      distinct_append (keys_with_value vals) (moved_without_value vals units) (kept_distinct (λ k v. is_some v) vals vd) (kept_distinct (λ k (s : StoredUnit). nat_lt 0 s.counter && not (has_value vals k)) units ud)
+      distinct_append (keys_with_value vals) (moved_without_value vals units) (kept_distinct (λ k v. is_some v) vals vd) (kept_distinct is_bare units ud)
       (all_map _ _ (keys_with_value vals) (λ q h. any-moved q ∙ by q (sym (any-keys_with_value q) ∙ h) (lookup (same_key q) units)) (each_of_them (keys_with_value vals)))
     where
-      by : (q : Bytes) → has_value vals q ≡ true → (o : Option StoredUnit) → passes_at (λ k (s : StoredUnit). nat_lt 0 s.counter && not (has_value vals k)) q o ≡ false
+      by : (q : Bytes) → has_value vals q ≡ true → (o : Option StoredUnit) → passes_at is_bare q o ≡ false
       by q has None = refl
-      by q has (Some s) = ap (λ b. nat_lt 0 s.counter && not b) has ∙ and_false (nat_lt 0 s.counter)
+      by q has (Some s) = ap (λ b. nat_lt 0 s.counter && not b) has ∙ and-false (nat_lt 0 s.counter)
 
   -- what is known of a key where its unit is looked up: whether it is a unit, and whether it was moved
   abbrev AgreesWith : Option StoredUnit → Bool → Bool → Type 0
@@ -207,7 +200,7 @@ module _ (a : Inside) (sound : IsSoundTable a) (vd : IsDistinct same_key (keys_o
   cases q (Some (Some v)) unit is_unit was_moved f = refl
   cases q (Some None) None is_unit was_moved f = ap (λ b. b && true) (sym f)
   cases q (Some None) (Some s) is_unit was_moved f = ap (λ b. b && true) (sym (ap₂ ◌&&◌ f.0 f.1))
-  cases q None None is_unit was_moved f = sym (and_false (is_unit && was_moved))
+  cases q None None is_unit was_moved f = sym (and-false (is_unit && was_moved))
   cases q None (Some s) is_unit was_moved f = ap (λ b. b && true) (sym (ap₂ ◌&&◌ f.0 f.1))
 
   -- a key that is collected is shown, and stands in one of the maps; and the other way round
@@ -222,17 +215,14 @@ module _ (a : Inside) (sound : IsSoundTable a) (vd : IsDistinct same_key (keys_o
       shown = ap (λ v. is_some v || (same_key (unit_of a.version q) q && nat_lt 0 (counter_of t q))) (value_of-view a q)
 
       in_values : list_any (same_key q) (keys t.values) ≡ is_some (lookup (same_key q) vals)
-      in_values = any-keys t.values q ∙ ap is_some (get-from_entries nat_list_cmp_total vals q ∙ find-lookup vals q)
+      in_values = any-keys t.values q ∙ ap is_some (get-lookup vals q)
 
       is_mapped : (o : Option StoredUnit) → is_some (option_map (λ (s : StoredUnit). history a.moves.items s.last) o) ≡ is_some o
       is_mapped None = refl
       is_mapped (Some s) = refl
 
       in_moves : list_any (same_key q) (keys t.moves) ≡ is_some (lookup (same_key q) units)
-      in_moves = any-keys t.moves q ∙ ap is_some (get-from_map nat_list_cmp_total texts_ties (λ (s : StoredUnit). history a.moves.items s.last) units q) ∙ is_mapped (lookup (same_key q) units)
-
-  exact : IsAntisymmetric order
-  exact = slice_cmp-IsAntisymmetric nat_cmp-IsAntisymmetric
+      in_moves = any-keys t.moves q ∙ ap is_some (get-from_map (λ (s : StoredUnit). history a.moves.items s.last) units q) ∙ is_mapped (lookup (same_key q) units)
 
   -- so the set of what is collected is that of what is shown
   same_sets : set_of_keys collected ≡ retain_keys (set_of_keys (keys t.values ++ keys t.moves)) (is_shown t)

@@ -7,7 +7,8 @@ use Rattle.std.specs.Cmp.Lexicographic.{slice_cmp, nat_list_cmp_total, nat_list_
 use Rattle.std.specs.List.{IsDistinct, AllByRecursion}
 use Rattle.std.specs.List.Sorted.{IsSortedBy, IsStrictlySortedBy}
 use Rattle.std.specs.Map.{lookup, keys_of}
-use Rattle.std.specs.FinMap.{entries, from_entries, from_sorted, is_sorted, entries-from_sorted, get-from_sorted, get-from_entries, same_map, slice_cmp-IsAntisymmetric, nat_cmp-IsAntisymmetric}
+use Rattle.std.specs.FinMap.{entries, from_entries, from_sorted, is_sorted, entries-from_sorted, get, get-from_sorted, get-from_entries, same_map}
+use Rattle.std.specs.FinMap.{IsAntisymmetric, slice_cmp-IsAntisymmetric, nat_cmp-IsAntisymmetric}
 use Rattle.std.specs.FinMap.Entries.{find, below_all}
 use Rattle.std.proofs.lemmas.List.{get_or-map, length-map}
 use Rattle.std.proofs.lemmas.List.Sorted.{IsPermutation-map}
@@ -18,10 +19,18 @@ use Rattle.dt_access.specs.Clash.{Bytes, same_key}
 abbrev pub order : Bytes → Bytes → Ordering
 order = slice_cmp nat_cmp
 
+-- keys that neither order before the other are the same
+pub exact : IsAntisymmetric order
+exact = slice_cmp-IsAntisymmetric nat_cmp-IsAntisymmetric
+
 -- `find` finds what a look-up by `==` finds
-pub find-lookup : {V : Type 0} (es : List (Bytes × V)) (q : Bytes) → find order q es ≡ lookup (same_key q) es
+find-lookup : {V : Type 0} (es : List (Bytes × V)) (q : Bytes) → find order q es ≡ lookup (same_key q) es
 find-lookup [] q = refl
 find-lookup (e ∷ es) q = ap (λ b. cond b (Some e.1) (find order q es)) (sym (texts_ties q e.0)) ∙ ap (cond (same_key q e.0) (Some e.1)) (find-lookup es q)
+
+-- so the map of the entries gives what a look-up finds
+pub get-lookup : {V : Type 0} (es : List (Bytes × V)) (q : Bytes) → get (from_entries {R = order} es) q ≡ lookup (same_key q) es
+get-lookup es q = get-from_entries nat_list_cmp_total es q ∙ find-lookup es q
 
 both : (a b : Bool) → T a → T b → T (a && b)
 both true b p q = q
@@ -64,10 +73,10 @@ in_order-sorted {V} es ps moves distinct sorted =
     let now = IsDistinct-IsPermutation same_key nat_list_eq_equiv.symm (keys_of es) (keys_of ps) (IsPermutation-map (λ (e : Bytes × V). e.0) es ps moves) distinct in
     let rising = is_sorted-from_strict ps (strict ps sorted now) in
     sym (entries-from_sorted order ps rising)
-    ∙ ap entries (same_map nat_list_cmp_total (slice_cmp-IsAntisymmetric nat_cmp-IsAntisymmetric) (from_sorted ps) (from_entries es) (λ q.
+    ∙ ap entries (same_map nat_list_cmp_total exact (from_sorted ps) (from_entries es) (λ q.
     get-from_sorted order ps q rising ∙ find-lookup ps q
     ∙ lookup_permutation nat_list_eq_equiv es ps moves now (same_key q) (λ x y. nat_list_eq_equiv.congr q x y)
-    ∙ sym (find-lookup es q) ∙ sym (get-from_entries nat_list_cmp_total es q)))
+    ∙ sym (get-lookup es q)))
 
 -- a list of references, sorted by what they refer to
 pub IsSortedBy-map : {A B : Type 0} (f : A → B) (lt : B → B → Bool) (xs : List A) → IsSortedBy (λ x y. lt (f x) (f y)) xs → IsSortedBy lt (map f xs)

@@ -1,13 +1,13 @@
 -- What a table shows of each key, by the values and the units that it keeps.
 use Rattle.std.proofs.Common.{◌^◌, ◌≡◌, ℕ, zero, suc, ◌+◌, ◌<◌, ◌≤◌, ◌↔◌, slice_get, is_some, IsSome, List, [], ◌∷◌, ◌++◌, map, length}
-use Rattle.std.proofs.Common.{refl, sym, ap, ◌∙◌, subst, arith, length-append, Option, Some, None, unwrap_or}
+use Rattle.std.proofs.Common.{refl, sym, ap, ◌∙◌, subst, arith, Option, Some, None, unwrap_or}
 use Rattle.std.specs.Option.{option_map}
-use Rattle.std.specs.Ordering.{nat_cmp}
-use Rattle.std.specs.Cmp.Lexicographic.{slice_cmp, nat_list_cmp_total, nat_list_eq_equiv, texts_ties, bytes_decides}
+use Rattle.std.specs.Cmp.Lexicographic.{bytes_decides}
 use Rattle.std.specs.Map.{lookup}
-use Rattle.std.specs.FinMap.{from_entries, get-from_entries, insert, IsAntisymmetric, slice_cmp-IsAntisymmetric, nat_cmp-IsAntisymmetric}
+use Rattle.std.specs.FinMap.{from_entries, insert}
 use Rattle.indexmap.specs.IndexMap.{insert_entry}
 use Rattle.dt_lists.specs.Lists.{AllIn}
+use Rattle.dt_lists.proofs.Callers.{length_more}
 use Rattle.dt_access.specs.Clash.{Bytes, same_key}
 use Rattle.dt_access.specs.Granules.{IsUnit, unit_of}
 use Rattle.dt_text.specs.Texts.{IsKey}
@@ -19,18 +19,15 @@ use Rattle.dt_table.specs.declared.stored.StoredMove.{StoredMove}
 use Rattle.dt_table.specs.declared.stored.StoredUnit.{StoredUnit}
 use Rattle.dt_table.specs.declared.table.Table.TheInside.{Inside}
 use Rattle.dt_table.proofs.Entries.{get-from_map, insert-from_map, AllIn-insert_entry, AllIn-lookup}
-use Rattle.dt_table.proofs.SortedEntries.{find-lookup}
+use Rattle.dt_table.proofs.SortedEntries.{get-lookup}
 use Rattle.dt_table.proofs.TableLaws.{home_after-append}
-use Rattle.dt_table.proofs.MoveHistories.{history-push_other, history-push_new, AreLinked-push, mover_in-next, IsSome-mover_in}
-
-exact : IsAntisymmetric (slice_cmp nat_cmp)
-exact = slice_cmp-IsAntisymmetric nat_cmp-IsAntisymmetric
+use Rattle.dt_table.proofs.MoveHistories.{history-push_other, history-push_new, AreLinked-push, IsBelow-more, mover_in-next, IsSome-mover_in}
 
 -- ---- values
 
 -- the value of a key is the one that stands in the map
 pub value_of-view : (a : Inside) (key : Bytes) → value_of (table_view a).state key ≡ unwrap_or (lookup (same_key key) a.values.entries) None
-value_of-view a key = ap (λ o. unwrap_or o None) (get-from_entries nat_list_cmp_total a.values.entries key ∙ find-lookup a.values.entries key)
+value_of-view a key = ap (λ o. unwrap_or o None) (get-lookup a.values.entries key)
 
 -- ---- units
 
@@ -55,7 +52,7 @@ module _ (a : Inside) where
   -- it has the moves of the key
   moves_of-view : (key : Bytes) (found : Option StoredUnit) → unit_in key ≡ found → moves_of state key ≡ unwrap_or (option_map (λ s. history moves s.last) found) []
   moves_of-view key found is =
-      ap (λ o. unwrap_or o []) (get-from_map nat_list_cmp_total texts_ties (λ (s : StoredUnit). history moves s.last) units (unit_of a.version key)
+      ap (λ o. unwrap_or o []) (get-from_map (λ (s : StoredUnit). history moves s.last) units (unit_of a.version key)
       ∙ ap (option_map (λ (s : StoredUnit). history moves s.last)) is)
 
   pub moves_of-found : (key : Bytes) (stored : StoredUnit) → unit_in key ≡ Some stored → moves_of state key ≡ history moves stored.last
@@ -117,10 +114,6 @@ module _ (version regions : ℕ) (homes : List (Bytes × ℕ)) (moves : List Sto
       let rest = histories-pushed units all.1 in
       λ i. (e.0, same i) ∷ rest i
 
-  IsBelow-more : (last : Option ℕ) → IsBelow (length moves) last → IsBelow (length (moves ++ m ∷ [])) last
-  IsBelow-more None below = tt
-  IsBelow-more (Some place) below = omega (arith, length-append moves (m ∷ []))
-
   -- and each unit fits its moves as before
   units-pushed : (units : List (Bytes × StoredUnit)) → AllIn (FitsMoves version regions homes moves) units → AllIn (FitsMoves version regions homes (moves ++ m ∷ [])) units
   units-pushed [] all = tt
@@ -131,7 +124,7 @@ module _ (version regions : ℕ) (homes : List (Bytes × ℕ)) (moves : List Sto
           key = fits.key;
           unit = fits.unit;
           few = fits.few;
-          last = IsBelow-more e.1.last fits.last;
+          last = IsBelow-more moves m e.1.last fits.last;
           counter = fits.counter ∙ ap length same;
           home = fits.home ∙ ap (home_after (opening_home regions homes e.0)) same;
         },
@@ -177,7 +170,7 @@ module _ (a : Inside) (unit : Bytes) (target : ℕ) (by : TxnId) (sound : IsSoun
     -- the unit has one move more
     pub histories-moved : histories_of longer (insert_entry same_key (by_bytes a.units.entries) unit (moved_unit a unit target place)) ≡ (moved (table_view a).state unit target by).moves
     histories-moved =
-        insert-from_map nat_list_cmp_total texts_ties (λ (s : StoredUnit). history longer s.last) nat_list_eq_equiv exact (by_bytes a.units.entries) unit (moved_unit a unit target place)
+        insert-from_map (λ (s : StoredUnit). history longer s.last) (by_bytes a.units.entries) unit (moved_unit a unit target place)
         ∙ (λ i. insert (from_entries (histories-pushed a.version a.regions a.homes a.moves.items (pushed_move a unit target by) (by_bytes a.units.entries) sound.units i)) (sym is_unit i)
         ((grown ∙ ap (λ l. l ++ record { target = target; by = by } ∷ []) (sym moves_of-unit)) i))
 
@@ -194,8 +187,8 @@ module _ (a : Inside) (unit : Bytes) (target : ℕ) (by : TxnId) (sound : IsSoun
           key = key;
           unit = is_unit;
           few = omega (arith, counter-stored);
-          last = omega (arith, at, length-append a.moves.items (m ∷ []));
-          counter = omega (arith, fits.1, ap length grown, length-append earlier (moved_of m ∷ []));
+          last = omega (arith, at, length_more a.moves.items m);
+          counter = omega (arith, fits.1, ap length grown, length_more earlier (moved_of m));
           home = sym (ap (home_after (opening_home a.regions homes unit)) grown ∙ home_after-append (opening_home a.regions homes unit) earlier (moved_of m));
         })
 

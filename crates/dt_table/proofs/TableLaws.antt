@@ -3,9 +3,7 @@ use Rattle.std.proofs.Common.{◌≡◌, ℕ, ◌+◌, ◌<◌, ◌≤◌, ◌%�
 use Rattle.std.proofs.Common.{refl, sym, ap, ◌∙◌, arith, append-nil, length-append, Some, None, Option, unwrap_or}
 use Rattle.std.specs.Cmp.Lexicographic.{nat_list_cmp_total, texts_ties, bytes_decides}
 use Rattle.std.specs.Map.{lookup}
-use Rattle.std.specs.FinMap.{FinMap, get, get-insert, get-empty, same_map, insert, slice_cmp-IsAntisymmetric, nat_cmp-IsAntisymmetric}
-use Rattle.std.specs.Ordering.{nat_cmp}
-use Rattle.std.specs.Cmp.Lexicographic.{slice_cmp}
+use Rattle.std.specs.FinMap.{FinMap, get, get-insert, get-empty, same_map, insert}
 use Rattle.dt_lists.specs.Lists.{AllIn}
 use Rattle.dt_access.specs.Clash.{Bytes, same_key}
 use Rattle.dt_access.specs.Granules.{unit_of}
@@ -13,16 +11,16 @@ use Rattle.dt_access.specs.declared.TxnId.{TxnId}
 use Rattle.dt_text.specs.declared.Value.{Value}
 use Rattle.dt_table.specs.Table.{Moved, Table, moves_of, counter_of, home_of, opening_home, home_after, written, all_written, moved, maybe_moved, apply, opening}
 use Rattle.dt_table.specs.declared.effect.Effect.{Effect}
+use Rattle.dt_table.proofs.SortedEntries.{order, exact}
 
 -- a map with one more entry gives it at its key, and what it gave at all others
-pub get-put : {X : Type 0} (m : FinMap (slice_cmp nat_cmp) X) (key : Bytes) (x : X) (q : Bytes) → get (insert m key x) q ≡ cond (same_key q key) (Some x) (get m q)
+pub get-put : {X : Type 0} (m : FinMap order X) (key : Bytes) (x : X) (q : Bytes) → get (insert m key x) q ≡ cond (same_key q key) (Some x) (get m q)
 get-put m key x q = get-insert nat_list_cmp_total m key x q ∙ ap (λ b. cond b (Some x) (get m q)) (sym (texts_ties q key))
 
 -- tables that read equally are equal
 pub same_table : (t u : Table) → t.version ≡ u.version → t.regions ≡ u.regions → t.homes ≡ u.homes
     → ((key : Bytes) → get t.values key ≡ get u.values key) → ((unit : Bytes) → get t.moves unit ≡ get u.moves unit) → t ≡ u
 same_table t u version regions homes at_key at_unit =
-    let exact = slice_cmp-IsAntisymmetric nat_cmp-IsAntisymmetric in
     let values : t.values ≡ u.values = same_map nat_list_cmp_total exact t.values u.values at_key in
     let moves : t.moves ≡ u.moves = same_map nat_list_cmp_total exact t.moves u.moves at_unit in
     λ i. record { version = version i; regions = regions i; homes = homes i; values = values i; moves = moves i }
@@ -110,7 +108,7 @@ homes-apply effect t = keeps (λ (u : Table). u.homes) effect t (λ u key target
 -- ---- before any transaction
 
 pub moves_of-opening : (version regions : ℕ) (homes : List (Bytes × ℕ)) (rows : List (Bytes × Value)) (q : Bytes) → moves_of (opening version regions homes rows) q ≡ []
-moves_of-opening version regions homes rows q = ap (λ o. unwrap_or o []) (get-empty {X = List Moved} (slice_cmp nat_cmp) (unit_of version q))
+moves_of-opening version regions homes rows q = ap (λ o. unwrap_or o []) (get-empty {X = List Moved} order (unit_of version q))
 
 -- ---- homes are regions
 
