@@ -10,8 +10,9 @@ use Rattle.std.specs.declared.cmp.Ordering.{Ordering}
 use Rattle.std.specs.declared.cmp.Ordering.TheVariants.{Less, Equal, Greater}
 use Rattle.std.specs.Cmp.Lexicographic.{slice_cmp, bytes_decides, texts_ties, nat_list_cmp_total}
 use Rattle.std.proofs.lemmas.Bool.{or_left, or_right}
+use Rattle.std.proofs.lemmas.Option.{slice_get_within}
 use Rattle.dt_lists.specs.Lists.{AnyIn, AllIn}
-use Rattle.dt_lists.proofs.Callers.{all_map, pairwise_length, place_within}
+use Rattle.dt_lists.proofs.Callers.{all_map, pairwise_length}
 use Rattle.dt_text.specs.declared.Value.{Value}
 use Rattle.dt_access.specs.Clash.{Bytes, is_whole}
 use Rattle.dt_access.specs.Orders.{KeyBefore, HasAscendingKeys}
@@ -166,8 +167,8 @@ written_use args (d ∷ ds) (suc k) e = inr (written_use args ds k e)
 
 one_within : (params : List Kind) (n : ℕ) → length params ≡ n → (i : KeyItem) → IsSoundItem params i → IsItemWithin n i
 one_within params n e (item.Text t) s = tt
-one_within params n e (item.Param p) s = subst (λ m. p < m) e (place_within params p kind.Text s)
-one_within params n e (item.Show p) s = subst (λ m. p < m) e (place_within params p kind.Int s)
+one_within params n e (item.Param p) s = subst (λ m. p < m) e (slice_get_within params p kind.Text s)
+one_within params n e (item.Show p) s = subst (λ m. p < m) e (slice_get_within params p kind.Int s)
 
 pub items_within : (proc : ProcTree) (args : List Value) → IsSoundProc proc → Fits proc args → AllIn (λ (d : KeyDecl). AllIn (IsItemWithin (length args)) d.items) proc.keys
 items_within proc args sound fits =

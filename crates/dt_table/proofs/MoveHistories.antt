@@ -5,7 +5,7 @@ use Rattle.std.proofs.Math.ListN.{get_or-append}
 use Rattle.std.proofs.Math.Seq.{get_or-append_seam}
 use Rattle.std.proofs.lemmas.Option.{slice_get-get_or}
 use Rattle.std.specs.Option.{option_map}
-use Rattle.dt_lists.proofs.Callers.{length_more}
+use Rattle.std.proofs.lemmas.List.{length_push}
 use Rattle.dt_table.specs.Table.{Moved}
 use Rattle.dt_table.specs.StoredMovesInner.{moved_of, history_at, histories_after, history, mover_in, IsBelow, AreLinked}
 use Rattle.dt_table.specs.declared.stored.StoredMove.{StoredMove}
@@ -20,12 +20,12 @@ length-histories_after : (known : List (List Moved)) (ms : List StoredMove) → 
 length-histories_after known [] = omega arith
 length-histories_after known (m ∷ ms) =
     let h = history_at known m.before ++ moved_of m ∷ [] in
-    omega (arith, length-histories_after (known ++ h ∷ []) ms, length_more known h)
+    omega (arith, length-histories_after (known ++ h ∷ []) ms, length_push known h)
 
 -- a place below the length of a list is below that of the list with one more item
 pub IsBelow-more : {A : Type 0} (xs : List A) (x : A) (last : Option ℕ) → IsBelow (length xs) last → IsBelow (length (xs ++ x ∷ [])) last
 IsBelow-more xs x None below = tt
-IsBelow-more xs x (Some place) below = omega (arith, length_more xs x)
+IsBelow-more xs x (Some place) below = omega (arith, length_push xs x)
 
 history_at-append : (known : List (List Moved)) (h : List Moved) (last : Option ℕ) → IsBelow (length known) last → history_at (known ++ h ∷ []) last ≡ history_at known last
 history_at-append known h None below = refl
@@ -71,13 +71,13 @@ walked known [] p d linked within = absurd (omega arith)
 walked known (m ∷ ms) zero d linked within =
     let h = history_at known m.before ++ moved_of m ∷ [] in
     let hs = histories_after (known ++ h ∷ []) ms in
-    let place : length known + 0 < length (known ++ h ∷ []) = omega (arith, length_more known h) in
+    let place : length known + 0 < length (known ++ h ∷ []) = omega (arith, length_push known h) in
     history_at-histories_after (known ++ h ∷ []) ms (Some (length known + 0)) place
     ∙ ap (λ (n : ℕ). get_or (known ++ h ∷ []) n []) (add-zero (length known)) ∙ get_or-append_seam known h [] []
     ∙ ap (λ l. l ++ moved_of m ∷ []) (sym (history_at-histories_after known (m ∷ ms) m.before linked.0))
 walked known (m ∷ ms) (suc p) d linked within =
     let h = history_at known m.before ++ moved_of m ∷ [] in
-    let longer : length known + 1 ≡ length (known ++ h ∷ []) = sym (length_more known h) in
+    let longer : length known + 1 ≡ length (known ++ h ∷ []) = sym (length_push known h) in
     let place : length known + suc p ≡ length (known ++ h ∷ []) + p = omega (arith, longer) in
     ap (λ (n : ℕ). get_or (histories_after (known ++ h ∷ []) ms) n []) place
     ∙ walked (known ++ h ∷ []) ms p d (subst (λ n. AreLinked n ms) longer linked.1) (omega arith)
@@ -98,7 +98,7 @@ linked_at place (m ∷ ms) (suc p) d linked within =
 module _ (ms : List StoredMove) (p : ℕ) (d : StoredMove) (linked : AreLinked 0 ms) (within : p < length ms) where
   -- one step back: the history is one shorter
   pub length-walked : length (history ms (Some p)) ≡ length (history ms (get_or ms p d).before) + 1
-  length-walked = ap length (history-walked ms p d linked within) ∙ length_more (history ms (get_or ms p d).before) (moved_of (get_or ms p d))
+  length-walked = ap length (history-walked ms p d linked within) ∙ length_push (history ms (get_or ms p d).before) (moved_of (get_or ms p d))
 
   -- has the same earlier moves
   pub earlier-walked : (n : ℕ) → n < length (history ms (get_or ms p d).before) → slice_get (history ms (Some p)) n ≡ slice_get (history ms (get_or ms p d).before) n

@@ -5,9 +5,9 @@ use Rattle.std.specs.Option.{option_map}
 use Rattle.std.specs.Cmp.Lexicographic.{bytes_decides}
 use Rattle.std.specs.Map.{lookup}
 use Rattle.std.specs.FinMap.{from_entries, insert}
+use Rattle.std.proofs.lemmas.List.{length_push}
 use Rattle.indexmap.specs.IndexMap.{insert_entry}
 use Rattle.dt_lists.specs.Lists.{AllIn}
-use Rattle.dt_lists.proofs.Callers.{length_more}
 use Rattle.dt_access.specs.Clash.{Bytes, same_key}
 use Rattle.dt_access.specs.Granules.{IsUnit, unit_of}
 use Rattle.dt_text.specs.Texts.{IsKey}
@@ -187,8 +187,8 @@ module _ (a : Inside) (unit : Bytes) (target : ℕ) (by : TxnId) (sound : IsSoun
           key = key;
           unit = is_unit;
           few = omega (arith, counter-stored);
-          last = omega (arith, at, length_more a.moves.items m);
-          counter = omega (arith, fits.1, ap length grown, length_more earlier (moved_of m));
+          last = omega (arith, at, length_push a.moves.items m);
+          counter = omega (arith, fits.1, ap length grown, length_push earlier (moved_of m));
           home = sym (ap (home_after (opening_home a.regions homes unit)) grown ∙ home_after-append (opening_home a.regions homes unit) earlier (moved_of m));
         })
 
