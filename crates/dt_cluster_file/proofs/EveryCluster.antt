@@ -11,7 +11,7 @@ use Rattle.std.specs.Cmp.Lexicographic.{slice_cmp}
 use Rattle.std.specs.List.{AllByRecursion}
 use Rattle.std.specs.List.Sorted.{IsStrictlySortedBy}
 use Rattle.dt_lists.specs.Lists.{AllIn, Either, Pairwise}
-use Rattle.dt_lists.proofs.Callers.{either_and, either_has}
+use Rattle.dt_lists.proofs.Callers.{all_put, either_and, either_has}
 use Rattle.dt_text.specs.Texts.{Bytes, IsKey, IsStr}
 use Rattle.dt_text.proofs.Callers.{either_bytes, either_key, either_lt, either_str}
 use Rattle.dt_text.specs.declared.value.Value.{Value}
@@ -30,13 +30,14 @@ use Rattle.dt_cluster_file.specs.Numbers.{NumberEntry, GivesNumber, IsAtFault, H
 use Rattle.dt_cluster_file.specs.Rows.{IsHome, IsBadHome, IsRow, IsBadRow}
 use Rattle.dt_cluster_file.specs.File.{known_names, IsKnown, AreKnown, IsUnknownFault, HasNumbers, number_entries, IsNumberFault, GivesProcs, IsProcsFaultAt}
 use Rattle.dt_cluster_file.specs.File.{HasHomes, IsHomesFault, HasRows, IsRowsFault, IsClusterOf, IsFaultOf, IsCluster, IsClusterFault}
-use Rattle.dt_cluster_file.specs.ReaderParts.{HasShortProcs}
+use Rattle.dt_cluster_file.specs.ReaderInner.{HasShortProcs}
 use Rattle.dt_cluster.specs.declared.cluster.Cluster.{Cluster}
 use Rattle.dt_cluster_file.specs.declared.numbers.Numbers.{Numbers}
 use Rattle.dt_cluster_file.specs.declared.error.ClusterCause.{ClusterCause}
 use Rattle.dt_cluster_file.specs.declared.error.ClusterCause.TheVariants as cause
 use Rattle.dt_cluster_file.specs.declared.error.ClusterPlace.TheVariants as place
 use Rattle.dt_cluster_file.specs.declared.error.ClusterFault.{ClusterFault}
+use Rattle.dt_cluster_file.proofs.OneCluster.{pos-is}
 use Rattle.dt_cluster_file.proofs.TomlTables.{AreMembersInOrder, InOrder, IsBelowNames, document_ordered}
 
 -- ---- lists of which the first faulty item is reported
@@ -57,8 +58,7 @@ judge {A} {C} name_of Known Fine Bad decide (x ∷ xs) known = by (decide x know
 
 -- nothing is known of each item
 all_items : {A : Type 0} (xs : List A) → AllIn (λ x. Unit {0}) xs
-all_items [] = tt
-all_items (x ∷ xs) = (tt, all_items xs)
+all_items xs = all_put _ xs (λ x there. tt)
 
 -- one for each item
 chosen : {A B : Type 0} (Is : A → B → Type 0) (xs : List A) → AllIn (λ x. (y : B) × Is x y) xs → (ys : List B) × Pairwise Is xs ys
@@ -136,6 +136,10 @@ names_or n top order = by (judge (λ (e : Entry). e.0) (λ e. Unit {0}) IsKnown 
 
 -- ---- numbers
 
+-- a number below 0 is no natural number
+not_natural : {n m : ℕ} → negsuc n ≡ pos m → ⊥
+not_natural e = cc
+
 abbrev NumberOr : NumberEntry → Option Data → Type 0
 NumberOr e at = ((n : ℕ) × GivesNumber e at n) ⊎ ((c : ClusterCause) × IsAtFault e at c)
 
@@ -147,16 +151,10 @@ number_or e None = by e.absent refl
     by (Some n) is = inl (n, is)
 number_or e (Some (integer (pos n))) = by (e.allows n) refl
   where
-    same_natural : (n m : ℕ) → pos n ≡ pos m → n ≡ m
-    same_natural n m e = cc
-
     by : (b : Bool) → e.allows n ≡ b → NumberOr e (Some (integer (pos n)))
     by true is = inl (n, (refl, is))
-    by false is = inr (cause.Range, (refl, λ m same. subst (λ k. e.allows k ≡ false) (same_natural n m same) is))
-number_or e (Some (integer (negsuc n))) = inr (cause.Range, (refl, λ m same. absurd (not_natural m same)))
-  where
-    not_natural : (m : ℕ) → negsuc n ≡ pos m → ⊥
-    not_natural m e = cc
+    by false is = inr (cause.Range, (refl, λ m same. subst (λ k. e.allows k ≡ false) (pos-is same) is))
+number_or e (Some (integer (negsuc n))) = inr (cause.Range, (refl, λ m same. absurd (not_natural same)))
 number_or e (Some (string s)) = inr (cause.Kind, refl)
 number_or e (Some (float x)) = inr (cause.Kind, refl)
 number_or e (Some (boolean b)) = inr (cause.Kind, refl)
@@ -209,16 +207,10 @@ HomeOr version regions e = ((h : Bytes × ℕ) × IsHome version regions e h) �
 home_value_or : (version regions : ℕ) (name : Bytes) (d : Data) → IsUnitKey version name → HomeOr version regions (name, d)
 home_value_or version regions name (integer (pos n)) key = by (either_lt n regions)
   where
-    same_natural : (n m : ℕ) → pos n ≡ pos m → n ≡ m
-    same_natural n m e = cc
-
     by : Either (n < regions) → HomeOr version regions (name, integer (pos n))
     by (inl low) = inl ((name, n), (refl, key, refl, low))
-    by (inr high) = inr (cause.Range, inr (key, (refl, λ m same low. high (subst (λ k. k < regions) (sym (same_natural n m same)) low))))
-home_value_or version regions name (integer (negsuc n)) key = inr (cause.Range, inr (key, (refl, λ m same. absurd (not_natural m same))))
-  where
-    not_natural : (m : ℕ) → negsuc n ≡ pos m → ⊥
-    not_natural m e = cc
+    by (inr high) = inr (cause.Range, inr (key, (refl, λ m same low. high (subst (λ k. k < regions) (sym (pos-is same)) low))))
+home_value_or version regions name (integer (negsuc n)) key = inr (cause.Range, inr (key, (refl, λ m same. absurd (not_natural same))))
 home_value_or version regions name (string s) key = inr (cause.Kind, inr (key, refl))
 home_value_or version regions name (float x) key = inr (cause.Kind, inr (key, refl))
 home_value_or version regions name (boolean b) key = inr (cause.Kind, inr (key, refl))

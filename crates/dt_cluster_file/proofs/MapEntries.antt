@@ -1,7 +1,7 @@
 -- The entries of a map as those of the table that it stands for, and what the accessors of values find.
 use Rattle.std.proofs.lemmas.Bool.{false≢true}
 use Rattle.std.proofs.Common.{◌≡◌, ◌↔◌, Bool, true, false, List, [], ◌∷◌, map}
-use Rattle.std.proofs.Common.{String, Global, Less, string_bytes, nat_cmp, refl, ap}
+use Rattle.std.proofs.Common.{String, Global, Less, string_bytes, nat_cmp, refl, sym, ap, ◌∙◌}
 use Rattle.std.proofs.Common.{IsTrue, Result, Ok, Err, IfErr}
 use Rattle.std.specs.Result.{IsErrAnd}
 use Rattle.std.specs.Cmp.Lexicographic.{slice_cmp}
@@ -12,7 +12,7 @@ use Rattle.std.specs.String.{string_cmp}
 use Rattle.toml.specs.View.{view, members_view}
 use Rattle.toml.specs.declared.value.Value.{Value}
 use Rattle.dt_cluster_file.specs.Document.{Entry, entries_of, AreEntries}
-use Rattle.dt_cluster_file.specs.ReaderParts.{TellsFault}
+use Rattle.dt_cluster_file.specs.File.{TellsFault}
 use Rattle.dt_cluster_file.specs.declared.error.ClusterFault.{ClusterFault}
 use Rattle.dt_cluster_file.specs.declared.error.ClusterError.{ClusterError}
 use Rattle.dt_cluster_file.specs.declared.error.ClusterError.TheVariants.{Fault, NoMemory}
@@ -47,8 +47,7 @@ tells_more P Q more (Fault f) h = more f h
 tells_more P Q more NoMemory h = tt
 
 pub refused_by : (b : Bool) (P : Type 0) → (IsTrue b ↔ P) → b ≡ false → P → ⊥
-refused_by true P same e h = absurd cc
-refused_by false P same e h = absurd (false≢true (same.1 h))
+refused_by b P same e h = false≢true (sym e ∙ same.1 h)
 
 -- an error that is passed on
 pub err_passed : {A : Type 0} (P : ClusterError → Type 0) (r : Result A ClusterError) (e : ClusterError) → IsErrAnd r (λ y. y ≡ e) → P e → IfErr r P

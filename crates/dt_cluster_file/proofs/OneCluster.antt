@@ -11,7 +11,7 @@ use Rattle.dt_proc.specs.declared.error.ProcError.{ProcError}
 use Rattle.dt_proc.specs.declared.error.ProcError.TheVariants as refused
 use Rattle.dt_proc.proofs.Callers.{one_outcome}
 use Rattle.toml.specs.Data.{Data, string, integer, float, boolean, datetime, array, table, Members, get_member}
-use Rattle.dt_lists.proofs.Callers.{some_same}
+use Rattle.dt_lists.proofs.Callers.{none_some, some_same}
 use Rattle.dt_text.specs.Texts.{Bytes}
 use Rattle.dt_cluster_file.specs.Document.{Entry, IsDocument, AreEntries, AreEntriesAt, IsNoTable, IsFirstFaulty}
 use Rattle.dt_cluster_file.specs.Numbers.{NumberEntry, GivesNumber, IsAtFault, HasNumber, HasBadNumber, regions_entry, version_entry, workers_entry, tries_entry, drop_entry, repeat_entry}
@@ -25,10 +25,7 @@ use Rattle.dt_cluster_file.specs.declared.error.ClusterCause.TheVariants as caus
 use Rattle.dt_cluster_file.specs.declared.error.ClusterPlace.TheVariants as place
 use Rattle.dt_cluster_file.specs.declared.error.ClusterFault.{ClusterFault}
 
-none-some : {A : Type 0} {x : A} {o : Option A} → o ≡ None → o ≡ Some x → ⊥
-none-some a b = cc
-
-pos-is : {n m : ℕ} → pos n ≡ pos m → n ≡ m
+pub pos-is : {n m : ℕ} → pos n ≡ pos m → n ≡ m
 pos-is e = cc
 
 integer-is : {x y : ℤ} → integer x ≡ integer y → x ≡ y
@@ -82,7 +79,7 @@ one_number e (Some (array ds)) n m h k = absurd h
 one_number e (Some (table ms)) n m h k = absurd h
 
 number_or_fault : (e : NumberEntry) (d : Option Data) (n : ℕ) (c : ClusterCause) → GivesNumber e d n → IsAtFault e d c → ⊥
-number_or_fault e None n c h k = none-some k.1 h
+number_or_fault e None n c h k = none_some k.1 h
 number_or_fault e (Some (integer z)) n c h k = false≢true (sym (k.1 n h.0) ∙ h.1)
 number_or_fault e (Some (string s)) n c h k = h
 number_or_fault e (Some (float x)) n c h k = h

@@ -21,6 +21,8 @@ use Rattle.dt_cluster_file.specs.declared.error.ClusterCause.{ClusterCause}
 use Rattle.dt_cluster_file.specs.declared.error.ClusterCause.TheVariants as cause
 use Rattle.dt_cluster_file.specs.declared.error.ClusterPlace.TheVariants as place
 use Rattle.dt_cluster_file.specs.declared.error.ClusterFault.{ClusterFault}
+use Rattle.dt_cluster_file.specs.declared.error.ClusterError.{ClusterError}
+use Rattle.dt_cluster_file.specs.declared.error.ClusterError.TheVariants.{Fault, NoMemory}
 
 -- the names that may stand at the top of a cluster file
 abbrev pub known_names : List Bytes
@@ -152,3 +154,8 @@ abbrev pub IsClusterFault : Bytes → ClusterFault → Type 0
 IsClusterFault bytes fault =
     (((top : Members) → ¬ (IsDocument bytes top)) × (fault ≡ record { place = place.Whole; cause = cause.NotToml }))
     ⊎ ((top : Members) × IsDocument bytes top × IsFaultOf top fault)
+
+-- an error reports a true fault, or that memory ran out
+abbrev pub TellsFault : (ClusterFault → Type 0) → ClusterError → Type 0
+TellsFault IsFault (Fault fault) = IsFault fault
+TellsFault IsFault NoMemory = Unit {0}

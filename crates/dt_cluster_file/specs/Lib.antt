@@ -1,6 +1,6 @@
 pub mod Document
 pub mod File
-pub mod ReaderParts
+pub mod ReaderInner
 pub mod Laws
 pub mod Numbers
 pub mod Rows

@@ -4,7 +4,7 @@ ghost use Rattle.toml.specs.View.{view, table_view};
 ghost use Rattle.dt_cluster_file.specs.declared.error.ClusterPlace.TheVariants.{Entry, Home, Row};
 ghost use Rattle.dt_cluster_file.specs.declared.error.ClusterError.TheVariants.{Fault};
 ghost use Rattle.dt_cluster_file.specs.declared.error.ClusterFault.{ClusterFault};
-ghost use Rattle.dt_cluster_file.specs.ReaderParts.{TellsFault};
+ghost use Rattle.dt_cluster_file.specs.File.{TellsFault};
 
 use crate::error::{ClusterCause, ClusterError, ClusterFault, ClusterPlace, Label};
 use dt_text::NoMemory;
@@ -29,28 +29,35 @@ pub(crate) fn fault(place: ClusterPlace, cause: ClusterCause) -> ClusterError
 pub(crate) fn entry_fault(alloc: Global, name: &str, cause: ClusterCause) -> ClusterError
     ensures { TellsFault (λ f. f ≡ record { place = Entry name.now; cause = cause }) result }
 {
-    match Label::new(alloc, name.as_bytes()) {
-        Ok(label) => fault(ClusterPlace::Entry(label), cause),
-        Err(NoMemory) => ClusterError::NoMemory,
-    }
+    named_fault(alloc, name, ClusterPlace::Entry, cause)
 }
 
 /// The fault of a listed home, by this cause.
 pub(crate) fn home_fault(alloc: Global, name: &str, cause: ClusterCause) -> ClusterError
     ensures { TellsFault (λ f. f ≡ record { place = Home name.now; cause = cause }) result }
 {
-    match Label::new(alloc, name.as_bytes()) {
-        Ok(label) => fault(ClusterPlace::Home(label), cause),
-        Err(NoMemory) => ClusterError::NoMemory,
-    }
+    named_fault(alloc, name, ClusterPlace::Home, cause)
 }
 
 /// The fault of a listed row, by this cause.
 pub(crate) fn row_fault(alloc: Global, name: &str, cause: ClusterCause) -> ClusterError
     ensures { TellsFault (λ f. f ≡ record { place = Row name.now; cause = cause }) result }
 {
+    named_fault(alloc, name, ClusterPlace::Row, cause)
+}
+
+/// The fault at the place that `place` makes of a name, by this cause.
+fn named_fault<F: FnOnce(Label) -> ClusterPlace>(
+    alloc: Global,
+    name: &str,
+    place: F,
+    cause: ClusterCause,
+) -> ClusterError
+    requires { F.IsAlwaysCallable place }
+    ensures { TellsFault (λ f. F.post place name.now f.place × (f.cause ≡ cause)) result }
+{
     match Label::new(alloc, name.as_bytes()) {
-        Ok(label) => fault(ClusterPlace::Row(label), cause),
+        Ok(label) => fault(place(label), cause),
         Err(NoMemory) => ClusterError::NoMemory,
     }
 }

@@ -2,6 +2,7 @@ ghost use Rattle.std.specs.Prelude.{◌≡◌, IfOk};
 
 use dt_text::NoMemory;
 use std::alloc::{AllocError, AllocFailed, Global};
+use std::fmt;
 use std::marker::Model;
 
 /// The name of an entry, as the file gives it. Contracts see its bytes.
@@ -36,6 +37,17 @@ impl Label {
     }
 }
 
+impl fmt::Display for Label {
+    /// Writes the name, in which every byte that is not a visible ASCII character becomes `?`.
+    fn fmt<W: fmt::Write>(&self, f: &mut fmt::Formatter<W>) -> fmt::Result {
+        for byte in self.bytes() {
+            let shown = if byte.is_ascii_graphic() { *byte } else { b'?' };
+            f.write_char(char::from(shown))?;
+        }
+        Ok(())
+    }
+}
+
 /// Where a cluster file is at fault.
 #[derive(Debug, Drop)]
 pub enum ClusterPlace {
@@ -49,6 +61,18 @@ pub enum ClusterPlace {
     Row(Label),
     /// This byte of the procedures' text, counted from 0.
     Procs(u32),
+}
+
+impl fmt::Display for ClusterPlace {
+    fn fmt<W: fmt::Write>(&self, f: &mut fmt::Formatter<W>) -> fmt::Result {
+        match self {
+            ClusterPlace::Whole => write!(f, "file"),
+            ClusterPlace::Entry(name) => write!(f, "{name}"),
+            ClusterPlace::Home(name) => write!(f, "homes.{name}"),
+            ClusterPlace::Row(name) => write!(f, "rows.{name}"),
+            ClusterPlace::Procs(at) => write!(f, "procs byte {at}"),
+        }
+    }
 }
 
 /// What is wrong at a place of a cluster file.
@@ -80,6 +104,25 @@ pub enum ClusterCause {
     TooMany,
 }
 
+impl fmt::Display for ClusterCause {
+    fn fmt<W: fmt::Write>(&self, f: &mut fmt::Formatter<W>) -> fmt::Result {
+        match self {
+            ClusterCause::TooLong => write!(f, "too long"),
+            ClusterCause::NotToml => write!(f, "no toml"),
+            ClusterCause::Unknown => write!(f, "unknown entry"),
+            ClusterCause::Missing => write!(f, "missing"),
+            ClusterCause::Kind => write!(f, "wrong kind"),
+            ClusterCause::Range => write!(f, "out of range"),
+            ClusterCause::BadKey => write!(f, "no key"),
+            ClusterCause::BadText => write!(f, "no text"),
+            ClusterCause::Syntax => write!(f, "syntax"),
+            ClusterCause::UnknownName => write!(f, "unknown name"),
+            ClusterCause::Twice => write!(f, "name used twice"),
+            ClusterCause::TooMany => write!(f, "too many"),
+        }
+    }
+}
+
 /// The first fault of a cluster file.
 #[derive(Debug, Drop)]
 pub struct ClusterFault {
@@ -95,6 +138,17 @@ pub enum ClusterError {
     /// Memory ran out.
     NoMemory,
 }
+
+impl fmt::Display for ClusterError {
+    fn fmt<W: fmt::Write>(&self, f: &mut fmt::Formatter<W>) -> fmt::Result {
+        match self {
+            ClusterError::Fault(fault) => write!(f, "{}: {}", fault.place, fault.cause),
+            ClusterError::NoMemory => write!(f, "no memory"),
+        }
+    }
+}
+
+impl std::error::Error for ClusterError {}
 
 impl From<NoMemory> for ClusterError {
     ghost use Rattle.std.specs.Prelude.{◌≡◌};

@@ -1,8 +1,8 @@
 ghost use Rattle.std.specs.Prelude.{IfOk, IfErr};
 ghost use Rattle.toml.specs.View.{view, table_view};
 ghost use Rattle.dt_cluster_file.specs.Rows.{IsHome, IsBadHome};
-ghost use Rattle.dt_cluster_file.specs.File.{HasHomes, IsHomesFault};
-ghost use Rattle.dt_cluster_file.specs.ReaderParts.{TellsFault, IsFaultAt, AreHomesOf, IsBadHomeOf};
+ghost use Rattle.dt_cluster_file.specs.File.{HasHomes, IsHomesFault, TellsFault};
+ghost use Rattle.dt_cluster_file.specs.ReaderInner.{IsFaultAt, AreHomesOf, IsBadHomeOf};
 ghost use Rattle.dt_cluster_file.specs.declared.error.ClusterPlace.TheVariants.{Home};
 
 use crate::entries::{entry_fault, home_fault, value_at};

@@ -1,8 +1,8 @@
 ghost use Rattle.std.specs.Prelude.{IfOk, IfErr};
 ghost use Rattle.toml.specs.View.{table_view};
 ghost use Rattle.dt_cluster_file.specs.Numbers.{HasNumber, drop_entry, regions_entry, version_entry, within};
-ghost use Rattle.dt_cluster_file.specs.File.{HasNumbers, IsNumberFault};
-ghost use Rattle.dt_cluster_file.specs.ReaderParts.{IsEntryFault, TellsFault};
+ghost use Rattle.dt_cluster_file.specs.File.{HasNumbers, IsNumberFault, TellsFault};
+ghost use Rattle.dt_cluster_file.specs.ReaderInner.{IsEntryFault};
 
 use crate::entries::{entry_fault, value_at};
 use crate::error::{ClusterCause, ClusterError};

@@ -4,8 +4,8 @@ ghost use Rattle.std.specs.Prelude.{◌↔◌, ◌<◌, ◌^◌, length, IfOk, I
 ghost use Rattle.dt_lists.specs.Lists.{Has};
 ghost use Rattle.toml.specs.View.{table_view};
 ghost use Rattle.dt_proc.specs.Sound.{AreProcs};
-ghost use Rattle.dt_cluster_file.specs.File.{AreKnown, IsUnknownFault, known_names, HasProcs, IsProcsFault, IsToldAs, IsClusterOf, IsFaultOf, IsCluster, IsClusterFault};
-ghost use Rattle.dt_cluster_file.specs.ReaderParts.{HasShortProcs, TellsFault};
+ghost use Rattle.dt_cluster_file.specs.File.{AreKnown, IsUnknownFault, known_names, HasProcs, IsProcsFault, IsToldAs, IsClusterOf, IsFaultOf, IsCluster, IsClusterFault, TellsFault};
+ghost use Rattle.dt_cluster_file.specs.ReaderInner.{HasShortProcs};
 ghost use Rattle.dt_cluster.specs.Valid.{IsValidCluster};
 
 use crate::entries::{entry_fault, fault, value_at};
@@ -100,10 +100,7 @@ fn procs_of(alloc: Global, top: &Table) -> Result<Procs, ClusterError>
     let Some(text) = value.as_str() else {
         return Err(entry_fault(alloc, "procs", ClusterCause::Kind));
     };
-    match read_procs(alloc, text.as_bytes()) {
-        Ok(procs) => Ok(procs),
-        Err(error) => Err(refusal(error)),
-    }
+    read_procs(alloc, text.as_bytes()).map_err(refusal)
 }
 
 /// A fault in the procedures' text as one of the file.

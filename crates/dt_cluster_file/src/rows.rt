@@ -1,16 +1,16 @@
-ghost use Rattle.std.specs.Prelude.{◌≡◌, IfOk, IfErr, MatchOption};
+ghost use Rattle.std.specs.Prelude.{◌↔◌, IfOk, IfErr, IsTrue};
 ghost use Rattle.dt_text.specs.Texts.{IsStr};
 ghost use Rattle.toml.specs.Data.{string};
 ghost use Rattle.toml.specs.View.{view, table_view};
 ghost use Rattle.dt_cluster_file.specs.Rows.{IsRow, IsBadRow, IsNoValue, IsValue};
-ghost use Rattle.dt_cluster_file.specs.File.{HasRows, IsRowsFault};
-ghost use Rattle.dt_cluster_file.specs.ReaderParts.{TellsFault, IsFaultAt, AreRowsOf, IsBadRowOf};
+ghost use Rattle.dt_cluster_file.specs.File.{HasRows, IsRowsFault, TellsFault};
+ghost use Rattle.dt_cluster_file.specs.ReaderInner.{IsFaultAt, AreRowsOf, IsBadRowOf};
 ghost use Rattle.dt_cluster_file.specs.declared.error.ClusterPlace.TheVariants.{Row};
 
 use crate::entries::{entry_fault, row_fault, value_at};
 use crate::error::{ClusterCause, ClusterError};
 use dt_cluster::RowList;
-use dt_text::{Key, Listed, NoMemory, Str, StrError, Value};
+use dt_text::{Key, Listed, Str, Value, is_text_byte};
 use std::alloc::Global;
 use toml::Table;
 
@@ -71,23 +71,15 @@ fn text_value(alloc: Global, name: &str, text: &str) -> Result<Value, ClusterErr
     ensures ok { IfOk result (IsValue (string text.now)) }
     ensures fault { IfErr result (TellsFault (IsFaultAt (Row name.now) (IsNoValue (string text.now)))) }
 {
-    match read_text(alloc, text.as_bytes())? {
-        Some(text) => Ok(Value::Text(text)),
-        None => Err(row_fault(alloc, name, ClusterCause::BadText)),
+    if !is_text(text.as_bytes()) {
+        return Err(row_fault(alloc, name, ClusterCause::BadText));
     }
+    Ok(Value::Text(Str::new(alloc, text.as_bytes())?))
 }
 
-/// The text of these bytes; `None` exactly where they are not a text.
-fn read_text(alloc: Global, bytes: &[u8]) -> Result<Option<Str>, NoMemory>
-    ensures { IfOk result (λ text. MatchOption text (¬ IsStr bytes.now) (λ t. IsStr t × (t ≡ bytes.now))) }
+/// Whether the bytes are those of a text.
+fn is_text(bytes: &[u8]) -> bool
+    ensures { IsTrue result ↔ IsStr bytes.now }
 {
-    if bytes.len() > Str::LONGEST {
-        return Ok(None);
-    }
-    match Str::read(alloc, bytes) {
-        Ok(text) => Ok(Some(text)),
-        Err(StrError::NoMemory) => Err(NoMemory),
-        Err(StrError::Long) => Ok(None),
-        Err(StrError::BadByte(_)) => Ok(None),
-    }
+    bytes.len() <= Str::LONGEST && bytes.iter().all(|byte| is_text_byte(*byte))
 }

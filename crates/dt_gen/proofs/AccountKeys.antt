@@ -1,7 +1,8 @@
 -- The keys of the accounts, and the names of the sessions: that they are keys and names, and all different.
-use Rattle.std.proofs.Common.{◌≡◌, ℕ, ◌+◌, ◌/◌, ◌%◌, ◌<◌, ◌≤◌, Bool, true, false, ◌&&◌, nat_lt, nat_le, length, get_or, drop, map, refl, ap, arith}
+use Rattle.std.proofs.Common.{◌≡◌, ℕ, ◌+◌, ◌/◌, ◌%◌, ◌<◌, ◌≤◌, Bool, true, ◌&&◌, nat_lt, nat_le, length, get_or, drop, map, refl, ap, arith}
 use Rattle.std.specs.List.{list_all, range_with_len}
 use Rattle.std.specs.Fmt.{digits}
+use Rattle.std.proofs.lemmas.Bool.{and_parts}
 use Rattle.std.proofs.lemmas.Bool.Decides.{nat_tests}
 use Rattle.std.proofs.lemmas.Fmt.{decimal_injective}
 use Rattle.std.proofs.lemmas.List.FromFn.{length-map-range_with_len, get_or-map-range_with_len}
@@ -14,18 +15,14 @@ use Rattle.dt_gen.proofs.Ranges.{each_passes}
 is_key_and_text : Bytes → Bool
 is_key_and_text bs = nat_lt 0 (length bs) && (nat_le (length bs) 128 && (list_all is_key_byte bs && list_all is_text_byte bs))
 
-both : (a b : Bool) → (a && b) ≡ true → (a ≡ true) × (b ≡ true)
-both true b e = (refl, e)
-both false b e = absurd cc
-
 key_and_text : (bs : Bytes) → is_key_and_text bs ≡ true → IsKey bs × IsStr bs
 unfolding is_key_and_text
 key_and_text bs e =
     let keyed = list_all is_key_byte bs in
     let written = list_all is_text_byte bs in
-    let some = both (nat_lt 0 (length bs)) (nat_le (length bs) 128 && (keyed && written)) e in
-    let few = both (nat_le (length bs) 128) (keyed && written) some.1 in
-    let bytes = both keyed written few.1 in
+    let some = and_parts (nat_lt 0 (length bs)) (nat_le (length bs) 128 && (keyed && written)) e in
+    let few = and_parts (nat_le (length bs) 128) (keyed && written) some.1 in
+    let bytes = and_parts keyed written few.1 in
     let lower : 0 < length bs = grind (arith, nat_tests, some.0) in
     let upper : length bs ≤ 128 = grind (arith, nat_tests, few.0) in
     ((lower, upper, bytes.0), (omega arith, bytes.1))
@@ -60,8 +57,8 @@ is_name bs = nat_lt 0 (length bs) && (nat_le (length bs) 32 && list_all is_name_
 name_of_test : (bs : Bytes) → is_name bs ≡ true → IsName bs
 unfolding is_name
 name_of_test bs e =
-    let some = both (nat_lt 0 (length bs)) (nat_le (length bs) 32 && list_all is_name_byte bs) e in
-    let few = both (nat_le (length bs) 32) (list_all is_name_byte bs) some.1 in
+    let some = and_parts (nat_lt 0 (length bs)) (nat_le (length bs) 32 && list_all is_name_byte bs) e in
+    let few = and_parts (nat_le (length bs) 32) (list_all is_name_byte bs) some.1 in
     let lower : 0 < length bs = grind (arith, nat_tests, some.0) in
     let upper : length bs ≤ 32 = grind (arith, nat_tests, few.0) in
     (lower, upper, few.1)

@@ -1,9 +1,10 @@
 -- Numbers in a row: what holds of each, when what is made of them is distinct, and sums over them.
-use Rattle.std.proofs.Common.{◌≡◌, ◌≢◌, ℕ, zero, suc, ◌+◌, ◌<◌, ◌≤◌, Bool, true, false, cond, ◌&&◌, ◌==◌, List, [], ◌∷◌, ◌++◌, map, refl, sym, ap, ◌∙◌, arith}
+use Rattle.std.proofs.Common.{◌≡◌, ◌≢◌, ℕ, zero, suc, ◌+◌, ◌<◌, ◌≤◌, Bool, true, false, cond, ◌==◌, List, [], ◌∷◌, ◌++◌, map, refl, sym, ap, ◌∙◌, arith}
 use Rattle.std.specs.List.{range_with_len, sum_by, count_by, list_all}
 use Rattle.std.proofs.lemmas.List.Sums.{sum_by-cons}
 use Rattle.std.proofs.lemmas.List.FromFn.{map-range_with_len_more}
 use Rattle.std.proofs.lemmas.List.{map-id}
+use Rattle.std.proofs.lemmas.Bool.{and_parts}
 use Rattle.std.proofs.lemmas.Bool.Decides.{nat_tests}
 use Rattle.dt_lists.specs.Lists.{AllIn, Distinct}
 
@@ -16,13 +17,9 @@ all_in_row P a (suc n) each = (each a (omega arith) (omega arith), all_in_row P 
 pub each_passes : (test : ℕ → Bool) (a n : ℕ) → list_all test (range_with_len a n) ≡ true → (q : ℕ) → a ≤ q → q < a + n → test q ≡ true
 each_passes test a zero all q low high = absurd (omega arith)
 each_passes test a (suc n) all q low high =
-    let two : (test a ≡ true) × (list_all test (range_with_len (a + 1) n) ≡ true) = both (test a) (list_all test (range_with_len (a + 1) n)) all in
+    let two : (test a ≡ true) × (list_all test (range_with_len (a + 1) n) ≡ true) = and_parts (test a) (list_all test (range_with_len (a + 1) n)) all in
     by (q == a) refl two.0 (λ above. each_passes test (a + 1) n two.1 q above (omega arith))
   where
-    both : (b c : Bool) → (b && c) ≡ true → (b ≡ true) × (c ≡ true)
-    both true c e = (refl, e)
-    both false c e = absurd cc
-
     by : (same : Bool) → (q == a) ≡ same → test a ≡ true → (a + 1 ≤ q → test q ≡ true) → test q ≡ true
     by true e here later = let is : q ≡ a = grind (arith, nat_tests) in ap test is ∙ here
     by false e here later = later (grind (arith, nat_tests))
@@ -71,8 +68,3 @@ sum_by-both f g (x ∷ xs) =
     let ones = sum_by-cons f x xs in
     let others = sum_by-cons g x xs in
     omega (arith, all, ones, others, sum_by-both f g xs)
-
--- sums of equal things
-pub sum_by-same : {X : Type 0} (f g : X → ℕ) (xs : List X) → ((x : X) → f x ≡ g x) → sum_by f xs ≡ sum_by g xs
-sum_by-same f g [] same = refl
-sum_by-same f g (x ∷ xs) same = sum_by-cons f x xs ∙ ap (λ n. n + sum_by f xs) (same x) ∙ ap (λ n. g x + n) (sum_by-same f g xs same) ∙ sym (sum_by-cons g x xs)

@@ -15,9 +15,10 @@ use Rattle.dt_workload.specs.Valid.{calls_in, IsValidSession, IsValidWorkload, R
 use Rattle.dt_workload.specs.declared.workload.Wanted.TheVariants.{Move}
 use Rattle.dt_workload.specs.declared.Session.{Session}
 use Rattle.dt_gen.specs.Load.{account, account_numbers, account_row, load_call, load_calls, load_cluster, load_session, load_workload, session_name, session_numbers, wanted_by, transfer_call}
-use Rattle.dt_gen.proofs.Ranges.{all_in_row, distinct_row, once_in_row, sum_by-both, sum_by-same}
+use Rattle.dt_gen.proofs.Ranges.{all_in_row, distinct_row, once_in_row, sum_by-both}
 use Rattle.dt_gen.proofs.AccountKeys.{account_apart, account_key, session_apart, session_name_is}
 use Rattle.dt_gen.proofs.OneCallMore.{calls_more, sessions_length}
+use Rattle.dt_gen.proofs.Totals.{sum_stays}
 
 -- what holds of each number of an account
 pub all_accounts : (P : ℕ → Type 0) → ((q : ℕ) → q < 100 → P q) → AllIn P account_numbers
@@ -81,7 +82,7 @@ sessions_more : (n : ℕ) → sum_by (λ j. length (load_calls (n + 1) j)) sessi
 sessions_more n =
     let had : ℕ → ℕ = λ j. length (load_calls n j) in
     let gets : ℕ → ℕ = λ j. cond (n % 64 == j) 1 0 in
-    let same = sum_by-same (λ j. length (load_calls (n + 1) j)) (λ j. had j + gets j) session_numbers each in
+    let same = sum_stays (λ j. had j + gets j) (λ j. length (load_calls (n + 1) j)) session_numbers (λ j there. each j) in
     let parted = sum_by-both had gets session_numbers in
     omega (arith, same, parted, one_turn n)
   where

@@ -1,12 +1,12 @@
 -- The text of a report determines its events.
-use Rattle.std.proofs.Common.{◌≡◌, ◌≢◌, ℕ, suc, ◌+◌, ◌<◌, Bool, true, false, true≢false, not, ◌&&◌, ◌==◌, List, []}
+use Rattle.std.proofs.Common.{◌≡◌, ◌≢◌, ℕ, suc, ◌+◌, ◌<◌, true, false, true≢false, not, ◌==◌, List, []}
 use Rattle.std.proofs.Common.{◌∷◌, ◌++◌, length, map, codes, pos, negsuc, Option, Some, None, refl, sym, ap, subst, ◌∙◌, arith, append_assoc, append-nil}
 use Rattle.std.specs.Prelude.{flat_map}
 use Rattle.std.specs.List.{join_with_byte, list_all, enumerate_from}
 use Rattle.std.specs.Char.{digit_value}
 use Rattle.std.specs.Fmt.{decimal}
 use Rattle.std.specs.Str.Parse.{AllDigits}
-use Rattle.std.proofs.lemmas.Bool.{and_from, and_parts}
+use Rattle.std.proofs.lemmas.Bool.{and_from, and_parts, and_right}
 use Rattle.std.proofs.lemmas.Bool.Decides.{nat_tests}
 use Rattle.std.proofs.lemmas.List.Concat.{flat_map-append}
 use Rattle.std.proofs.lemmas.List.Folds.{list_all-append}
@@ -21,7 +21,7 @@ use Rattle.dt_access.specs.declared.TxnId.{TxnId}
 use Rattle.dt_access.specs.Ids.{id_text}
 use Rattle.dt_events.specs.declared.Event.{Event}
 use Rattle.dt_events.specs.Events.{event_line, AreEvents}
-use Rattle.dt_events.proofs.Callers.{reads_back, within_line}
+use Rattle.dt_events.proofs.Callers.{all_weaker, reads_back, within_line}
 use Rattle.dt_eval.specs.declared.Cause.{Cause}
 use Rattle.dt_eval.specs.declared.Cause.TheVariants.{Word, Overflow, Zero, Kind, Long}
 use Rattle.dt_table.specs.declared.Shown.{Shown}
@@ -39,11 +39,6 @@ use Rattle.dt_report.specs.Laws.{TextsTellEvents}
 -- each byte is one that a text may have
 abbrev HasTextBytes : List ℕ → Type 0
 HasTextBytes bs = list_all is_text_byte bs ≡ true
-
-all_weaker : (p q : ℕ → Bool) → ((b : ℕ) → p b ≡ true → q b ≡ true) → (bs : List ℕ) → list_all p bs ≡ true → list_all q bs ≡ true
-all_weaker p q weaker [] all = refl
-all_weaker p q weaker (b ∷ bs) all =
-    let parts = and_parts _ _ all in and_from _ _ (weaker b parts.0) (all_weaker p q weaker bs parts.1)
 
 name_byte : (b : ℕ) → is_name_byte b ≡ true → is_text_byte b ≡ true
 name_byte b allowed = grind (arith, nat_tests)
@@ -147,11 +142,7 @@ text_byte_within b allowed = grind (arith, nat_tests)
 
 has_space : (front rest : List ℕ) → list_all (λ b. not (b == 32)) (front ++ 32 ∷ rest) ≡ false
 has_space [] rest = refl
-has_space (b ∷ front) rest = by (not (b == 32)) (has_space front rest)
-  where
-    by : (t : Bool) → list_all (λ b. not (b == 32)) (front ++ 32 ∷ rest) ≡ false → (t && list_all (λ b. not (b == 32)) (front ++ 32 ∷ rest)) ≡ false
-    by true later = later
-    by false later = refl
+has_space (b ∷ front) rest = and_right (not (b == 32)) _ (has_space front rest)
 
 -- what has a space is not the heading
 not_heading : (front rest : List ℕ) → (front ++ 32 ∷ rest) ≢ heading

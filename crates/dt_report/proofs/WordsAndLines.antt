@@ -1,6 +1,7 @@
 -- Words and lines that are appended one after another.
-use Rattle.std.proofs.Common.{◌≡◌, ℕ, ◌+◌, ◌<◌, ◌≤◌, List, [], ◌∷◌, ◌++◌, length, map, drop, get_or, Option, refl, ap, sym, ◌∙◌, arith, add-one, append_assoc, append-nil, drop-cons}
+use Rattle.std.proofs.Common.{◌≡◌, ℕ, ◌+◌, ◌<◌, ◌≤◌, List, [], ◌∷◌, ◌++◌, length, map, drop, get_or, Option, refl, ap, sym, ◌∙◌, arith, append_assoc, append-nil}
 use Rattle.std.proofs.lemmas.Grind.{common_steps}
+use Rattle.std.proofs.lemmas.List.{drop_more}
 use Rattle.dt_text.specs.Words.{spaced}
 use Rattle.dt_text.specs.declared.Value.{Value}
 use Rattle.dt_table.specs.declared.Shown.{Shown}
@@ -24,9 +25,7 @@ line_added old head ws first before after begun so_far ended =
     ∙ ap (λ t. old ++ (t ++ 10 ∷ [])) (sym (join_spaced head ws))
 
 from_place : {A : Type 0} (xs : List A) (k : ℕ) (x : A) → k < length xs → x ≡ get_or xs k x → drop k xs ≡ x ∷ drop (k + 1) xs
-from_place xs k x within is =
-    let cut : drop k xs ≡ get_or xs k x ∷ drop (k + 1) xs = rw (add-one, drop-cons xs k x) refl in
-    cut ∙ ap (λ y. y ∷ drop (k + 1) xs) (sym is)
+from_place xs k x within is = drop_more xs k x within ∙ ap (λ y. y ∷ drop (k + 1) xs) (sym is)
 
 -- one value more
 pub value_put : (start before after : List ℕ) (vs : List (Option Value)) (k : ℕ) (v : Option Value) → k < length vs → v ≡ get_or vs k v → before ++ spaced (map value_word (drop k vs)) ≡ start

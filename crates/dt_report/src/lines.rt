@@ -2,8 +2,9 @@ ghost use Rattle.std.specs.Prelude.{◌≡◌, ◌++◌, OnOk};
 ghost use Rattle.dt_report.specs.Report.{ran_line, reply_line, row_line};
 
 use crate::report::{Ran, Reply};
-use crate::words::{put_number, put_outcome, put_value_word, put_word};
+use crate::words::{put_outcome, put_value_word, put_word};
 use dt_access::put_id;
+use dt_events::put_number;
 use dt_table::Shown;
 use dt_text::NoMemory;
 use std::alloc::Global;

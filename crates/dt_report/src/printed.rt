@@ -5,8 +5,7 @@ ghost use Rattle.dt_report.specs.Report.{events_text, order_text, replies_text, 
 
 use crate::lines::{put_ran, put_reply, put_row};
 use crate::report::{Ran, Reply, Report};
-use crate::words::put_number;
-use dt_events::{Event, put_event};
+use dt_events::{Event, put_event, put_number};
 use dt_table::{Shown, ShownList, Table};
 use dt_text::{Key, NoMemory};
 use std::alloc::Global;

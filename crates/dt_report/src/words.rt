@@ -6,7 +6,8 @@ ghost use Rattle.dt_text.specs.Words.{spaced};
 
 use dt_access::{TxnId, put_id};
 use dt_eval::Cause;
-use dt_text::{Key, NoMemory, Value, put_text, put_u64, put_value};
+use dt_events::put_number;
+use dt_text::{Key, NoMemory, Value, put_text, put_value};
 use dt_txn::Outcome;
 use std::alloc::Global;
 
@@ -17,19 +18,6 @@ pub(crate) fn put_word(out: &mut Vec<u8>, word: &[u8]) -> Result<(), NoMemory>
     out.push(b' ')?;
     out.extend_from_slice(word)?;
     Ok(())
-}
-
-/// Appends a space and a number.
-pub(crate) fn put_number(alloc: Global, out: &mut Vec<u8>, number: u64) -> Result<(), NoMemory>
-    ensures { OnOk result (out.new.items ≡ out.old.items ++ spaced (decimal number ∷ [])) }
-{
-    out.push(b' ')?;
-    if number < 10 {
-        // As nearly all homes, and numbers of moves and attempts, are.
-        out.push(b'0' + number as u8)?;
-        return Ok(());
-    }
-    put_u64(alloc, out, number)
 }
 
 /// Appends a space and a value, or `none`.

@@ -101,13 +101,7 @@ arguments_of (s ∷ saids) all =
 arguments_say : (saids : List Said) (args : List Value) → AllIn IsArgument args → saids ≡ map argument_word args → AllIn SaysArgument saids
 arguments_say [] args all is = tt
 arguments_say (s ∷ saids) [] all is = absurd cc
-arguments_say (s ∷ saids) (v ∷ args) all is = ((v, all.0, head is), arguments_say saids args all.1 (tail is))
-  where
-    head : {x y : Said} {xs ys : List Said} → x ∷ xs ≡ y ∷ ys → x ≡ y
-    head e = cc
-
-    tail : {x y : Said} {xs ys : List Said} → x ∷ xs ≡ y ∷ ys → xs ≡ ys
-    tail e = cc
+arguments_say (s ∷ saids) (v ∷ args) all is = ((v, all.0, same_head is), arguments_say saids args all.1 (same_tail is))
 
 either_arguments : (saids : List Said) → Either (SayArguments saids)
 either_arguments saids =

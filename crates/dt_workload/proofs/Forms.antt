@@ -1,15 +1,15 @@
 -- Words of lines and the forms that they say.
 use Rattle.std.proofs.Common.{◌≡◌, ◌≢◌, ℕ, zero, suc, ◌<◌, ◌≤◌, ◌^◌, Bool, true, false, not, nat_eq, List, [], ◌∷◌, length, map, take, drop, get_or, Option, Some}
 use Rattle.std.proofs.Common.{None, MatchOption, inl, inr, ◌++◌, refl, ap, sym, ◌∙◌, subst, arith}
-use Rattle.std.proofs.lemmas.Bool.{false≢true}
+use Rattle.std.proofs.lemmas.Bool.{false≢true, not-false, not-true}
 use Rattle.std.specs.Cmp.Lexicographic.{pointwise, bytes_decides}
 use Rattle.std.specs.Fmt.{decimal}
 use Rattle.std.proofs.lemmas.Fmt.{decimal_injective}
-use Rattle.dt_lists.proofs.Callers.{same_head, same_tail, same_rest}
+use Rattle.std.specs.List.{list_any}
+use Rattle.dt_lists.proofs.Callers.{any_image, any_map, any_of_image, any_of_test, same_head, same_tail, same_rest, test_of_any}
 use Rattle.std.proofs.lemmas.Option.{same_Some}
-use Rattle.dt_lists.specs.Lists.{AllIn}
-use Rattle.dt_text.specs.Texts.{IsName, is_name_byte, first_outside}
-use Rattle.dt_text.proofs.Callers.{byte_outside}
+use Rattle.dt_lists.specs.Lists.{AllIn, Has}
+use Rattle.dt_text.specs.Texts.{IsName}
 use Rattle.dt_text.specs.Reading.{words_of}
 use Rattle.dt_text.specs.declared.Word.{Word}
 use Rattle.dt_text.specs.declared.Value.{Value}
@@ -18,8 +18,9 @@ use Rattle.dt_text.specs.Texts.{Bytes}
 use Rattle.dt_workload.specs.Lines.{Said, bare, said, Form, session_line, call_line, move_line, IsForm, IsRanked, IsFirstWord, SpellForm, HasForm, IsArgument, argument_word}
 use Rattle.dt_workload.proofs.OneForm.{session_or_call, session_or_move, call_or_move, same_bare}
 use Rattle.std.specs.Prelude.{codes}
-use Rattle.dt_workload.specs.ReaderParts.{IsNoBeginning, ReadsForm, ReadsRank, ReadsRegion, Refuses, form_of}
+use Rattle.dt_workload.specs.ReaderInner.{IsNoBeginning, ReadsForm, ReadsRank, ReadsRegion, Refuses, form_of}
 use Rattle.dt_workload.specs.File.{IsSessionFault}
+use Rattle.dt_workload.specs.Valid.{session_names}
 use Rattle.dt_workload.specs.declared.workload.Session.{Session}
 use Rattle.dt_workload.specs.declared.error.Refusal.{Refusal}
 use Rattle.dt_workload.specs.declared.error.Refusal.TheVariants.{Cause, NoMemory}
@@ -55,21 +56,10 @@ form_answer line words None is none = λ f has.
 form_answer line words (Some f) is read = (read.0, (words, (exact line words).0 is, read.1))
 
 not_same : (b : Bool) (x y : Bytes) → b ≡ not (pointwise nat_eq x y) → b ≡ true → x ≡ y → ⊥
-not_same b x y is h e = absurd (true_false (pointwise nat_eq x y) (bytes_same x y e) (sym is ∙ h))
-  where
-    true_false : (p : Bool) → p ≡ true → not p ≡ true → ⊥
-    true_false true a b = cc
-    true_false false a b = cc
-
-    bytes_same : (x y : Bytes) → x ≡ y → pointwise nat_eq x y ≡ true
-    bytes_same x y e = (bytes_decides x y).1 e
+not_same b x y is h e = false≢true (sym (not-true _ (sym is ∙ h)) ∙ (bytes_decides x y).1 e)
 
 same_bytes : (b : Bool) (x y : Bytes) → b ≡ not (pointwise nat_eq x y) → b ≡ false → x ≡ y
-same_bytes b x y is h = (bytes_decides x y).0 (true_where (pointwise nat_eq x y) (sym is ∙ h))
-  where
-    true_where : (p : Bool) → not p ≡ false → p ≡ true
-    true_where true h = refl
-    true_where false h = absurd cc
+same_bytes b x y is h = (bytes_decides x y).0 (not-false _ (sym is ∙ h))
 
 -- a word that says another than the fixed one is not followed by a number of a region
 pub other_word : (fixed found : Bytes) (s : Said) (ne : Bool) (n t : Said) → ne ≡ not (pointwise nat_eq found fixed) → ne ≡ true → s ∷ t ∷ [] ≡ bare fixed ∷ n ∷ [] → s ≡ bare found → ⊥
@@ -86,9 +76,14 @@ pub nothing_said : (P : Value → Type 0) (Q : Type 0) (found : Option Value) �
 nothing_said P Q None is h = h
 nothing_said P Q (Some v) is h = absurd cc
 
--- a byte that no name has stands in no name
-pub no_name_outside : (word : Bytes) (place : ℕ) → first_outside is_name_byte word ≡ Some place → ¬ IsName word
-no_name_outside word place found name = byte_outside is_name_byte word place found name.2
+-- a test of the names of sessions is passed where one of them is the name
+pub named_by_test : (sessions : List Session) (name : Bytes) → list_any (λ (s : Session). pointwise nat_eq s.name name) sessions ≡ true → Has (session_names sessions) name
+named_by_test sessions name passed =
+    any_image (λ n. n ≡ name) (λ (s : Session). s.name) sessions (any_map _ _ sessions (λ s same. (bytes_decides s.name name).0 same) (any_of_test _ sessions passed))
+
+pub test_of_name : (sessions : List Session) (name : Bytes) → Has (session_names sessions) name → list_any (λ (s : Session). pointwise nat_eq s.name name) sessions ≡ true
+test_of_name sessions name has =
+    test_of_any _ sessions (any_map _ _ sessions (λ s same. (bytes_decides s.name name).1 same) (any_of_image (λ n. n ≡ name) (λ (s : Session). s.name) sessions has))
 
 -- where no session of a name can begin, its line is at fault for that
 pub no_beginning : (cluster : Cluster) (before : List Session) (name word : Bytes) (region : ℕ) (why : Refusal) → name ≡ word → IsName name

@@ -1,17 +1,18 @@
 -- Bytes are one workload of a cluster or have one fault, and never both.
 use Rattle.dt_access.specs.Granules.{IsUnitKey}
-use Rattle.std.proofs.Common.{◌≡◌, ◌≢◌, ◌⊎◌, inl, inr, ℕ, zero, suc, ◌+◌, ◌<◌, ◌≤◌, ◌==◌, Bool, true, false, cond, not, nat_lt, List, [], ◌∷◌, ◌++◌}
+use Rattle.std.proofs.Common.{◌≡◌, ◌≢◌, ◌⊎◌, inl, inr, ℕ, zero, suc, ◌+◌, ◌<◌, ◌≤◌, ◌==◌, false, cond, not, nat_lt, List, [], ◌∷◌, ◌++◌}
 use Rattle.std.proofs.Common.{eq-eqb}
 use Rattle.std.proofs.Common.{length, lt-ltb}
-use Rattle.std.proofs.Common.{map, slice_get, Option, Some, None, refl, sym, ap, ◌∙◌, subst, arith, append_assoc, append-nil, length-append}
+use Rattle.std.proofs.Common.{map, slice_get, Some, None, refl, sym, ap, ◌∙◌, subst, arith, append_assoc, append-nil, length-append}
 use Rattle.std.specs.Prelude.{nat_eq, IsSome}
 use Rattle.std.specs.Option.{is_some, option_and_then}
 use Rattle.std.specs.List.{position_or_len, sum_by}
 use Rattle.std.specs.Cmp.Lexicographic.{pointwise, bytes_decides}
+use Rattle.std.proofs.lemmas.Bool.{false_from_ne_true}
 use Rattle.std.proofs.lemmas.List.{map-append}
 use Rattle.std.proofs.lemmas.List.Sums.{sum_by-append}
 use Rattle.std.proofs.lemmas.Option.{slice_get_within}
-use Rattle.dt_lists.proofs.Callers.{same_head, same_tail}
+use Rattle.dt_lists.proofs.Callers.{same_head, same_tail, some_same}
 use Rattle.dt_lists.specs.Lists.{AllIn, Has, Distinct, Pairwise}
 use Rattle.dt_lists.proofs.Callers.{all_get, all_append_right, each_across, has_map}
 use Rattle.dt_lists.proofs.Callers.{has_place}
@@ -41,20 +42,13 @@ abbrev HaveNames : List ProcTree → Type 0
 HaveNames procs = Distinct (map (λ p. p.name) procs)
 
 other_name : (name : Bytes) (p : ProcTree) → p.name ≢ name → pointwise nat_eq p.name name ≡ false
-other_name name p ne = decided (pointwise nat_eq p.name name) refl
-  where
-    decided : (b : Bool) → pointwise nat_eq p.name name ≡ b → b ≡ false
-    decided true e = absurd (ne ((bytes_decides p.name name).0 e))
-    decided false e = refl
+other_name name p ne = false_from_ne_true (pointwise nat_eq p.name name) (λ e. ne ((bytes_decides p.name name).0 e))
 
 named_at : (procs : List ProcTree) (number : ℕ) (body : ProcTree) (name : Bytes) → HaveNames procs → slice_get procs number ≡ Some body → body.name ≡ name
     → position_or_len (λ p. pointwise nat_eq p.name name) procs ≡ number
 named_at [] number body name once e is = cc
 named_at (p ∷ ps) zero body name once e is =
-    ap (λ b. cond (not b) (1 + position_or_len (λ p. pointwise nat_eq p.name name) ps) 0) ((bytes_decides p.name name).1 (ap (λ q. q.name) (same_some e) ∙ is))
-  where
-    same_some : ◌≡◌ {A = Option ProcTree} (Some p) (Some body) → p ≡ body
-    same_some e = cc
+    ap (λ b. cond (not b) (1 + position_or_len (λ p. pointwise nat_eq p.name name) ps) 0) ((bytes_decides p.name name).1 (ap (λ q. q.name) (some_same e) ∙ is))
 named_at (p ∷ ps) (suc number) body name once e is =
     let next : 1 + number ≡ suc number = omega arith in
     let later = has_map (λ p. p.name) ps body (has_place ps number body e) in

@@ -1,16 +1,15 @@
 -- A line has one form.
-use Rattle.std.proofs.Common.{inl, inr, ◌++◌, length, length-append, subst, ◌≡◌, ℕ, suc, ◌<◌, ℤ, pos, negsuc}
-use Rattle.std.proofs.Common.{List, [], ◌∷◌, map, drop, get_or, FitsSigned, refl, sym, ap, ◌∙◌, arith}
+use Rattle.std.proofs.Common.{inl, inr, ◌++◌, length, length-append, subst, ◌≡◌, ℕ, ◌<◌}
+use Rattle.std.proofs.Common.{List, [], ◌∷◌, map, refl, sym, ap, ◌∙◌, arith}
 use Rattle.std.specs.Prelude.{codes}
-use Rattle.std.specs.Int.{w64}
-use Rattle.std.specs.Fmt.{decimal, signed_decimal}
-use Rattle.std.proofs.lemmas.Fmt.{decimal_injective}
+use Rattle.std.specs.Fmt.{decimal}
+use Rattle.std.proofs.lemmas.Fmt.{signed_decimal_injective}
 use Rattle.dt_lists.proofs.Callers.{same_head, same_tail, same_rest}
 use Rattle.std.proofs.lemmas.Option.{same_Some}
 use Rattle.dt_lists.specs.Lists.{AllIn}
 use Rattle.dt_text.specs.declared.Value.{Value}
 use Rattle.dt_text.specs.declared.Value.TheVariants.{Int, Text}
-use Rattle.dt_text.proofs.Callers.{exact, no_minus, same_number}
+use Rattle.dt_text.proofs.Callers.{exact, same_number}
 use Rattle.dt_text.specs.Texts.{Bytes}
 use Rattle.dt_workload.specs.Lines.{bare, quoted, said, Form, session_line, call_line, move_line, argument_word, Said, IsRanked, IsFirstWord, other_words, SpellForm, IsArgument, IsForm, HasForm}
 
@@ -24,15 +23,8 @@ same_quoted e = cc
 not_both : {a b : Bytes} → bare a ≡ quoted b → ⊥
 not_both e = cc
 
--- numbers of 64 bits with a sign are one where they are printed alike
-same_signed : (y z : ℤ) → FitsSigned w64 y → FitsSigned w64 z → signed_decimal y ≡ signed_decimal z → y ≡ z
-same_signed (pos m) (pos n) fits_y fits_z e = ap pos (decimal_injective m n (omega arith) (omega arith) e)
-same_signed (pos m) (negsuc n) fits_y fits_z e = absurd (no_minus m (omega arith) (ap (λ ds. get_or ds 0 0) e))
-same_signed (negsuc m) (pos n) fits_y fits_z e = absurd (no_minus n (omega arith) (ap (λ ds. get_or ds 0 0) (sym e)))
-same_signed (negsuc m) (negsuc n) fits_y fits_z e = ap negsuc (omega (arith, decimal_injective (suc m) (suc n) (omega arith) (omega arith) (ap (drop 1) e)))
-
 same_argument : (v w : Value) → IsArgument v → IsArgument w → argument_word v ≡ argument_word w → v ≡ w
-same_argument (Int y) (Int z) fits_v fits_w e = ap Int (same_signed y z fits_v fits_w (same_bare e))
+same_argument (Int y) (Int z) fits_v fits_w e = ap Int (signed_decimal_injective y z fits_v.sfits fits_w.sfits (same_bare e))
 same_argument (Int y) (Text t) fits_v fits_w e = absurd (not_both e)
 same_argument (Text t) (Int z) fits_v fits_w e = absurd (not_both (sym e))
 same_argument (Text t) (Text u) fits_v fits_w e = ap Text (same_quoted e)

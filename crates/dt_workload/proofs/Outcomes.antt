@@ -27,7 +27,7 @@ use Rattle.dt_workload.specs.Lines.{said, Form, session_line, call_line, move_li
 use Rattle.dt_workload.specs.Valid.{session_names, session_count_at, calls_in}
 use Rattle.dt_workload.specs.File.{AreSessions, IsWorkload, Needs, NothingMore, FitsIf, GivesKeys, proc_name, proc_named}
 use Rattle.dt_workload.specs.File.{IsFormFault, IsLineFault, IsWorkloadFault}
-use Rattle.dt_workload.specs.ReaderParts.{FormGoesOn, LineGoesOn, IsWithWanted, wanting}
+use Rattle.dt_workload.specs.ReaderInner.{FormGoesOn, LineGoesOn, IsWithWanted, wanting}
 use Rattle.dt_workload.specs.Laws.{WorkloadFilesHaveAnOutcome}
 use Rattle.dt_workload.specs.declared.workload.Ranked.{Ranked}
 use Rattle.dt_workload.specs.declared.workload.Wanted.TheVariants.{Call, Move}
@@ -107,12 +107,7 @@ either_fits : (kinds : List Kind) (args : List Value) → Either (Pairwise IsOfK
 either_fits [] [] = inl tt
 either_fits [] (v ∷ args) = inr (λ not_so. not_so)
 either_fits (k ∷ kinds) [] = inr (λ not_so. not_so)
-either_fits (k ∷ kinds) (v ∷ args) = both (either_of_kind k v) (either_fits kinds args)
-  where
-    both : Either (IsOfKind k v) → Either (Pairwise IsOfKind kinds args) → Either (IsOfKind k v × Pairwise IsOfKind kinds args)
-    both (inl a) (inl b) = inl (a, b)
-    both (inl a) (inr not_so) = inr (λ h. not_so h.1)
-    both (inr not_so) b = inr (λ h. not_so h.0)
+either_fits (k ∷ kinds) (v ∷ args) = either_and _ _ (either_of_kind k v) (either_fits kinds args)
 
 either_named : (found : Option ProcTree) → Either (IsSome found)
 either_named None = inr (λ e. cc)

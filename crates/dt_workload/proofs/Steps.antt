@@ -4,13 +4,12 @@ use Rattle.std.proofs.Common.{eqb-true}
 use Rattle.std.proofs.Common.{ap, sym, ◌∙◌, subst, arith, append_assoc, append-nil}
 use Rattle.std.specs.Option.{option_and_then}
 use Rattle.std.specs.Cmp.Lexicographic.{pointwise, bytes_decides}
+use Rattle.std.proofs.lemmas.List.{length_push, map-append}
 use Rattle.std.proofs.lemmas.List.Sums.{sum_by-append}
 use Rattle.std.proofs.lemmas.List.Quantifiers.{position-Some}
 use Rattle.std.proofs.lemmas.Option.{get_or_from_slice_get}
 use Rattle.dt_lists.specs.Lists.{AllIn, Has, Pairwise}
-use Rattle.dt_lists.proofs.Callers.{all_append, all_append_left, all_append_right, all_get, pairwise_more}
-use Rattle.dt_lists.proofs.Callers.{distinct_push}
-use Rattle.dt_lists.proofs.Callers.{has_place}
+use Rattle.dt_lists.proofs.Callers.{all_append, all_append_left, all_append_right, all_get, distinct_push, has_place, pairwise_more}
 use Rattle.dt_text.specs.Texts.{IsKey}
 use Rattle.dt_text.specs.Lines.{FileLine}
 use Rattle.dt_proc.specs.Tree.{ProcTree}
@@ -21,7 +20,7 @@ use Rattle.dt_text.specs.Texts.{Bytes}
 use Rattle.dt_workload.specs.Lines.{Form, session_line, call_line, move_line, HasForm}
 use Rattle.dt_workload.specs.File.{ranked_line, session_lines, all_lines, AreSessions, proc_named}
 use Rattle.dt_workload.specs.Valid.{session_names, session_count_at, calls_in, RankedFits, IsValidSession, IsValidWorkload}
-use Rattle.dt_workload.specs.ReaderParts.{wanting, IsWithWanted, FormGoesOn, LineGoesOn}
+use Rattle.dt_workload.specs.ReaderInner.{wanting, IsWithWanted, FormGoesOn, LineGoesOn}
 use Rattle.dt_workload.specs.declared.workload.Ranked.{Ranked}
 use Rattle.dt_workload.specs.declared.workload.Wanted.TheVariants.{Call, Move}
 use Rattle.dt_workload.specs.declared.workload.Session.{Session}
@@ -45,10 +44,6 @@ named_word procs word number p place is =
 pub found_proc : (cluster : Cluster) (word : Bytes) (number : ℕ) → place_of_name word cluster.procs ≡ Some number → proc_named cluster word ≡ slice_get cluster.procs number
 found_proc cluster word number place = ap (λ o. option_and_then (slice_get cluster.procs) o) place
 
-map_more : {A B : Type 0} (f : A → B) (xs ys : List A) → map f (xs ++ ys) ≡ map f xs ++ map f ys
-map_more f [] ys = refl
-map_more f (x ∷ xs) ys = ap (λ zs. f x ∷ zs) (map_more f xs ys)
-
 lines_more : (procs : List ProcTree) (others : List Session) (last : Session) → all_lines procs (others ++ last ∷ []) ≡ all_lines procs others ++ session_lines procs last
 lines_more procs [] last = append-nil (session_lines procs last)
 lines_more procs (s ∷ others) last = ap (λ ls. session_lines procs s ++ ls) (lines_more procs others last) ∙ sym (append_assoc (session_lines procs s) (all_lines procs others) (session_lines procs last))
@@ -57,7 +52,7 @@ lines_wanting : (procs : List ProcTree) (others : List Session) (last : Session)
     → all_lines procs (others ++ wanting last w ∷ []) ≡ all_lines procs (others ++ last ∷ []) ++ ranked_line procs w ∷ []
 lines_wanting procs others last w =
     lines_more procs others (wanting last w)
-    ∙ ap (λ ls. all_lines procs others ++ session_line last.name last.region ∷ ls) (map_more (ranked_line procs) last.calls (w ∷ []))
+    ∙ ap (λ ls. all_lines procs others ++ session_line last.name last.region ∷ ls) (map-append (ranked_line procs) last.calls (w ∷ []))
     ∙ sym (append_assoc (all_lines procs others) (session_lines procs last) (ranked_line procs w ∷ []))
     ∙ ap (λ ls. ls ++ ranked_line procs w ∷ []) (sym (lines_more procs others last))
 
@@ -74,12 +69,8 @@ calls_wanting : (others : List Session) (last : Session) (w : Ranked) → calls_
 calls_wanting others last w =
     let a = sum_by-append (λ (s : Session). length s.calls) others (wanting last w ∷ []) in
     let b = sum_by-append (λ (s : Session). length s.calls) others (last ∷ []) in
-    let n = one_longer last.calls w in
+    let n = length_push last.calls w in
     omega (arith, a, b, n)
-  where
-    one_longer : (ws : List Ranked) (w : Ranked) → length (ws ++ w ∷ []) ≡ length ws + 1
-    one_longer [] w = refl
-    one_longer (v ∷ ws) w = omega (arith, one_longer ws w)
 
 none_at : (region : ℕ) → session_count_at region [] ≤ 64
 none_at region = omega arith
@@ -120,7 +111,7 @@ session_valid : (cluster : Cluster) (before : List Session) (x : Session) → Is
 session_valid cluster before x valid can none new room =
     record {
       sessions = all_append (IsValidSession cluster) before (x ∷ []) valid.sessions (can, tt);
-      names_once = rw (map_more (λ (s : Session). s.name) before (x ∷ [])) (distinct_push (session_names before) x.name valid.names_once new);
+      names_once = rw (map-append (λ (s : Session). s.name) before (x ∷ [])) (distinct_push (session_names before) x.name valid.names_once new);
       few_sessions = λ region. room_at region before x room (valid.few_sessions region);
       few_calls = rw (sum_by-append (λ (s : Session). length s.calls) before (x ∷ []), none) (omega (arith, valid.few_calls));
     }

@@ -1,5 +1,5 @@
 pub mod File
 pub mod Lines
-pub mod ReaderParts
+pub mod ReaderInner
 pub mod Valid
 pub mod Laws

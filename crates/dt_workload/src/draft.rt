@@ -7,7 +7,7 @@ ghost use Rattle.dt_cluster.specs.Valid.{IsValidCluster};
 ghost use Rattle.dt_workload.specs.File.{IsCallFault, IsLineFault, IsMoveFault, IsSessionFault, proc_name, proc_named};
 ghost use Rattle.dt_workload.specs.Valid.{calls_in, session_names, session_count_at};
 ghost use Rattle.dt_workload.specs.Lines as lines;
-ghost use Rattle.dt_workload.specs.ReaderParts.{CanBegin, FormGoesOn, HasCount, IsNoBeginning, IsNoCall, IsNoKey, IsWithWanted, LineGoesOn, Refuses};
+ghost use Rattle.dt_workload.specs.ReaderInner.{CanBegin, FormGoesOn, HasCount, IsNoBeginning, IsNoCall, IsNoKey, IsWithWanted, LineGoesOn, Refuses};
 ghost use Rattle.dt_workload.specs.declared.error.WorkloadCause.TheVariants as cause;
 
 use crate::error::{Refusal, WorkloadCause};
@@ -17,7 +17,7 @@ use dt_access::is_unit;
 use dt_cluster::Cluster;
 use dt_eval::{Args, KeysError, fits, keys_of};
 use dt_proc::Proc;
-use dt_text::{Key, KeyError, Name, Value};
+use dt_text::{Key, Name, Value};
 use std::alloc::Global;
 
 /// The most sessions at one region.
@@ -185,16 +185,10 @@ fn session_name(alloc: Global, word: &[u8]) -> Result<Name, Refusal>
     ensures ok { IfOk result (λ name. (name ≡ word.now) × IsName name) }
     ensures fault { IfErr result (Refuses (λ why. (why ≡ cause.Name) × ¬ (IsName word.now))) }
 {
-    if word.len() > Name::LONGEST {
+    if !Name::is_name(word) {
         return Err(Refusal::Cause(WorkloadCause::Name));
     }
-    match Name::read(alloc, word) {
-        Ok(name) => Ok(name),
-        Err(KeyError::NoMemory) => Err(Refusal::NoMemory),
-        Err(KeyError::Empty) => Err(Refusal::Cause(WorkloadCause::Name)),
-        Err(KeyError::Long) => Err(Refusal::Cause(WorkloadCause::Name)),
-        Err(KeyError::BadByte(_)) => Err(Refusal::Cause(WorkloadCause::Name)),
-    }
+    Ok(Name::new(alloc, word)?)
 }
 
 /// Refuses a session that cannot begin: of a name that is used, at no region, or at one that is full.
@@ -223,14 +217,7 @@ fn may_begin(
 fn has_name(sessions: &[Session], name: &Name) -> bool
     ensures { IsTrue result ↔ Has (session_names sessions.now) name.now }
 {
-    let mut rest = sessions;
-    while let Some((first, others)) = rest.split_first() {
-        if first.name == *name {
-            return true;
-        }
-        rest = others;
-    }
-    false
+    sessions.iter().any(|session| session.name == *name)
 }
 
 /// How many of the sessions are at a region.
@@ -270,9 +257,8 @@ fn gives_keys(alloc: Global, body: &Proc, args: &[Value]) -> Result<(), Refusal>
     ensures fault { IfErr result (Refuses (IsNoKey body.now args.now)) }
 {
     match keys_of(alloc, body, args) {
-        Ok(_keys) => {}
-        Err(KeysError::BadKey(_)) => return Err(Refusal::Cause(WorkloadCause::Key)),
-        Err(KeysError::NoMemory) => return Err(Refusal::NoMemory),
+        Ok(_) => Ok(()),
+        Err(KeysError::BadKey(_)) => Err(Refusal::Cause(WorkloadCause::Key)),
+        Err(KeysError::NoMemory) => Err(Refusal::NoMemory),
     }
-    Ok(())
 }

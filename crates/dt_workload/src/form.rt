@@ -4,7 +4,7 @@ ghost use Rattle.dt_text.specs.Reading.{IsWordIn};
 ghost use Rattle.dt_workload.specs.Lines.{HasForm, IsArgument, IsRanked, argument_word, bare, said};
 ghost use Rattle.dt_text.specs.Texts.{Bytes};
 ghost use Rattle.dt_workload.specs.Lines as lines;
-ghost use Rattle.dt_workload.specs.ReaderParts.{form_of, ReadsForm, ReadsRank, ReadsRegion};
+ghost use Rattle.dt_workload.specs.ReaderInner.{form_of, ReadsForm, ReadsRank, ReadsRegion};
 ghost use Rattle.dt_text.specs.declared.Value.{Value as AnyValue};
 
 use dt_eval::Args;
@@ -90,9 +90,7 @@ fn session_form<'a>(line: &[u8], subject: &'a [u8], rest: &[Word]) -> Option<For
     requires inside { All (IsWordIn line.now) rest.now }
     ensures { ReadsForm (bare (codes "session") ∷ bare subject.now ∷ map (said line.now) rest.now) result }
 {
-    let Some(region) = region_after(line, b"at", rest) else {
-        return None;
-    };
+    let region = region_after(line, b"at", rest)?;
     Some(Form::Session(subject, region))
 }
 
@@ -126,9 +124,7 @@ fn move_form<'a>(line: &[u8], rank: u8, subject: &'a [u8], rest: &[Word]) -> Opt
     ensures { (word : Bytes) → IsRanked (codes "move") rank (bare word)
         → ReadsForm (bare word ∷ bare subject.now ∷ map (said line.now) rest.now) result }
 {
-    let Some(region) = region_after(line, b"to", rest) else {
-        return None;
-    };
+    let region = region_after(line, b"to", rest)?;
     Some(Form::Move(rank, subject, region))
 }
 

@@ -2,7 +2,7 @@ use Rattle.std.proofs.Common.{◌∷◌, [], inl, inr, sym, ◌∙◌, subst, st
 use Rattle.toml.specs.View.{view}
 use Rattle.dt_lists.specs.Lists.{Pairwise}
 use Rattle.dt_cluster_file.specs.Rows.{IsHome}
-use Rattle.dt_cluster_file.specs.ReaderParts.{IsBadHomeOf}
+use Rattle.dt_cluster_file.specs.ReaderInner.{IsBadHomeOf}
 use Rattle.dt_cluster_file.proofs.MapEntries.{listed, listed_are, tells_more, err_passed}
 use Rattle.dt_cluster_file.proofs.homes.homes_of.Goals as goal
 

@@ -2,7 +2,7 @@ use Rattle.std.proofs.Common.{◌∷◌, [], inl, inr, sym, ◌∙◌, subst, st
 use Rattle.toml.specs.View.{view}
 use Rattle.dt_lists.specs.Lists.{Pairwise}
 use Rattle.dt_cluster_file.specs.Rows.{IsRow}
-use Rattle.dt_cluster_file.specs.ReaderParts.{IsBadRowOf}
+use Rattle.dt_cluster_file.specs.ReaderInner.{IsBadRowOf}
 use Rattle.dt_cluster_file.proofs.MapEntries.{listed, listed_are, tells_more, err_passed}
 use Rattle.dt_cluster_file.proofs.rows.rows_of.Goals as goal
 

@@ -1,8 +1,7 @@
 use Rattle.std.proofs.Common.{◌≡◌, ◌∙◌, Err, ap, inr, subst}
 use Rattle.std.specs.Prelude.{IfErr}
 use Rattle.dt_access.specs.Clash.{Bytes}
-use Rattle.dt_cluster_file.specs.File.{IsClusterFault}
-use Rattle.dt_cluster_file.specs.ReaderParts.{TellsFault}
+use Rattle.dt_cluster_file.specs.File.{IsClusterFault, TellsFault}
 use Rattle.dt_command.specs.RefusalCode.{IsFileRefusal}
 use Rattle.dt_command.specs.declared.status.Status.{Status}
 use Rattle.dt_command.specs.declared.status.Status.TheVariants.{BadCluster}

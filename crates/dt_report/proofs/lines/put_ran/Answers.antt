@@ -12,9 +12,9 @@ returns c =
     let attempt : List ℕ = decimal ran.attempt in
     let outcome : List (List ℕ) = outcome_words ran.outcome in
     let session = rw c.bytes.ensures.same at c.in_ok-put_word.ensures in
-    let number = rw c.from.ensures at c.in_ok-put_number.ensures in
+    let number = rw c.from.ensures at c.in_ok-put_number.ensures.added in
     let numbered = words_added _ (ran.session ∷ []) (call ∷ []) _ _ session number in
-    let count = rw c.from-2.ensures at c.in_ok-put_number-2.ensures in
+    let count = rw c.from-2.ensures at c.in_ok-put_number-2.ensures.added in
     let counted = words_added _ (ran.session ∷ call ∷ []) (attempt ∷ []) _ _ numbered count in
     let all = words_added _ (ran.session ∷ call ∷ attempt ∷ []) outcome _ _ counted c.in_ok-put_outcome.ensures in
     line_added _ (id_text ran.id) (ran.session ∷ call ∷ attempt ∷ outcome) _ _ _ c.in_ok-put_id.ensures.added all c.in_ok-push.ensures.items

@@ -9,7 +9,7 @@ returns c =
     let reply = c.args.reply.now in
     let outcome : List (List ℕ) = outcome_words reply.outcome in
     let session = rw c.bytes.ensures.same at c.in_ok-put_word.ensures in
-    let call = rw c.from.ensures at c.in_ok-put_number.ensures in
+    let call = rw c.from.ensures at c.in_ok-put_number.ensures.added in
     let numbered = words_added _ (reply.session ∷ []) (decimal reply.call ∷ []) _ _ session call in
     let all = words_added _ (reply.session ∷ decimal reply.call ∷ []) outcome _ _ numbered c.in_ok-put_outcome.ensures in
     line_added _ (codes "reply") (reply.session ∷ decimal reply.call ∷ outcome) _ _ _ c.in_ok-extend_from_slice.ensures.items all c.in_ok-push.ensures.items

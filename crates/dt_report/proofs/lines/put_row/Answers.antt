@@ -11,8 +11,8 @@ returns c =
     let home : List (List ℕ) = codes "home" ∷ [] in
     let moves : List (List ℕ) = codes "moves" ∷ [] in
     let begun = rw c.bytes.ensures.same at c.in_ok-extend_from_slice.ensures.items in
-    let number = rw c.from.ensures at c.in_ok-put_number.ensures in
-    let count = rw c.from-2.ensures at c.in_ok-put_number-2.ensures in
+    let number = rw c.from.ensures at c.in_ok-put_number.ensures.added in
+    let count = rw c.from-2.ensures at c.in_ok-put_number-2.ensures.added in
     let two = words_added _ (codes "=" ∷ []) value _ _ c.in_ok-put_word.ensures c.in_ok-put_value_word.ensures in
     let three = words_added _ (codes "=" ∷ value) home _ _ two c.in_ok-put_word-2.ensures in
     let four = words_added _ (codes "=" ∷ value_word row.value ∷ home) (decimal row.home ∷ []) _ _ three number in

@@ -3,7 +3,7 @@ use Rattle.std.proofs.Common.{◌≡◌, List, ◌++◌, length}
 use Rattle.dt_lists.specs.Lists.{AllIn}
 use Rattle.dt_text.specs.Lines.{FileLine, lines_of}
 use Rattle.dt_workload.specs.File.{AreSessions}
-use Rattle.dt_workload.specs.ReaderParts.{HasCount}
+use Rattle.dt_workload.specs.ReaderInner.{HasCount}
 use Rattle.dt_text.proofs.Callers.{IsLineWithin}
 use Rattle.dt_workload.proofs.reader.read_workload.Given as goal
 
