@@ -7,7 +7,7 @@ ghost use Rattle.dt_syntax.specs.Grammar.{at, Bracketed, bracketed_tokens};
 ghost use Rattle.dt_proc.specs.WalkInner as walked;
 ghost use Rattle.dt_syntax.specs.declared.operator.Op.TheVariants as op;
 
-use dt_syntax::{Placed, Token};
+use dt_syntax::{Op, Placed, Token};
 use dt_text::Name;
 
 /// What follows the first token.
@@ -55,11 +55,8 @@ pub(crate) fn after_comma(tokens: &[Placed]) -> Option<&[Placed]>
     ensures right { walked.FollowsToken tok.Comma tokens.now (walked.left_shown result) }
 {
     match tokens {
-        [first, rest @ ..] => match &first.token {
-            Token::Comma => Some(rest),
-            _ => None,
-        },
-        [] => None,
+        [first, rest @ ..] if matches!(first.token, Token::Comma) => Some(rest),
+        _ => None,
     }
 }
 
@@ -69,11 +66,8 @@ pub(crate) fn after_else(tokens: &[Placed]) -> Option<&[Placed]>
     ensures right { walked.FollowsToken tok.Else tokens.now (walked.left_shown result) }
 {
     match tokens {
-        [first, rest @ ..] => match &first.token {
-            Token::Else => Some(rest),
-            _ => None,
-        },
-        [] => None,
+        [first, rest @ ..] if matches!(first.token, Token::Else) => Some(rest),
+        _ => None,
     }
 }
 
@@ -83,11 +77,8 @@ pub(crate) fn after_close(tokens: &[Placed]) -> Option<&[Placed]>
     ensures right { walked.FollowsToken tok.Close tokens.now (walked.left_shown result) }
 {
     match tokens {
-        [first, rest @ ..] => match &first.token {
-            Token::Close => Some(rest),
-            _ => None,
-        },
-        [] => None,
+        [first, rest @ ..] if matches!(first.token, Token::Close) => Some(rest),
+        _ => None,
     }
 }
 
@@ -97,10 +88,7 @@ pub(crate) fn after_join(tokens: &[Placed]) -> Option<&[Placed]>
     ensures right { walked.FollowsToken (tok.Op op.Join) tokens.now (walked.left_shown result) }
 {
     match tokens {
-        [first, rest @ ..] => match &first.token {
-            Token::Op(op) => { if op.is_join() { Some(rest) } else { None } }
-            _ => None,
-        },
-        [] => None,
+        [first, rest @ ..] if matches!(first.token, Token::Op(Op::Join)) => Some(rest),
+        _ => None,
     }
 }
