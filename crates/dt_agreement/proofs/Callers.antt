@@ -8,7 +8,8 @@ pub use Rattle.dt_agreement.proofs.Logs.{part_homed}
 pub use Rattle.dt_agreement.proofs.Sessions.{answered_changed, answered_in, each_found, found_is_named, key_of_test, session_of_test, session_found}
 pub use Rattle.dt_agreement.proofs.Runs.{world_from_append, world_after_more, legal_append, legal_more, append_legal, more_legal, run_front, with_executed, ordered, order_of_more}
 pub use Rattle.dt_agreement.proofs.Annotations.{unmoved_at_first, body_fits, version_stays}
-pub use Rattle.dt_agreement.proofs.AllAgree.{lookup_has, answered_done}
+pub use Rattle.dt_agreement.proofs.AllAgree.{lookup_has, answered_done, legal_agree}
+pub use Rattle.dt_agreement.proofs.LegalWorlds.{legal_keeps}
 pub use Rattle.dt_agreement.proofs.Reports.{executed_accounted, answer_accounted}
 pub use Rattle.dt_agreement.proofs.WaitingSessions.{WaitsAt}
 pub use Rattle.dt_agreement.proofs.Rule1Submit.{Submits}
@@ -32,8 +33,6 @@ use Rattle.dt_workload.specs.declared.Workload.{Workload}
 use Rattle.dt_session.specs.World.{World, Place, Submission, node_at, asked_of, taken_of, log_of, logs_of, received_of, received_logs, submission_of, submissions, txn_of, session_at}
 use Rattle.dt_session.specs.Step.{IsLegal, MaySubmit, placed, next}
 use Rattle.dt_session.specs.Run.{world_after, AreLegal, order_of}
-use Rattle.dt_session.specs.Agreement.{Agree}
-use Rattle.dt_agreement.specs.LegalRun.{IsLegalRun}
 use Rattle.dt_agreement.specs.Invariant.{IsPlaceOf, Inv}
 use Rattle.dt_agreement.proofs.Logs.{log_once}
 use Rattle.dt_agreement.proofs.RegionViews as views
@@ -44,21 +43,10 @@ use Rattle.dt_agreement.proofs.Rule2Append as rule2
 use Rattle.dt_agreement.proofs.Rule6Execute as rule6
 use Rattle.dt_agreement.proofs.LegalWorlds as worlds
 use Rattle.dt_agreement.proofs.LaterWorlds as later
-use Rattle.dt_agreement.proofs.AllAgree as agreement
 
--- legal lists
+-- legal events
 
 module _ (cluster : Cluster) (ok : IsValidCluster cluster) (workload : Workload) (fits : IsValidWorkload cluster workload) where
-  legal_run : (events : List Event) → AreLegal cluster workload events → IsLegalRun cluster workload events
-  legal_run events legal = record { sound = ok; fits = fits; legal = legal }
-
-  -- the invariant of legal worlds, and that all regions agree in them
-  pub legal_keeps : (events : List Event) → AreLegal cluster workload events → Inv cluster workload (world_after cluster workload events) (order_of events)
-  legal_keeps events legal = worlds.legal_keeps (legal_run events legal)
-
-  pub legal_agree : (events : List Event) → AreLegal cluster workload events → Agree cluster workload events
-  legal_agree events legal = agreement.legal_agree (legal_run events legal)
-
   -- a legal event keeps the invariant, and leaves the transactions of ids
   pub next_keeps : (w : World) (order : List TxnId) (event : Event) → IsLegal cluster workload w event → Inv cluster workload w order
       → Inv cluster workload (next cluster workload w event) (ordered order event)

@@ -10,6 +10,7 @@ use Rattle.dt_workload.specs.Valid.{IsValidWorkload}
 use Rattle.dt_session.specs.Run.{AreLegal}
 use Rattle.dt_report.specs.Report.{report_text}
 use Rattle.dt_world.specs.WorldReport.{report_of}
+use Rattle.dt_agreement.specs.LegalRun.{IsLegalRun}
 use Rattle.dt_agreement.proofs.Callers.{legal_agree}
 use Rattle.dt_command.specs.declared.status.Status.{Status}
 use Rattle.dt_command.specs.declared.status.Status.TheVariants.{NoMemory, CannotRead, BadCluster, BadWorkload, BadEvents}
@@ -118,8 +119,11 @@ headline_of told task Written cluster workload events loaded given valid fits le
   loaded = loaded;
   events = events;
   given = given;
-  reported = record { legal = legal; agree = legal_agree cluster valid workload fits events legal; report = written };
+  reported = record { legal = legal; agree = legal_agree run; report = written };
 }
+  where
+    run : IsLegalRun cluster workload events
+    run = record { sound = valid; fits = fits; legal = legal }
 
 -- neither a replay nor a run is a big run
 pub no_size : {X : Type 0} (word name list size : Bytes) → Replay word name list ≡ Big size → X

@@ -18,6 +18,7 @@ use Rattle.dt_session.specs.World.{Place, World, asked_of, idle_place, opening_w
 use Rattle.dt_session.specs.Step.{IsLegal, MayAnswer, answered, attempt_for, called, next, placed, received, submitted}
 use Rattle.dt_session.specs.Run.{AreLegalFrom, order_of, world_after, world_from}
 use Rattle.dt_session.specs.Finished.{AreAnswered}
+use Rattle.dt_agreement.specs.LegalRun.{IsLegalRun}
 use Rattle.dt_agreement.proofs.Callers.{answered_changed, answered_in, found_is_named, legal_keeps, places_parallel}
 use Rattle.dt_gen.specs.Load.{load_cluster, load_workload}
 use Rattle.dt_gen.proofs.ValidLoad.{load_calls_in, load_cluster_valid, load_workload_valid}
@@ -100,7 +101,8 @@ pub each_answered : EachCallIsAnsweredOnce
 each_answered calls events few legal finished =
     let workload = load_workload calls in
     let now = world_after load_cluster workload events in
-    let inv = legal_keeps load_cluster load_cluster_valid workload (load_workload_valid calls few) events legal in
+    let run : IsLegalRun load_cluster workload events = record { sound = load_cluster_valid; fits = load_workload_valid calls few; legal = legal } in
+    let inv = legal_keeps run in
     let long = places_parallel load_cluster workload now (order_of events) inv in
     let counted = events_count load_cluster workload events (opening_world load_cluster workload) legal in
     let done = all_answered workload.sessions now.places long finished.answered in

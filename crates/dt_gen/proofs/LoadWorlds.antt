@@ -23,6 +23,7 @@ use Rattle.dt_session.specs.World.{Submission, World, node_at, opening_table, su
 use Rattle.dt_session.specs.Step.{body_of}
 use Rattle.dt_session.specs.Run.{AreLegal, order_of, region_table, txns_of, world_after}
 use Rattle.dt_agreement.specs.Invariant.{Inv, IsSubmissionOf}
+use Rattle.dt_agreement.specs.LegalRun.{IsLegalRun}
 use Rattle.dt_agreement.proofs.Callers.{home_region, legal_agree, legal_keeps, transaction_valid, txn_there}
 use Rattle.dt_gen.specs.Load.{account, account_numbers, account_row, load_call, load_cluster, load_session, load_workload, session_numbers}
 use Rattle.dt_gen.proofs.ValidLoad.{load_cluster_valid, load_workload_valid}
@@ -128,8 +129,11 @@ module _ (calls : ℕ) (events : List Event) (region : ℕ) (few : calls ≤ 200
   abbrev executed : List Txn
   executed = txns_of now (done_ids (node_at now region).here)
 
+  run : IsLegalRun load_cluster (load_workload calls) events
+  run = record { sound = load_cluster_valid; fits = load_workload_valid calls few; legal = legal }
+
   inv : Inv load_cluster (load_workload calls) now (order_of events)
-  inv = legal_keeps load_cluster load_cluster_valid (load_workload calls) (load_workload_valid calls few) events legal
+  inv = legal_keeps run
 
   all_of_load : AllIn IsOfLoad executed
   all_of_load = txns_of_load calls now (order_of events) inv (done_ids (node_at now region).here)
@@ -143,7 +147,7 @@ module _ (calls : ℕ) (events : List Event) (region : ℕ) (few : calls ≤ 200
 
   report_shows : row_sum (shown (region_table load_cluster (load_workload calls) events region)) ≡ pos 100000
   report_shows =
-      let agreed = (legal_agree load_cluster load_cluster_valid (load_workload calls) (load_workload_valid calls few) events legal).tables region within in
+      let agreed = (legal_agree run).tables region within in
       shown_sum 100000 (region_table load_cluster (load_workload calls) events region) (subst (HoldsAccounts 100000) agreed region_holds)
 
 pub each_region : EachRegionHoldsAccounts

@@ -2,12 +2,12 @@
 use Rattle.std.proofs.Common.{◌≡◌, ◌≢◌, ◌+◌, ◌<◌, ◌≤◌, ◌⊎◌, ◌↔◌, ◌∙◌, ◌^◌, ℕ, suc, Bool, true, false, ◌==◌, not, if◌then◌else◌, List, []}
 use Rattle.std.proofs.Common.{◌∷◌, ◌++◌, length, map, filter, get_or, set, None, refl, sym, ap, ap₂, subst, inl, inr, arith}
 use Rattle.std.proofs.lemmas.Bool.{cases_Bool}
-use Rattle.std.proofs.lemmas.List.{append-nil, append_assoc, get_or-set_other, get_or-set_same, length-append, length-set, map-append}
+use Rattle.std.proofs.lemmas.List.{append-nil, append_assoc, get_or-set_other, get_or-set_same, length-append, length-set, map-append, same_from_push}
 use Rattle.std.proofs.lemmas.List.Elements.{filter-append}
 use Rattle.std.proofs.lemmas.List.Sums.{length-filter}
 use Rattle.std.proofs.Math.ListN.{get_or-append}
 use Rattle.dt_lists.specs.Lists.{AnyIn, AllIn, Has, Distinct}
-use Rattle.dt_lists.proofs.Callers.{all_append, all_append_left, all_put, distinct_push, each_append_left, each_across, has_last, has_longer, has_map, has_more, same_head, same_tail}
+use Rattle.dt_lists.proofs.Callers.{all_append, all_append_left, all_put, distinct_push, each_append_left, each_across, has_last, has_longer, has_map, has_more}
 use Rattle.dt_access.specs.Clash.{Bytes}
 use Rattle.dt_access.specs.declared.access.Mode.{Mode}
 use Rattle.dt_access.specs.declared.Part.{Part}
@@ -224,18 +224,6 @@ inserts_again part v old waiting slots missing count ready stuck ready_now stuck
     degree_is : get_or (set old.degrees v count) v 0 ≡ count
     degree_is = get_or-set_same old.degrees v count 0 (subst (λ n. v < n) (sym sd) lt)
 
--- an empty list has no last item
-no_end : {A : Type 0} (xs : List A) (x : A) → xs ++ x ∷ [] ≡ [] → ⊥
-no_end [] x e = cc
-no_end (y ∷ ys) x e = cc
-
--- lists with the same last item are the same before it
-same_ends : (xs ys : List ℕ) (x y : ℕ) → xs ++ x ∷ [] ≡ ys ++ y ∷ [] → (xs ≡ ys) × (y ≡ x)
-same_ends [] [] x y e = (refl, sym (same_head e))
-same_ends [] (b ∷ ys) x y e = absurd (no_end ys y (sym (same_tail e)))
-same_ends (a ∷ xs) [] x y e = absurd (no_end xs x (same_tail e))
-same_ends (a ∷ xs) (b ∷ ys) x y e = let r : (xs ≡ ys) × (y ≡ x) = same_ends xs ys x y (same_tail e) in (ap₂ ◌∷◌ (same_head e) r.0, r.1)
-
 -- the entry that was pushed last, of those that were pushed for a vertex
 pub record IsLastPushed (slot : ℕ) (more : List Waiting) (kept slots : List ℕ) : Type 0 where
   pub front : List Waiting
@@ -268,7 +256,7 @@ last_pushed vertex slot old now kept slots p le = by (from_last p.more)
         slots_are = p.at_slots ∙ ap (λ m. kept ++ map (λ w. w.slot) m) r.2 ∙ ap (λ l. kept ++ l) (map-append (λ w. w.slot) r.0 (r.1 ∷ [])) ∙ sym (append_assoc kept (map (λ w. w.slot) r.0) (r.1.slot ∷ []))
 
         same_last : (slots ≡ kept ++ map (λ w. w.slot) r.0) × (r.1.slot ≡ slot)
-        same_last = same_ends slots (kept ++ map (λ w. w.slot) r.0) slot r.1.slot slots_are
+        same_last = let e = same_from_push slots (kept ++ map (λ w. w.slot) r.0) slot r.1.slot slots_are in (e.0, sym e.1)
 
 -- the entry that was pushed last waits
 pub last_waits : (vertex slot : ℕ) (old now : List Waiting) (kept slots : List ℕ) → Pushes vertex old now kept (slots ++ slot ∷ []) → length kept ≤ length slots → IsQueued now slot

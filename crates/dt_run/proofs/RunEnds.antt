@@ -10,6 +10,7 @@ use Rattle.dt_events.specs.Stamps.{events_of}
 use Rattle.dt_cluster.specs.declared.Cluster.{Cluster}
 use Rattle.dt_workload.specs.declared.Workload.{Workload}
 use Rattle.dt_session.specs.World.{opening_world}
+use Rattle.dt_agreement.specs.LegalRun.{IsLegalRun}
 use Rattle.dt_agreement.proofs.Callers.{legal_keeps}
 use Rattle.dt_merge.specs.Merge.{those_at}
 use Rattle.dt_merge.specs.Weight.{most_events, sum_below}
@@ -34,7 +35,8 @@ kept_few {v} n =
     sum_below_same _ _ v.cluster.regions (λ q lq. ap length (sym (get_or-map (λ (m : NodeView). m.site.region.events) v.nodes q no_running_node) ∙ n.chronicle.lists q)) in
     let b : sum_below (λ q. length (those_at q n.all)) v.cluster.regions ≤ length n.all = all_of_all n.all v.cluster.regions in
     let c : length (events_of n.all) ≡ length n.all = length-map n.all (λ (x : Stamped). x.event) in
-    let opening : HasInvariant v.cluster v.workload (opening_world v.cluster v.workload) = record { order = []; inv = legal_keeps v.cluster n.cluster v.workload n.workload [] tt } in
+    let run : IsLegalRun v.cluster v.workload [] = record { sound = n.cluster; fits = n.workload; legal = tt } in
+    let opening : HasInvariant v.cluster v.workload (opening_world v.cluster v.workload) = record { order = []; inv = legal_keeps run } in
     let d : length (events_of n.all) ≤ most_events v.cluster v.workload =
     events_few v.cluster n.cluster v.workload n.workload (opening_world v.cluster v.workload) (events_of n.all) opening n.chronicle.legal n.chronicle.changing in
     omega (arith, a, b, c, d)

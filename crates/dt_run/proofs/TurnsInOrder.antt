@@ -32,7 +32,7 @@ use Rattle.dt_run.proofs.OtherRegions.{WorldGoesOn, goes_on, sessions_still, sit
 
 -- the world of a node keeps the invariant
 pub good_world : {cluster : Cluster} {workload : Workload} {events : List Event} {n : NodeView} → NodeFits cluster workload events n → HasInvariant cluster workload (world_after cluster workload events)
-good_world {cluster} {workload} {events} f = record { order = order_of events; inv = legal_keeps cluster f.run.sound workload f.run.fits events f.run.legal }
+good_world {cluster} {workload} {events} f = record { order = order_of events; inv = legal_keeps f.run }
 
 -- a node's counts are those of its region in the world
 pub taken_here : {cluster : Cluster} {workload : Workload} {events : List Event} {n : NodeView} (f : NodeFits cluster workload events n) (source : ℕ)

@@ -26,6 +26,7 @@ use Rattle.dt_session.specs.World.{World, Node, Place, idle_place, is_session, n
 use Rattle.dt_session.specs.Step.{IsLegal, MayAnswer, answered, next, node_submitted, placed, received, attempt_for}
 use Rattle.dt_session.specs.Run.{AreLegal, order_of, world_after}
 use Rattle.dt_agreement.specs.Invariant.{Inv}
+use Rattle.dt_agreement.specs.LegalRun.{IsLegalRun}
 use Rattle.dt_agreement.proofs.Callers.{append_cases, logs_placed, legal_keeps, legal_more, world_after_more, Submits, submits}
 use Rattle.dt_site.proofs.Lists.{parts_set}
 
@@ -196,9 +197,10 @@ module _ (cluster : Cluster) (ok : IsValidCluster cluster) (workload : Workload)
       (λ l. opening_short)
       (λ es e keeps l.
       let r : AreLegal cluster workload es × IsLegal cluster workload (world_after cluster workload es) e = legal_more cluster workload es e l in
+      let run : IsLegalRun cluster workload es = record { sound = ok; fits = fits; legal = r.0 } in
       subst (λ v. HasShortLists v (length (es ++ e ∷ []))) (sym (world_after_more cluster workload es e))
       (subst (λ n. HasShortLists (next cluster workload (world_after cluster workload es) e) n) (sym (length_push es e))
-      (next_short (world_after cluster workload es) (order_of es) (length es) e r.1 (legal_keeps cluster ok workload fits es r.0) (keeps r.0))))
+      (next_short (world_after cluster workload es) (order_of es) (length es) e r.1 (legal_keeps run) (keeps r.0))))
       events legal
     where
       opening_short : HasShortLists (opening_world cluster workload) 0

@@ -61,7 +61,7 @@ module _ {cluster : Cluster} {workload : Workload} {w : World} (k : IsReached cl
 
   pub inv : Inv cluster workload w order
   unfolding order
-  inv = subst (λ v. Inv cluster workload v (order_of k.events)) (sym k.after) (legal_keeps cluster k.run.sound workload k.run.fits k.events k.run.legal)
+  inv = subst (λ v. Inv cluster workload v (order_of k.events)) (sym k.after) (legal_keeps k.run)
 
   -- a legal event more
 

@@ -22,7 +22,6 @@ use Rattle.dt_workload.specs.declared.Workload.{Workload}
 use Rattle.dt_session.specs.World.{World, Submission, no_node, node_at, outcome_at, outcome_in, submission_of, txn_of}
 use Rattle.dt_session.specs.Step.{IsLegal, next}
 use Rattle.dt_session.specs.Run.{executed_id, order_of, serial_outcome, world_after}
-use Rattle.dt_session.specs.Agreement.{Agree}
 use Rattle.dt_agreement.specs.Invariant.{Inv, IsExecutedAt}
 use Rattle.dt_agreement.specs.LegalRun.{IsLegalRun}
 use Rattle.dt_agreement.proofs.Callers.{lookup_has, legal_agree, executable_known, legal_keeps, with_executed, order_of_more, world_after_more, WasSubmitted, txn_id}
@@ -68,14 +67,6 @@ module _ (events : List Event) where
   order_new i region id e new = ap order_of (split_at events i (Execute region id) e).1 ∙ order_of_more (take i events) (Execute region id) ∙ ap (λ b. cond b (order_of (take i events)) (order_of (take i events) ++ id ∷ [])) new
 
 module _ {cluster : Cluster} {workload : Workload} {events : List Event} (run : IsLegalRun cluster workload events) where
-  -- after a legal run the world keeps the invariant, and all regions agree
-  pub run_keeps : Inv cluster workload (world_after cluster workload events) (order_of events)
-  run_keeps = legal_keeps cluster run.sound workload run.fits events run.legal
-
-  pub run_agrees : Agree cluster workload events
-  run_agrees = legal_agree cluster run.sound workload run.fits events run.legal
-
-module _ {cluster : Cluster} {workload : Workload} {events : List Event} (run : IsLegalRun cluster workload events) where
   -- what was executed early is executed at the end
   pub still_executed : (i region : ℕ) (id : TxnId) → IsExecutedAt (world_after cluster workload (take i events)) region id → IsExecutedAt (world_after cluster workload events) region id
   still_executed i region id h =
@@ -88,7 +79,7 @@ module _ {cluster : Cluster} {workload : Workload} {events : List Event} (run : 
   executed_at i region id e =
       let l : IsLegalRun cluster workload (take i events) × IsLegal cluster workload (world_after cluster workload (take i events)) (Execute region id) = legal_at run i (Execute region id) e in
       let h : IsExecutedAt (next cluster workload (world_after cluster workload (take i events)) (Execute region id)) region id =
-      executed_next cluster workload (world_after cluster workload (take i events)) (order_of (take i events)) region id l.1 (run_keeps l.0) in (
+      executed_next cluster workload (world_after cluster workload (take i events)) (order_of (take i events)) region id l.1 (legal_keeps l.0) in (
         l.1.regions,
         still_executed (i + 1) region id (subst (λ x. IsExecutedAt (world_after cluster workload x) region id) (sym (split_at events i (Execute region id) e).1)
             (subst (λ w. IsExecutedAt w region id) (sym (world_after_more cluster workload (take i events) (Execute region id))) h)),
@@ -99,7 +90,7 @@ module _ {cluster : Cluster} {workload : Workload} {events : List Event} (run : 
       → (o : Outcome) × (outcome_at (world_after cluster workload events) region id ≡ Some o) × (serial_outcome cluster workload events id ≡ Some o)
   serial_is region id lr h =
       let o : (o : Outcome) × (outcome_at (world_after cluster workload events) region id ≡ Some o) = outcome_there (node_at (world_after cluster workload events) region).here.done id h in
-      (o.0, o.1, (run_agrees run).outcomes region id o.0 lr (lookup_has (node_at (world_after cluster workload events) region).here.done id o.0 o.1))
+      (o.0, o.1, (legal_agree run).outcomes region id o.0 lr (lookup_has (node_at (world_after cluster workload events) region).here.done id o.0 o.1))
 
   pub ran_is : (region : ℕ) (id : TxnId) → region < cluster.regions → IsExecutedAt (world_after cluster workload events) region id → ran_at (world_after cluster workload events) region id ≡ ran_of cluster workload events id
   ran_is region id lr h =
@@ -126,7 +117,7 @@ module _ {cluster : Cluster} {workload : Workload} {events : List Event} (run : 
 
   -- every reported outcome is the one that all regions keep that executed the attempt
   pub outcomes_kept : AllIn (λ (r : Ran). IsOutcomeOf cluster.regions (world_after cluster workload events) r.id r.outcome) (rans_of cluster workload events)
-  outcomes_kept = each (order_of events) (all_put _ (order_of events) (λ id h. ((run_keeps run).ordered.executed id).0 h))
+  outcomes_kept = each (order_of events) (all_put _ (order_of events) (λ id h. ((legal_keeps run).ordered.executed id).0 h))
     where
       is_outcome : (id : TxnId) (o : Outcome) → IsExecuted id → serial_outcome cluster workload events id ≡ Some o
           → IsOutcomeOf cluster.regions (world_after cluster workload events) id o
@@ -136,7 +127,7 @@ module _ {cluster : Cluster} {workload : Workload} {events : List Event} (run : 
           let same : s.0 ≡ o = cc in
           record {
             executed = (x.0, x.1, subst (λ p. Has (node_at (world_after cluster workload events) x.0).here.done (id, p)) same (lookup_has (node_at (world_after cluster workload events) x.0).here.done id s.0 s.1));
-            kept = λ region other lr h. let twice : Some other ≡ Some o = sym ((run_agrees run).outcomes region id other lr h) ∙ e in cc;
+            kept = λ region other lr h. let twice : Some other ≡ Some o = sym ((legal_agree run).outcomes region id other lr h) ∙ e in cc;
           }
 
       here : (id : TxnId) → IsExecuted id

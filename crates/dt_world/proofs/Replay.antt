@@ -25,11 +25,11 @@ use Rattle.dt_session.specs.Agreement.{WaitsFor}
 use Rattle.dt_agreement.specs.Invariant.{Inv, IsExecutedAt, IsPlaceOf}
 use Rattle.dt_agreement.specs.LegalRun.{IsLegalRun}
 use Rattle.dt_agreement.proofs.Callers.{answered_done, lookup_has, WaitsAt, places_parallel, from_region, submission_is_found, waiting_for}
-use Rattle.dt_agreement.proofs.Callers.{run_front, world_after_more, session_found, session_of_test, find_has, Submits, submits}
+use Rattle.dt_agreement.proofs.Callers.{legal_agree, legal_keeps, run_front, world_after_more, session_found, session_of_test, find_has, Submits, submits}
 use Rattle.dt_world.specs.WorldSessions.{no_session}
 use Rattle.dt_world.specs.SessionReplayInner.{IsReply, after_reply, after_submission, replay_of, count_at, wait_at}
 use Rattle.dt_world.specs.WorldReport.{IsReplyOf, answered_session, replies_from, reply_for, reply_to}
-use Rattle.dt_world.proofs.Executions.{run_agrees, run_keeps, serial_is}
+use Rattle.dt_world.proofs.Executions.{serial_is}
 use Rattle.dt_world.proofs.GrowingNodes.{NodeGrows, grows_past}
 use Rattle.dt_world.proofs.PlacesOfNames.{no_session_of_none, place_set, session_of_place}
 
@@ -88,7 +88,7 @@ module _ {cluster : Cluster} {workload : Workload} (xs ys : List Event) (event :
   now_legal = before.1.0
 
   pub now_inv : Inv cluster workload (world_after cluster workload xs) (order_of xs)
-  now_inv = run_keeps before.0
+  now_inv = legal_keeps before.0
 
   pub now_places : length (world_after cluster workload xs).places ≡ length workload.sessions
   now_places = sym (places_parallel cluster workload (world_after cluster workload xs) (order_of xs) now_inv)
@@ -106,7 +106,7 @@ module _ {cluster : Cluster} {workload : Workload} (xs ys : List Event) (event :
       (position-Some (is_session region name) workload.sessions place no_session found).0
 
   pub end_inv : Inv cluster workload (world_after cluster workload (xs ++ event ∷ ys)) (order_of (xs ++ event ∷ ys))
-  end_inv = run_keeps run
+  end_inv = legal_keeps run
 
   pub to_end : (r : ℕ) → NodeGrows (node_at (world_after cluster workload xs) r) (node_at (world_after cluster workload (xs ++ event ∷ ys)) r)
   to_end r = grows_past cluster workload xs (event ∷ ys) r
@@ -290,6 +290,6 @@ module _ {cluster : Cluster} {workload : Workload} (xs ys : List Event) (region 
             call = w.call;
             outcome = record {
               executed = (region, answer_region, lookup_has (node_at answer_end region).here.done id s.0 s.1);
-              kept = λ q other lq h. let twice : Some other ≡ Some s.0 = sym ((run_agrees run).outcomes q id other lq h) ∙ s.2 in cc;
+              kept = λ q other lq h. let twice : Some other ≡ Some s.0 = sym ((legal_agree run).outcomes q id other lq h) ∙ s.2 in cc;
             };
           })

@@ -29,7 +29,7 @@ use Rattle.dt_session.specs.Step.{next}
 use Rattle.dt_session.specs.Run.{AreLegal, executed_id, order_of, region_table, world_after}
 use Rattle.dt_agreement.specs.Invariant.{IsExecutedAt}
 use Rattle.dt_agreement.specs.LegalRun.{IsLegalRun}
-use Rattle.dt_agreement.proofs.Callers.{world_after_more}
+use Rattle.dt_agreement.proofs.Callers.{legal_agree, legal_keeps, world_after_more}
 use Rattle.dt_world.specs.WorldView.{WorldView}
 use Rattle.dt_site.specs.Site.{SiteView, no_site}
 use Rattle.dt_site.specs.StandsIn.{StandsIn}
@@ -39,7 +39,7 @@ use Rattle.dt_world.specs.SitesAfter.{AreSitesAfter}
 use Rattle.dt_world.specs.WorldInner.{IsLawful, site_at, view_in, world_of}
 use Rattle.dt_world.specs.WorldSessions.{WorldSessions, places_in}
 use Rattle.dt_world.specs.WorldReport.{IsOutcomeOf, IsReplyOf, answered_name, answered_session, ran, ran_of, rans_of, replies_from, replies_of, reply_for, report_of, tables_of}
-use Rattle.dt_world.proofs.Executions.{executed_at, order_again, order_new, order_other, outcomes_kept, rans_more, run_agrees, run_keeps}
+use Rattle.dt_world.proofs.Executions.{executed_at, order_again, order_new, order_other, outcomes_kept, rans_more}
 use Rattle.dt_world.proofs.Replay.{answer_executed, answer_follows, answer_kept, answer_own, answer_region, answer_replies, answer_waits, now_followed, now_legal, now_listed}
 use Rattle.dt_world.proofs.Replay.{append_same, deliver_same, execute_same, insert_same, replies_more, resolve_same, submit_few, submit_follows, submit_region}
 use Rattle.dt_world.proofs.ReportLookups.{reached, run_told}
@@ -104,7 +104,7 @@ module _ {told : ReportSourceView} (led : LedTo told) where
       (here i (subst (λ m. i < m) led.many lt)))))
     where
       here : (i : ℕ) → i < told.cluster.regions → shown (region_table told.cluster told.workload told.events i) ≡ shown (get_or told.sites i no_site).region.state.here.table
-      here i lr = sym (ap (λ (n : Node). shown n.here.table) (led.stands i lr).node ∙ ap shown ((run_agrees (run_told led)).tables i lr))
+      here i lr = sym (ap (λ (n : Node). shown n.here.table) (led.stands i lr).node ∙ ap shown ((legal_agree (run_told led)).tables i lr))
 
   -- what an execution adds to the order
 
@@ -401,10 +401,10 @@ module _ {cluster : Cluster} {sessions : WorldSessions} {sites : List SiteView} 
         (subst (λ m. map (λ region. shown (region_table now.cluster now.workload events region)) (range_with_len 0 m) ≡ map (λ (n : Node). shown n.here.table) (world_after now.cluster now.workload events).nodes) many
         (by_number (λ region. shown (region_table now.cluster now.workload events region)) (λ (n : Node). shown n.here.table) (world_after now.cluster now.workload events).nodes 0 no_node
         (λ i lt. let same : 0 + i ≡ i = omega arith in subst (λ r. shown (region_table now.cluster now.workload events r) ≡ shown (node_at (world_after now.cluster now.workload events) i).here.table) (sym same)
-        (ap shown (sym ((run_agrees run_now).tables i (subst (λ m. i < m) many lt)))))))
+        (ap shown (sym ((legal_agree run_now).tables i (subst (λ m. i < m) many lt)))))))
       where
         many : length (world_after now.cluster now.workload events).nodes ≡ now.cluster.regions
-        many = (run_keeps run_now).nodes
+        many = (legal_keeps run_now).nodes
 
     pub ran_all : map (λ (r : Ran). r.id) (rans_of now.cluster now.workload events) ≡ order_of events
     ran_all = all_are_ran run_now
