@@ -32,7 +32,6 @@ use Rattle.dt_workload.specs.declared.Session.{Session}
 use Rattle.dt_workload.specs.declared.Workload.{Workload}
 use Rattle.dt_session.specs.World.{World, Place, Submission, node_at, asked_of, taken_of, log_of, logs_of, received_of, received_logs, submission_of, submissions, txn_of, session_at}
 use Rattle.dt_session.specs.Step.{IsLegal, MaySubmit, placed, next}
-use Rattle.dt_session.specs.Run.{world_after, AreLegal, order_of}
 use Rattle.dt_agreement.specs.Invariant.{IsPlaceOf, Inv}
 use Rattle.dt_agreement.proofs.Logs.{log_once}
 use Rattle.dt_agreement.proofs.RegionViews as views
