@@ -1,6 +1,6 @@
 -- The entries of a map as those of the table that it stands for, and what the accessors of values find.
 use Rattle.std.proofs.lemmas.Bool.{false≢true}
-use Rattle.std.proofs.Common.{◌≡◌, ◌↔◌, Bool, true, false, List, [], ◌∷◌, map}
+use Rattle.std.proofs.Common.{◌≡◌, ◌↔◌, Bool, false, List, [], ◌∷◌, map}
 use Rattle.std.proofs.Common.{String, Global, Less, string_bytes, nat_cmp, refl, sym, ap, ◌∙◌}
 use Rattle.std.proofs.Common.{IsTrue, Result, Ok, Err, IfErr}
 use Rattle.std.specs.Result.{IsErrAnd}

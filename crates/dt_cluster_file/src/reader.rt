@@ -100,7 +100,10 @@ fn procs_of(alloc: Global, top: &Table) -> Result<Procs, ClusterError>
     let Some(text) = value.as_str() else {
         return Err(entry_fault(alloc, "procs", ClusterCause::Kind));
     };
-    read_procs(alloc, text.as_bytes()).map_err(refusal)
+    match read_procs(alloc, text.as_bytes()) {
+        Ok(procs) => Ok(procs),
+        Err(error) => Err(refusal(error)),
+    }
 }
 
 /// A fault in the procedures' text as one of the file.

@@ -257,8 +257,9 @@ fn gives_keys(alloc: Global, body: &Proc, args: &[Value]) -> Result<(), Refusal>
     ensures fault { IfErr result (Refuses (IsNoKey body.now args.now)) }
 {
     match keys_of(alloc, body, args) {
-        Ok(_) => Ok(()),
-        Err(KeysError::BadKey(_)) => Err(Refusal::Cause(WorkloadCause::Key)),
-        Err(KeysError::NoMemory) => Err(Refusal::NoMemory),
+        Ok(_keys) => {}
+        Err(KeysError::BadKey(_)) => return Err(Refusal::Cause(WorkloadCause::Key)),
+        Err(KeysError::NoMemory) => return Err(Refusal::NoMemory),
     }
+    Ok(())
 }
