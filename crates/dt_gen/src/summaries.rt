@@ -1,6 +1,6 @@
 ghost use Rattle.std.specs.Prelude.{◌≡◌, ◌++◌, ◌∷◌, [], IfOk, OnOk};
 ghost use Rattle.dt_report.specs.Report.{line_of};
-ghost use Rattle.dt_gen.specs.Summary.{answer_count, first_rows, is_answer, kept_answers, number_of_row, row_sum, summary_of, summary_text};
+ghost use Rattle.dt_gen.specs.Summary.{answer_count, first_rows, kept_answers, number_of_row, row_sum, summary_of, summary_text};
 
 use dt_events::{Event, Stamped};
 use dt_report::Report;
@@ -39,23 +39,26 @@ pub fn summary_text(
 pub fn answer_count(events: &[Event]) -> usize
     ensures { result ≡ answer_count events.now }
 {
-    events.iter().filter(|event| is_answer(*event)).count()
+    let mut count = 0;
+    for event in events {
+        if let Event::Answer { .. } = event {
+            count += 1;
+        }
+    }
+    count
 }
 
 /// How many of the events that a region keeps answer a session. Takes no memory.
 pub fn kept_answers(kept: &[Stamped]) -> usize
     ensures { result ≡ kept_answers kept.now }
 {
-    kept.iter()
-        .filter(|stamped| is_answer(&stamped.event))
-        .count()
-}
-
-/// Whether an event answers a session.
-fn is_answer(event: &Event) -> bool
-    ensures { result ≡ is_answer event.now }
-{
-    matches!(event, Event::Answer { .. })
+    let mut count = 0;
+    for stamped in kept {
+        if let Event::Answer { .. } = &stamped.event {
+            count += 1;
+        }
+    }
+    count
 }
 
 /// The sum of the numbers of rows, which may be negative; rows with a text or without a value count nothing. Takes no memory.
