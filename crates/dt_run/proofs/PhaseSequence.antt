@@ -1,5 +1,5 @@
 -- Phases, one after another, keep what was kept; and what they leave when the last one is made.
-use Rattle.std.proofs.Common.{◌≡◌, ◌<◌, ◌≤◌, ◌+◌, ◌⊎◌, true, false, Err, Ok, inl, inr, sym, subst, ◌∙◌, arith}
+use Rattle.std.proofs.Common.{◌≡◌, ◌<◌, ◌+◌, ◌⊎◌, true, false, Err, Ok, inl, inr, sym, subst, ◌∙◌, arith}
 use Rattle.std.proofs.Math.Nat.{le-max_left, le-max_right}
 use Rattle.dt_lists.proofs.Callers.{front_trans}
 use Rattle.dt_node.specs.NodeView.{new_items}
