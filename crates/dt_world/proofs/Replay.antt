@@ -17,6 +17,7 @@ use Rattle.dt_txn.specs.declared.Outcome.{Outcome}
 use Rattle.dt_txn.specs.declared.Txn.{Txn}
 use Rattle.dt_report.specs.declared.Reply.{Reply}
 use Rattle.dt_cluster.specs.declared.Cluster.{Cluster}
+use Rattle.dt_workload.specs.declared.Session.{Session}
 use Rattle.dt_workload.specs.declared.Workload.{Workload}
 use Rattle.dt_session.specs.World.{World, Node, Place, asked_of, idle_place, is_session, no_node, node_at, opening_world, outcome_at, received_of, session_at, submission_of, taken_of, txn_of}
 use Rattle.dt_session.specs.Step.{IsLegal, MayAnswer, MayEnd, MaySubmit, answered, awaited_at, next, upcoming_id, node_submitted, placed, received, attempt_for}
