@@ -1,3 +1,2 @@
 mod WordsAndLines
-pub mod EventsOfText
-pub mod Callers
+mod EventsOfText

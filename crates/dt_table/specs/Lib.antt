@@ -1,5 +1,5 @@
 pub mod Table
-pub mod TableCode
+pub mod CodesInner
 pub mod RowsInner
 pub mod StoredUnitInner
 pub mod StoredMovesInner

@@ -15,5 +15,4 @@ pub mod Reports
 pub mod TextByLines
 pub mod NothingLeftOut
 pub mod ReportLookups
-pub mod CountedIds
 pub mod Callers
