@@ -1,7 +1,6 @@
--- What a proof of a crate above may cite of this crate: nothing else of `proofs/` is cited from there. First what is only
--- passed on, then the laws of legal lists, then small facts of one world that keeps the invariant, by what they speak of:
--- events, logs, ids, views, sessions.
-pub use Rattle.dt_serial.proofs.Callers.{test_of_key}
+-- What a proof of a crate above may cite of this crate: nothing else of `proofs/` is cited from there. First
+-- the laws of legal lists, then small facts of one world that keeps the invariant, by what they speak of: events, logs, ids, views,
+-- sessions.
 pub use Rattle.dt_agreement.proofs.Submissions.{WasSubmitted, find_has, from_region, numbered, home_region, submission_is_found, txn_there, txn_id}
 pub use Rattle.dt_agreement.proofs.Views.{fronts_longer, log_is, logs_length, received_log, received_own}
 pub use Rattle.dt_agreement.proofs.Logs.{part_homed}

@@ -8,14 +8,13 @@ use Rattle.dt_lists.proofs.Callers.{any_get, any_put, any_append_left, any_appen
 use Rattle.dt_lists.proofs.Callers.{has_filter}
 use Rattle.dt_access.specs.Clash.{Bytes, is_whole, uses_clash, clash}
 use Rattle.dt_access.specs.Granules.{mode_of_move, unit_of}
-use Rattle.dt_access.proofs.Callers.{moves_clash, unit_again, units_of_clash}
+use Rattle.dt_access.proofs.Callers.{clash_of_uses, moves_clash, unit_again, units_of_clash}
 use Rattle.dt_access.specs.declared.Mode.{Mode}
 use Rattle.dt_access.specs.declared.TxnId.{TxnId}
 use Rattle.dt_access.specs.declared.Access.{Access}
 use Rattle.dt_access.specs.declared.Part.{Part}
 use Rattle.dt_sched.specs.Views.{log_at, HasPart, HasParts, AreClashing, Edge, here, Reaches, IsClosed, Precedes}
 use Rattle.dt_sched.specs.Decide.{IsSound}
-use Rattle.dt_sched.proofs.Callers.{clash_of_uses}
 use Rattle.dt_lists.proofs.Callers.{chain_step}
 use Rattle.dt_sched.proofs.Callers.{part_of_complete, edge_at_home, complete_of_closed}
 use Rattle.dt_sched.proofs.Callers.{precedes_irreflexive, precedes_transitive, comparable_in_log}

@@ -11,7 +11,7 @@ use Rattle.dt_proc.specs.declared.error.ProcError.{ProcError}
 use Rattle.dt_proc.specs.declared.error.ProcError.TheVariants as refused
 use Rattle.dt_proc.proofs.Callers.{one_outcome}
 use Rattle.toml.specs.Data.{Data, string, integer, float, boolean, datetime, array, table, Members, get_member}
-use Rattle.dt_lists.proofs.Callers.{none_some, some_same}
+use Rattle.dt_lists.proofs.Callers.{none_some, pairwise_one, some_same}
 use Rattle.dt_text.specs.Texts.{Bytes}
 use Rattle.dt_cluster_file.specs.Document.{Entry, IsDocument, AreEntries, AreEntriesAt, IsNoTable, IsFirstFaulty}
 use Rattle.dt_cluster_file.specs.Numbers.{NumberEntry, GivesNumber, IsAtFault, HasNumber, HasBadNumber, regions_entry, version_entry, workers_entry, tries_entry, drop_entry, repeat_entry}
@@ -113,14 +113,6 @@ one_bad name_of Fine Bad apart one (x ∷ xs) m n b c (inl h) (inl k) = (h.0 ∙
 one_bad name_of Fine Bad apart one (x ∷ xs) m n b c (inl h) (inr k) = absurd (apart x b k.0 h.1)
 one_bad name_of Fine Bad apart one (x ∷ xs) m n b c (inr h) (inl k) = absurd (apart x c h.0 k.1)
 one_bad name_of Fine Bad apart one (x ∷ xs) m n b c (inr h) (inr k) = one_bad name_of Fine Bad apart one xs m n b c h.1 k.1
-
-one_right : {A B : Type 0} (Is : A → B → Type 0) → ((x : A) (y z : B) → Is x y → Is x z → y ≡ z) → (xs : List A) (ys zs : List B) → Pairwise Is xs ys → Pairwise Is xs zs → ys ≡ zs
-one_right Is one [] [] [] h k = refl
-one_right Is one [] [] (z ∷ zs) h k = absurd k
-one_right Is one [] (y ∷ ys) zs h k = absurd h
-one_right Is one (x ∷ xs) [] zs h k = absurd h
-one_right Is one (x ∷ xs) (y ∷ ys) [] h k = absurd k
-one_right Is one (x ∷ xs) (y ∷ ys) (z ∷ zs) h k = λ i. one x y z h.0 k.0 i ∷ one_right Is one xs ys zs h.1 k.1 i
 
 each_left : {A B : Type 0} (Is : A → B → Type 0) (xs : List A) (ys : List B) → Pairwise Is xs ys → AllIn (λ x. (y : B) × Is x y) xs
 each_left Is [] ys h = tt
@@ -295,7 +287,7 @@ one_homes_fault top version regions f g (inr (m, why, is, (xs, are, bad))) (inr 
 
 one_homes : (top : Members) (version regions : ℕ) (h k : List (Bytes × ℕ)) → HasHomes top version regions h → HasHomes top version regions k → h ≡ k
 one_homes top version regions h k (xs, are, pairs) (ys, are', pairs') =
-    one_right (IsHome version regions) (one_home version regions) xs h k pairs (subst (λ es. Pairwise (IsHome version regions) es k) (one_list_at (get_member (codes "homes") top) ys xs are' are) pairs')
+    pairwise_one (IsHome version regions) (one_home version regions) xs h k pairs (subst (λ es. Pairwise (IsHome version regions) es k) (one_list_at (get_member (codes "homes") top) ys xs are' are) pairs')
 
 abbrev FineRow : Entry → Type 0
 FineRow e = (r : Bytes × Value) × IsRow e r
@@ -317,7 +309,7 @@ one_rows_fault top f g (inr (m, why, is, (xs, are, bad))) (inr (n, why', is', (y
 
 one_rows : (top : Members) (r s : List (Bytes × Value)) → HasRows top r → HasRows top s → r ≡ s
 one_rows top r s (xs, are, pairs) (ys, are', pairs') =
-    one_right IsRow one_row xs r s pairs (subst (λ es. Pairwise IsRow es s) (one_list_at (get_member (codes "rows") top) ys xs are' are) pairs')
+    pairwise_one IsRow one_row xs r s pairs (subst (λ es. Pairwise IsRow es s) (one_list_at (get_member (codes "rows") top) ys xs are' are) pairs')
 
 -- ---- documents and files
 

@@ -18,7 +18,7 @@ pub(crate) fn value_at<'a>(table: &'a Table, name: &str) -> Option<&'a Value>
     table.get(name)
 }
 
-/// A fault at a place with a label, by this cause.
+/// A fault at a place, by this cause.
 pub(crate) fn fault(place: ClusterPlace, cause: ClusterCause) -> ClusterError
     ensures { result ≡ Fault (record { place = place; cause = cause }) }
 {

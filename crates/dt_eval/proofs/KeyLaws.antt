@@ -1,6 +1,6 @@
 -- The list of the keys of a call: it ascends, and holds each key that a declaration gives, with Write if any declaration of
 -- it is.
-use Rattle.std.proofs.Common.{◌≡◌, ◌<◌, ◌≤◌, ◌+◌, ◌||◌, ℕ, length, take, drop, set, ◌++◌, ap₂, add-one, add-zero, arith, zero, suc, Bool, true, false, List, []}
+use Rattle.std.proofs.Common.{◌≡◌, ◌<◌, ◌≤◌, ◌+◌, ◌||◌, ℕ, length, take, drop, set, ◌++◌, ap₂, add-zero, arith, zero, suc, Bool, true, false, List, []}
 use Rattle.std.proofs.Common.{◌∷◌, map, get_or, slice_get, Some, refl, sym, ap, subst, ◌∙◌, inl, inr}
 use Rattle.std.specs.List.{fold}
 use Rattle.std.proofs.Math.Seq.{drop-cons}
@@ -30,6 +30,7 @@ use Rattle.dt_eval.specs.FrameInner.{IsItemWithin}
 use Rattle.dt_eval.specs.Meaning.{Fits, IsOfKind}
 use Rattle.dt_text.specs.Texts.{IsKey}
 use Rattle.dt_eval.specs.Keys.{HasKeys, IsFirstBadKey, distinct_uses, key_text, mode_of, names_given, names_of, use_of, placed_use, with_modes, with_use, keys_of}
+use Rattle.dt_eval.proofs.KeyFronts.{from_item}
 
 -- keys that compare as equal are the same
 pub same_by_cmp : (a b : Bytes) → slice_cmp nat_cmp a b ≡ Equal → a ≡ b
@@ -226,10 +227,16 @@ gathers_none proc args declarations uses sound fits same none = record {
   first = λ j h. subst (λ n. IsFirstBadKey (names_of proc args) n) (sym (zero_add j)) (subst (λ ds. IsFirstBadKey (names_given args ds) j) same h);
 }
 
+-- where all are keys, none is the first that is no key
+pub no_bad : (names : List Bytes) (i : ℕ) → AllIn IsKey names → IsFirstBadKey names i → ⊥
+no_bad [] i all bad = bad
+no_bad (name ∷ names) zero all bad = bad all.0
+no_bad (name ∷ names) (suc i) all bad = no_bad names i all.1 bad.1
+
 module _ (proc : ProcTree) (args : List Value) (declarations : List KeyDecl) (number : ℕ) (uses : List (Bytes × Bool)) (d : KeyDecl)
     (below : number < length declarations) (is : d ≡ get_or declarations number d) (known : Gathers proc args declarations number uses) where
   declared : drop number declarations ≡ d ∷ drop (number + 1) declarations
-  declared = drop-cons declarations number d below ∙ ap (λ x. x ∷ drop (suc number) declarations) (sym is) ∙ ap (λ j. d ∷ drop j declarations) (sym (add-one number))
+  declared = from_item declarations number d below is
 
   pub gathers_more : IsKey (key_text args d.items) → (more : List (Bytes × Bool)) → more ≡ with_use uses (use_of args d) → Gathers proc args declarations (number + 1) more
   gathers_more key more e = record {

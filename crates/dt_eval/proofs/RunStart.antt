@@ -1,9 +1,8 @@
 -- A run before its first statement: its keys are read, its rows have places, and its statements are sound.
-use Rattle.std.proofs.Common.{◌≡◌, ◌<◌, ◌+◌, ℕ, suc, List, [], ◌∷◌, ◌++◌, map, length, get_or, drop, add-one, append_assoc}
+use Rattle.std.proofs.Common.{◌≡◌, ◌<◌, ◌+◌, ℕ, List, [], ◌∷◌, ◌++◌, map, length, get_or, drop, append_assoc}
 use Rattle.std.proofs.Common.{refl, sym, ap, ap₂, subst, ◌∙◌, inl, inr}
 use Rattle.std.specs.Prelude.{Option}
 use Rattle.std.proofs.lemmas.List.{length-map, map-append}
-use Rattle.std.proofs.Math.Seq.{drop-cons}
 use Rattle.dt_lists.proofs.Callers.{all_more}
 use Rattle.dt_lists.specs.Lists.{AnyIn, AllIn, Has, EachThen, Pairwise}
 use Rattle.dt_lists.proofs.Callers.{any_image, any_of_image, all_put, each_image}
@@ -23,6 +22,7 @@ use Rattle.dt_eval.specs.Data.{datum_of, sort_of_datum, keys_in, names_at}
 use Rattle.dt_eval.specs.FrameInner.{ArePlaces, IsItemWithin, IsSoundBlock}
 use Rattle.dt_eval.specs.Keys.{key_text, keys_of, names_given, names_of, use_of}
 use Rattle.dt_eval.specs.Meaning.{Fits, IsOfKind, unchanged}
+use Rattle.dt_eval.proofs.KeyFronts.{from_item}
 use Rattle.dt_eval.proofs.KeyLaws.{keys_ascend, keys_there}
 use Rattle.dt_eval.proofs.RowLaws.{opening_keys}
 
@@ -89,7 +89,7 @@ pub record Placing (args : List Value) (declarations : List KeyDecl) (reads : Li
 module _ (args : List Value) (declarations : List KeyDecl) (reads : List (Bytes × Option Value)) (index : ℕ) (places : List ℕ) (d : KeyDecl)
     (inside : index < length declarations) (is : d ≡ get_or declarations index d) (known : Placing args declarations reads index places) where
   cut : drop index declarations ≡ d ∷ drop (index + 1) declarations
-  cut = drop-cons declarations index d inside ∙ ap (λ x. x ∷ drop (suc index) declarations) (sym is) ∙ ap (λ j. d ∷ drop j declarations) (sym (add-one index))
+  cut = from_item declarations index d inside is
 
   pub placing_read : AnyIn (λ r. r.0 ≡ key_text args d.items) reads
   placing_read = (subst (λ ds. AllIn (λ name. AnyIn (λ r. r.0 ≡ name) reads) (names_given args ds)) cut known.read).0

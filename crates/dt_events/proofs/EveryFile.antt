@@ -4,7 +4,7 @@ use Rattle.std.proofs.Common.{◌≡◌, ◌⊎◌, inl, inr, ℕ, ◌≤◌, �
 use Rattle.std.specs.Fmt.{decimal}
 use Rattle.std.proofs.lemmas.List.{length-map}
 use Rattle.dt_lists.specs.Lists.{AllIn, Pairwise, Either}
-use Rattle.dt_lists.proofs.Callers.{either_le, either_or, either_same, same_head, same_tail}
+use Rattle.dt_lists.proofs.Callers.{either_le, either_or, either_same, pairwise_one, same_head, same_tail}
 use Rattle.dt_text.specs.Texts.{Bytes, IsName}
 use Rattle.dt_text.specs.Lines.{FileLine, lines_of}
 use Rattle.dt_text.specs.Reading.{words_of}
@@ -220,19 +220,11 @@ lines_come_to (line ∷ lines) = by (either_line line.bytes) (lines_come_to line
 pub every_file : EventFilesHaveAnOutcome
 every_file file = lines_come_to (lines_of file)
 
-same_events : (lines : List FileLine) (d e : List (ℕ × Event)) → Pairwise IsNumberedEvent lines d → Pairwise IsNumberedEvent lines e → d ≡ e
-same_events [] [] [] h k = refl
-same_events [] [] (y ∷ e) h k = absurd k
-same_events [] (x ∷ d) e h k = absurd h
-same_events (l ∷ ls) [] e h k = absurd h
-same_events (l ∷ ls) (x ∷ d) [] h k = absurd k
-same_events (l ∷ ls) (x ∷ d) (y ∷ e) h k =
-    let number = h.0.0 ∙ sym k.0.0 in
-    let event = one_event l.bytes x.1 y.1 h.0.1 k.0.1 in
-    λ i. (number i, event i) ∷ same_events ls d e h.1 k.1 i
+one_numbered : (line : FileLine) (x y : ℕ × Event) → IsNumberedEvent line x → IsNumberedEvent line y → x ≡ y
+one_numbered line x y h k = λ i. ((h.0 ∙ sym k.0) i, one_event line.bytes x.1 y.1 h.1 k.1 i)
 
 pub one_list : EventFilesAreOneList
-one_list file d e h k = same_events (lines_of file) d e h k
+one_list file = pairwise_one IsNumberedEvent one_numbered (lines_of file)
 
 no_faulty : (lines : List FileLine) (d : List (ℕ × Event)) (number : ℕ) → Pairwise IsNumberedEvent lines d → ¬ FirstWithoutForm lines number
 no_faulty [] d number h f = f

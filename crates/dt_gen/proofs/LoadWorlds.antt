@@ -8,7 +8,7 @@ use Rattle.std.specs.Cmp.Lexicographic.{slice_cmp, nat_list_cmp_total, texts_tie
 use Rattle.std.specs.FinMap.{get-from_entries}
 use Rattle.std.specs.FinMap.Entries.{find}
 use Rattle.dt_lists.specs.Lists.{AllIn, AnyIn, Has}
-use Rattle.dt_lists.proofs.Callers.{all_get, any_get, any_of_image}
+use Rattle.dt_lists.proofs.Callers.{all_get, any_get, any_of_image, sum_same}
 use Rattle.dt_text.specs.Texts.{Bytes}
 use Rattle.dt_text.specs.declared.Value.{Value}
 use Rattle.dt_access.specs.declared.TxnId.{TxnId}
@@ -33,7 +33,6 @@ use Rattle.dt_gen.specs.Laws.{EachAttemptEndsPlainly, EachRegionHoldsAccounts, E
 use Rattle.dt_gen.proofs.AccountTotals.{account_in, account_within, holding}
 use Rattle.dt_gen.proofs.LoadTransactions.{loads_end, loads_keep}
 use Rattle.dt_gen.proofs.ShownTotals.{shown_sum}
-use Rattle.dt_gen.proofs.Totals.{sum_stays}
 
 -- ---- at first
 
@@ -78,7 +77,7 @@ opening_holds = record {
   accounts = λ q h. opening_account q h ∙ ap (λ v. holding (amount_of v)) (sym (opening_account q h));
   others = λ key none.
       opening_value key ∙ ap (λ (o : Option (Option Value)). unwrap_or o None) (opened_lacks account_numbers key (λ q there. none q (account_within q there)));
-  together = sum_stays (λ q. 1000) (balance (opening_table load_cluster)) account_numbers (λ q there. ap amount_of (opening_account q (account_within q there))) ∙ thousands;
+  together = sum_same (balance (opening_table load_cluster)) (λ q. 1000) account_numbers (λ q there. ap amount_of (opening_account q (account_within q there))) ∙ thousands;
 }
 
 -- ---- and afterwards

@@ -4,19 +4,13 @@ use Rattle.std.specs.List.{range_with_len, sum_by}
 use Rattle.std.proofs.lemmas.List.Sums.{sum_by-cons}
 use Rattle.std.proofs.lemmas.Bool.{cases_lt}
 use Rattle.dt_lists.specs.Lists.{Distinct, Has}
-use Rattle.dt_lists.proofs.Callers.{all_get, all_put}
-
--- a sum of things of which none has changed
-pub sum_stays : {X : Type 0} (f g : X → ℕ) (xs : List X) → ((x : X) → Has xs x → g x ≡ f x) → sum_by g xs ≡ sum_by f xs
-sum_stays f g [] same = refl
-sum_stays f g (x ∷ xs) same =
-    sum_by-cons g x xs ∙ ap (λ n. n + sum_by g xs) (same x (inl refl)) ∙ ap (λ n. f x + n) (sum_stays f g xs (λ y h. same y (inr h))) ∙ sym (sum_by-cons f x xs)
+use Rattle.dt_lists.proofs.Callers.{all_get, all_put, sum_same}
 
 -- a sum of things of which one has changed
 pub sum_changes : {X : Type 0} (f g : X → ℕ) (xs : List X) (q : X) → Distinct xs → Has xs q → ((x : X) → x ≢ q → g x ≡ f x) → sum_by g xs + f q ≡ sum_by f xs + g q
 sum_changes f g [] q once there same = absurd there
 sum_changes f g (x ∷ xs) q once (inl e) same =
-    let rest = sum_stays f g xs (λ y h. same y (λ is. all_get _ xs once.0 y h (e ∙ sym is))) in
+    let rest = sum_same g f xs (λ y h. same y (λ is. all_get _ xs once.0 y h (e ∙ sym is))) in
     let first : f x ≡ f q = ap f e in
     let now : g x ≡ g q = ap g e in
     omega (arith, rest, first, now, sum_by-cons f x xs, sum_by-cons g x xs)

@@ -5,7 +5,7 @@ use Rattle.std.specs.List.{count_by, range_with_len, sum_by}
 use Rattle.std.proofs.lemmas.List.{length-append}
 use Rattle.std.proofs.lemmas.List.Sums.{count_by-le-length}
 use Rattle.dt_lists.specs.Lists.{AllIn, EachThen}
-use Rattle.dt_lists.proofs.Callers.{all_image, all_put, each_image, each_of_image, sum_mapped}
+use Rattle.dt_lists.proofs.Callers.{all_image, all_put, each_image, each_of_image, sum_mapped, sum_same}
 use Rattle.dt_text.specs.Texts.{Bytes, IsKey}
 use Rattle.dt_text.specs.declared.Value.{Value}
 use Rattle.dt_proc.specs.Builtin.{xfer}
@@ -18,7 +18,6 @@ use Rattle.dt_gen.specs.Load.{account, account_numbers, account_row, load_call, 
 use Rattle.dt_gen.proofs.Ranges.{all_in_row, distinct_row, once_in_row, sum_by-both}
 use Rattle.dt_gen.proofs.AccountKeys.{account_apart, account_key, session_apart, session_name_is}
 use Rattle.dt_gen.proofs.OneCallMore.{calls_more, sessions_length}
-use Rattle.dt_gen.proofs.Totals.{sum_stays}
 
 -- what holds of each number of an account
 pub all_accounts : (P : ℕ → Type 0) → ((q : ℕ) → q < 100 → P q) → AllIn P account_numbers
@@ -82,7 +81,7 @@ sessions_more : (n : ℕ) → sum_by (λ j. length (load_calls (n + 1) j)) sessi
 sessions_more n =
     let had : ℕ → ℕ = λ j. length (load_calls n j) in
     let gets : ℕ → ℕ = λ j. cond (n % 64 == j) 1 0 in
-    let same = sum_stays (λ j. had j + gets j) (λ j. length (load_calls (n + 1) j)) session_numbers (λ j there. each j) in
+    let same = sum_same (λ j. length (load_calls (n + 1) j)) (λ j. had j + gets j) session_numbers (λ j there. each j) in
     let parted = sum_by-both had gets session_numbers in
     omega (arith, same, parted, one_turn n)
   where

@@ -1,10 +1,10 @@
 -- The answers about classes, read off the graph of what waits for what among stuck vertices.
-use Rattle.std.proofs.Common.{◌≡◌, ◌+◌, ◌<◌, ◌≤◌, ◌^◌, ◌↔◌, ◌∙◌, ℕ, Bool, true, false, IsTrue, List, [], ◌∷◌, length, get_or, map, slice_get, Some, refl, sym, ap, subst, true≢false, arith}
+use Rattle.std.proofs.Common.{◌≡◌, ◌+◌, ◌<◌, ◌≤◌, ◌^◌, ◌↔◌, ◌∙◌, ℕ, Bool, true, false, IsTrue, List, [], ◌∷◌, length, get_or, map, slice_get, Some, sym, ap, subst, true≢false, arith}
 use Rattle.std.proofs.Common.{◌==◌, eqb-true, eq-eqb}
 use Rattle.std.proofs.lemmas.List.{length-map}
 use Rattle.std.proofs.lemmas.Option.{get_or_from_slice_get, slice_get-get_or, slice_get_within}
 use Rattle.dt_lists.specs.Lists.{AnyIn, AllIn, Has, Distinct, EachThen}
-use Rattle.dt_lists.proofs.Callers.{all_get, all_image, all_map, all_put, any_get, any_of_image, any_put, at_place, distinct_within, each_map, each_of_image, few_below, has_map, has_place, place_of}
+use Rattle.dt_lists.proofs.Callers.{all_get, all_image, all_map, all_put, any_get, any_of_image, any_put, at_place, distinct_within, each_map, each_of_image, few_below, has_map, has_place, one_place, place_of}
 use Rattle.dt_access.specs.Ids.{AreAscending}
 use Rattle.dt_access.specs.declared.TxnId.{TxnId}
 use Rattle.dt_access.proofs.Callers.{before_differs}
@@ -18,7 +18,7 @@ use Rattle.dt_waits.specs.Graph.{AllAreStuck, AreVerticesOf, GraphView, IsSomeGr
 use Rattle.dt_waits.specs.Among.{IsAmong, WaitsOutside}
 use Rattle.dt_graph.specs.SmallStepsInner.{AreIdsAt}
 use Rattle.dt_waits.specs.Steps.{HaveSlots}
-use Rattle.dt_waits.proofs.Callers.{each_leads, member_stuck, none_blocked, not_all_blocked, one_place, place_has, place_leads, same_place, source_resolvable}
+use Rattle.dt_waits.proofs.Callers.{each_leads, member_stuck, none_blocked, not_all_blocked, place_has, place_leads, same_place, source_resolvable}
 use Rattle.dt_graph.proofs.AscendingNumbers.{full_has, full_length}
 
 -- stuck vertices have the slots of their entries
@@ -45,10 +45,6 @@ filled_told xs n b e t h = positive (length xs) (λ z. true≢false (sym (eq-eqb
   where
     positive : (m : ℕ) → ¬ (m ≡ 0) → 0 < m
     positive m ne = grind (arith, ne)
-
-pub no_items : (xs : List ℕ) → length xs ≡ 0 → xs ≡ []
-no_items [] e = refl
-no_items (x ∷ xs) e = absurd (omega (arith, e))
 
 -- blocked places are vertices
 pub blocked_within : (waiting : List Waiting) (list : List ℕ) (graph : AdjView) (blocked : List ℕ) → IsAmong waiting list graph blocked → AllIn (λ v. v < graph.vertices) blocked

@@ -7,7 +7,7 @@ use Rattle.std.proofs.lemmas.List.Elements.{filter-append}
 use Rattle.std.proofs.lemmas.List.Sums.{length-filter}
 use Rattle.std.proofs.Math.ListN.{get_or-append}
 use Rattle.dt_lists.specs.Lists.{AnyIn, AllIn, Has, Distinct}
-use Rattle.dt_lists.proofs.Callers.{all_append, all_append_left, all_put, distinct_push, each_append_left, each_across, has_last, has_longer, has_map, has_more}
+use Rattle.dt_lists.proofs.Callers.{all_append, all_append_left, all_put, distinct_push, each_append_left, each_across, filter_whole, has_last, has_longer, has_map, has_more}
 use Rattle.dt_access.specs.Clash.{Bytes}
 use Rattle.dt_access.specs.declared.access.Mode.{Mode}
 use Rattle.dt_access.specs.declared.Part.{Part}
@@ -18,7 +18,7 @@ use Rattle.dt_waits.specs.Graph.{GraphView, vertex_at}
 use Rattle.dt_graph.specs.SubsetInner.{SubsetView}
 use Rattle.dt_waits.specs.Steps.{AreEntriesOf, Grows, Inserts, fresh_vertex}
 use Rattle.dt_graph.specs.SmallStepsInner.{Enters, Pushes, Sorts, raised}
-use Rattle.dt_waits.proofs.Callers.{degree_fits, degree_pushed, filter_whole, id_has, slot_other, slot_same}
+use Rattle.dt_waits.proofs.Callers.{degree_fits, degree_pushed, id_has, slot_other, slot_same}
 
 -- no use was pushed
 pub enters_none : (home vertex : ℕ) (waiting : List Waiting) (slots : List ℕ) (before : ℕ) → HasDistinctSlots waiting → before ≡ degree waiting vertex → Enters home vertex [] waiting waiting slots slots before

@@ -1,5 +1,6 @@
 -- What a call of finish may do, and what is said of what it did, by what is kept alone.
-use Rattle.std.proofs.Common.{◌≡◌, ◌+◌, ◌<◌, ◌≤◌, ◌⊎◌, ◌↔◌, ◌∙◌, ◌^◌, ℕ, suc, List, [], ◌∷◌, length, map, get_or, set, slice_get, Option, None, Some, refl, sym, ap, subst, inl, inr, arith}
+use Rattle.std.proofs.Common.{◌≡◌, ◌+◌, ◌<◌, ◌≤◌, ◌⊎◌, ◌↔◌, ◌∙◌, ◌^◌, ℕ, add-one, suc, List, [], ◌∷◌, length, map, get_or, set, slice_get}
+use Rattle.std.proofs.Common.{Option, None, Some, refl, sym, ap, subst, inl, inr, arith}
 use Rattle.std.proofs.lemmas.List.{length-map}
 use Rattle.std.proofs.lemmas.Option.{get_or_from_slice_get, slice_get_within}
 use Rattle.dt_lists.specs.Lists.{Has}
@@ -32,11 +33,8 @@ module _ (place : ℕ) (g : GraphView) (m : MayFinishIn place g) (o : Open) (e :
   pub open_is : o ≡ m.kept
   open_is = e ∙ get_or_from_slice_get g.classes place m.kept o m.at_place
 
-  one_more : (n : ℕ) → n + 1 ≡ suc n
-  one_more n = omega arith
-
   now_is : record { members = o.members; next = o.next + 1 } ≡ one_done m.kept
-  now_is = λ i. record { members = (open_is i).members; next = (one_more o.next ∙ ap (λ x. suc x.next) open_is) i }
+  now_is = λ i. record { members = (open_is i).members; next = (add-one o.next ∙ ap (λ x. suc x.next) open_is) i }
 
   pub within_open : (next : ℕ) → slice_get o.members (o.next + 1) ≡ Some next → next < length g.ids
   within_open next at = all_get _ m.kept.members m.leaves.within next (has_of_at m.kept.members (o.next + 1) (subst (λ x. slice_get x.members (o.next + 1) ≡ Some next) open_is at))

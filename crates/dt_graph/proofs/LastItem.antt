@@ -1,7 +1,7 @@
 -- A list to which an item was pushed.
 use Rattle.std.proofs.Common.{◌≡◌, ◌+◌, ◌-◌, ◌∙◌, ℕ, List, [], ◌∷◌, ◌++◌, length, Some, slice_get, ap, sym, arith}
 use Rattle.std.proofs.lemmas.List.{length-append}
-use Rattle.dt_waits.proofs.Callers.{last_place}
+use Rattle.dt_lists.proofs.Callers.{last_place}
 
 -- it is the last item
 pub at_back : {A : Type 0} (xs : List A) (x : A) → Some x ≡ slice_get (xs ++ x ∷ []) (length (xs ++ x ∷ []) - 1)

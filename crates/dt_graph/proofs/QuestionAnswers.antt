@@ -4,13 +4,13 @@ use Rattle.std.specs.List.{list_any}
 use Rattle.std.proofs.lemmas.List.{map_push, take_all, take_more}
 use Rattle.std.proofs.lemmas.Option.{get_or_from_slice_get, slice_get-get_or, slice_get_within}
 use Rattle.dt_lists.specs.Lists.{AllIn, Has, Distinct}
-use Rattle.dt_lists.proofs.Callers.{all_get, all_more, any_get, has_listed, has_place, listed_has}
+use Rattle.dt_lists.proofs.Callers.{all_get, all_more, any_get, has_listed, has_place, listed_has, one_place}
 use Rattle.dt_access.specs.Ids.{same_id}
 use Rattle.dt_access.specs.declared.TxnId.{TxnId}
 use Rattle.dt_access.proofs.Callers.{id_of_test, same_id_turned, test_of_id}
 use Rattle.dt_waits.specs.Graph.{AllAreStuck, AreVerticesOf, GraphView}
 use Rattle.dt_waits.specs.Waits.{id_at}
-use Rattle.dt_waits.proofs.Callers.{id_has, one_place, same_place}
+use Rattle.dt_waits.proofs.Callers.{id_has, same_place}
 
 -- an id with a number is ready just where its number is
 pub ready_told : (ids : List TxnId) (ready : List ℕ) (id : TxnId) (v : ℕ) (b : Bool) → Distinct ids → slice_get ids v ≡ Some id → (IsTrue b ↔ Has ready v)

@@ -2,7 +2,7 @@
 use Rattle.std.proofs.Common.{◌≡◌, ◌≢◌, ◌∙◌, ◌+◌, ◌<◌, ◌≤◌, ◌^◌, ℕ, suc, List, [], ◌∷◌, ◌++◌, length, get_or, slice_get, Some, refl, sym, ap, subst, inl, inr, arith}
 use Rattle.std.proofs.lemmas.Option.{get_or_from_slice_get}
 use Rattle.dt_lists.specs.Lists.{AllIn, AnyIn, Has, Distinct}
-use Rattle.dt_lists.proofs.Callers.{all_get, all_map, all_put, any_get, distinct_within, each_map, pairwise_length}
+use Rattle.dt_lists.proofs.Callers.{all_get, all_map, all_put, any_get, distinct_within, each_map, last_place, pairwise_length}
 use Rattle.dt_access.specs.declared.TxnId.{TxnId}
 use Rattle.dt_access.proofs.Callers.{before_differs}
 use Rattle.dt_sched.specs.Views.{View, IsClass}
@@ -10,7 +10,6 @@ use Rattle.dt_sched.specs.Decide.{IsResolvable}
 use Rattle.dt_sched.proofs.Callers.{class_of_member, class_unique, complete_of_closed, present_of_complete}
 use Rattle.dt_waits.specs.LeftInGraph.{IsOrderly}
 use Rattle.dt_waits.specs.Graph.{GraphView, KeepsGraph}
-use Rattle.dt_waits.proofs.Callers.{last_place}
 
 -- the ids may be resolved, and what is kept is the graph
 abbrev pub MayResolve : GraphView → List TxnId → Type 0

@@ -7,8 +7,7 @@ use Rattle.std.proofs.Math.ListN.{get_or-append}
 use Rattle.std.proofs.lemmas.Option.{slice_get_within}
 use Rattle.dt_lists.specs.Lists.{AllIn, Has, Distinct}
 use Rattle.dt_lists.proofs.Callers.{all_append, all_append_left, all_get, all_map, all_put, distinct_push, each_append_left, each_across, either_nat, has_last, has_longer, has_more}
-use Rattle.dt_lists.proofs.Callers.{all_set, few_below, has_place, last_place, place_in_longer, place_in_more, place_of, set_beside, set_here, some_same}
-use Rattle.dt_waits.proofs.Callers.{one_place}
+use Rattle.dt_lists.proofs.Callers.{all_set, few_below, has_place, last_place, one_place, place_in_longer, place_in_more, place_of, set_beside, set_here, some_same}
 use Rattle.dt_graph.specs.SubsetInner.{PutsIn, StandsAtPlace, IsSubset, Removes}
 
 -- distinct numbers below a bound are fewer than that where one is missing

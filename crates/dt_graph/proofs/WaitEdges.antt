@@ -3,14 +3,14 @@
 use Rattle.std.proofs.Common.{◌≡◌, ◌+◌, ◌<◌, ◌⊎◌, ◌↔◌, ◌∙◌, ℕ, Bool, true, false, ◌||◌, IsTrue, List, [], ◌∷◌, ◌++◌}
 use Rattle.std.proofs.Common.{length, map, filter, get_or, slice_get, take, Some, refl, sym, subst, inl, inr, true≢false, eqb-true, eq-eqb}
 use Rattle.dt_lists.specs.Lists.{AnyIn, AllIn, Has, Distinct}
+use Rattle.std.proofs.lemmas.Bool.{or_right}
 use Rattle.std.proofs.lemmas.List.{take_more}
-use Rattle.dt_lists.proofs.Callers.{all_image, all_put, any_append, any_append_left, any_append_right, any_get, any_image, any_of_image, any_put, has_filter, has_of_filtered, has_place}
+use Rattle.dt_lists.proofs.Callers.{all_image, all_put, any_append, any_append_left, any_append_right, any_get, any_image, any_of_image, any_put, has_filter, has_of_filtered, has_place, one_place}
 use Rattle.dt_class.specs.Graphs.{AdjView}
 use Rattle.dt_queue.specs.Queues.{IsQueued, Waiting, neighbours}
 use Rattle.dt_waits.specs.Waits.{is_of, slots_of}
 use Rattle.dt_waits.specs.Among.{HasNeighbour}
 use Rattle.dt_graph.specs.LinksInner.{IsSourceAt, IsSourceOf, HasLinked}
-use Rattle.dt_waits.proofs.Callers.{one_place}
 
 -- one source that is in the list
 pub links_in : (list : List ℕ) (place : ℕ) (graph : AdjView) (n source : ℕ) → Distinct list → slice_get list source ≡ Some n
@@ -115,12 +115,8 @@ links_next_in xs i list place a b c x y source once lt l at e f =
 pub links_next_out : (xs : List ℕ) (i : ℕ) (list : List ℕ) (place : ℕ) (a b c : AdjView) (x y : Bool) → i < length xs → HasLinked (Has (take i xs)) list place a b x
     → ¬ (Has list (get_or xs i 0)) → c ≡ b → y ≡ true → HasLinked (Has (take (i + 1) xs)) list place a c y
 links_next_out xs i list place a b c x y lt l out e f =
-    subst (λ z. HasLinked (Has (take (i + 1) xs)) list place a z y) (sym e) (subst (HasLinked (Has (take (i + 1) xs)) list place a _) (or_true x ∙ sym f)
+    subst (λ z. HasLinked (Has (take (i + 1) xs)) list place a z y) (sym e) (subst (HasLinked (Has (take (i + 1) xs)) list place a _) (or_right x true refl ∙ sym f)
     (links_next (λ n u. n ≡ u) xs i list place a b b x true lt l (links_out list place b (get_or xs i 0) out)))
-  where
-    or_true : (x : Bool) → (x || true) ≡ true
-    or_true true = refl
-    or_true false = refl
 
 -- the sources are the vertices of entries
 pub links_of_entries : (ws : List Waiting) (list : List ℕ) (place : ℕ) (a b : AdjView) (x : Bool) → HasLinked (Has (map (λ w. w.vertex) ws)) list place a b x → HasLinked (λ u. AnyIn (λ w. w.vertex ≡ u) ws) list place a b x

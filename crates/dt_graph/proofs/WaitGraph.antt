@@ -1,6 +1,7 @@
 -- The graph of what waits for what among the vertices of a list, as it is gathered place by place.
-use Rattle.std.proofs.Common.{◌≡◌, ◌+◌, ◌<◌, ◌≤◌, ◌⊎◌, ◌↔◌, ◌∙◌, ℕ, zero, suc, Bool, true, false, IsTrue, List, [], ◌∷◌, ◌++◌, length, get_or, slice_get, Some, refl, sym, ap, subst, inl}
+use Rattle.std.proofs.Common.{◌≡◌, ◌+◌, ◌<◌, ◌≤◌, ◌⊎◌, ◌↔◌, ◌∙◌, ℕ, Bool, true, false, IsTrue, List, [], ◌∷◌, ◌++◌, length, get_or, slice_get, Some, sym, ap, subst, inl}
 use Rattle.std.proofs.Common.{inr, true≢false, arith}
+use Rattle.std.proofs.lemmas.List.{get_or_default}
 use Rattle.std.proofs.lemmas.Option.{slice_get-get_or, slice_get_within}
 use Rattle.dt_lists.specs.Lists.{Has}
 use Rattle.dt_lists.proofs.Callers.{all_get, either_nat, has_last, has_longer, has_more, has_place, some_same}
@@ -34,12 +35,7 @@ pub kept_slots : (waiting : List Waiting) (vertices : List Vertex) (list : List 
 kept_slots waiting vertices list p d h lt =
     let v : (get_or list p 0 < length vertices) × ((vertex_at vertices (get_or list p 0)).slots ≡ slots_of waiting (get_or list p 0)) =
     all_get (λ u. (u < length vertices) × ((vertex_at vertices u).slots ≡ slots_of waiting u)) list h (get_or list p 0) (has_place list p (get_or list p 0) (slice_get-get_or list p 0 lt)) in
-    ap (λ (x : Vertex). x.slots) (get_or_any vertices (get_or list p 0) v.0 d _) ∙ v.1
-  where
-    get_or_any : (xs : List Vertex) (i : ℕ) → i < length xs → (d e : Vertex) → get_or xs i d ≡ get_or xs i e
-    get_or_any [] i lt d e = absurd (omega (arith, lt))
-    get_or_any (x ∷ xs) zero lt d e = refl
-    get_or_any (x ∷ xs) (suc i) lt d e = get_or_any xs i (omega (arith, lt)) d e
+    ap (λ (x : Vertex). x.slots) (get_or_default vertices (get_or list p 0) d _ v.0) ∙ v.1
 
 -- past the last place all is gathered
 pub gathered : (waiting : List Waiting) (list : List ℕ) (place : ℕ) (graph : AdjView) (blocked : List ℕ) → length list ≤ place → IsGathering waiting list place graph blocked

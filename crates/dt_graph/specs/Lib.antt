@@ -1,4 +1,4 @@
-pub mod Seen
+pub mod SeenInner
 pub mod SmallStepsInner
 pub mod LinksInner
 pub mod SubsetInner

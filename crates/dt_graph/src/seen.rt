@@ -25,7 +25,7 @@ pub enum Change<'a> {
 }
 
 impl Seen {
-    ghost use Rattle.dt_graph.specs.Seen.{after_change};
+    ghost use Rattle.dt_graph.specs.SeenInner.{after_change};
 
     /// Nothing yet, of n regions.
     #[inline(always)]

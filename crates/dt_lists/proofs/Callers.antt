@@ -7,7 +7,7 @@ pub use Rattle.dt_lists.proofs.Words.{each_of_image, has_map, some_across, some_
 pub use Rattle.dt_lists.proofs.Distinct.{distinct_push, distinct_within, few_below, two_of_different}
 pub use Rattle.dt_lists.proofs.Keys.{HasKeyBefore, key_before_irreflexive, key_before_transitive, key_first, key_second, some_in_front}
 pub use Rattle.dt_lists.proofs.Fronts.{all_front, any_front, each_front, front_append, front_empty, front_map, front_refl, front_take, front_takes}
-pub use Rattle.dt_lists.proofs.Fronts.{front_length, front_trans, pairwise_any, pairwise_at, pairwise_length, pairwise_more, pairwise_refl, some_back, some_front}
+pub use Rattle.dt_lists.proofs.Fronts.{front_length, front_trans, pairwise_any, pairwise_at, pairwise_length, pairwise_more, pairwise_one, pairwise_refl, some_back, some_front}
 pub use Rattle.dt_lists.proofs.Tests.{any_of_test, test_of_any}
 pub use Rattle.dt_lists.proofs.Decided.{either_all, either_and, either_and3, either_any, either_has, either_implies, either_le, either_list}
 pub use Rattle.dt_lists.proofs.Decided.{either_nat, either_not, either_or, either_same, either_some, either_true}
@@ -21,5 +21,5 @@ pub use Rattle.dt_lists.proofs.Places.{from_right, get_of_replicate, has_at, has
 pub use Rattle.dt_lists.proofs.Places.{all_index, all_set, has_dropped, last_place, none_in_empty, rest_from, one_place, place_in_longer, place_in_more, place_of}
 pub use Rattle.dt_lists.proofs.Chains.{chain_before, chain_decided, chain_join, chain_keeps, chain_map, chain_step, chain_takes_back, chain_turned}
 pub use Rattle.dt_lists.proofs.Changes.{joined_more, joined_none, none_some, same_head, same_rest, same_tail, set_beside, set_here, some_same}
-pub use Rattle.dt_lists.proofs.Sums.{sum_mapped}
+pub use Rattle.dt_lists.proofs.Sums.{sum_mapped, sum_same}
 pub use Rattle.dt_lists.proofs.Sorted.{each_of_sorted, has_listed, listed_has, permuted_apart, permuted_distinct, permuted_has}

@@ -83,3 +83,12 @@ pairwise_more R [] [] x y p r = (r, tt)
 pairwise_more R [] (b ∷ ys) x y p r = absurd p
 pairwise_more R (a ∷ xs) [] x y p r = absurd p
 pairwise_more R (a ∷ xs) (b ∷ ys) x y p r = (p.0, pairwise_more R xs ys x y p.1 r)
+
+-- where each item is related to one thing at most, its list is related to one list at most
+pub pairwise_one : {A B : Type 0} (R : A → B → Type 0) → ((x : A) (y z : B) → R x y → R x z → y ≡ z) → (xs : List A) (ys zs : List B) → Pairwise R xs ys → Pairwise R xs zs → ys ≡ zs
+pairwise_one R one [] [] [] p q = refl
+pairwise_one R one [] [] (z ∷ zs) p q = absurd q
+pairwise_one R one [] (y ∷ ys) zs p q = absurd p
+pairwise_one R one (x ∷ xs) [] zs p q = absurd p
+pairwise_one R one (x ∷ xs) (y ∷ ys) [] p q = absurd q
+pairwise_one R one (x ∷ xs) (y ∷ ys) (z ∷ zs) p q = λ i. one x y z p.0 q.0 i ∷ pairwise_one R one xs ys zs p.1 q.1 i

@@ -5,7 +5,7 @@ use Rattle.dt_lists.specs.Lists.{AnyIn}
 use Rattle.dt_proc.specs.Tree.{ProcTree}
 use Rattle.dt_proc.specs.declared.tree.Stmt.{Stmt}
 use Rattle.dt_proc.specs.TreeViews.{block_tree}
-use Rattle.dt_lock.specs.Long.{IsLong, IsLongIn, outermost}
+use Rattle.dt_lock.specs.LongInner.{IsLong, IsLongIn, outermost}
 
 pub outermost_of : (xs : List Stmt) → outermost (block_tree xs) ≡ length xs
 outermost_of [] = refl

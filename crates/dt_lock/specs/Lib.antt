@@ -1,4 +1,4 @@
 pub mod Claims
 pub mod Held
 pub mod HeldCode
-pub mod Long
+pub mod LongInner

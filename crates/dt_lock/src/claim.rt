@@ -1,5 +1,5 @@
 ghost use Rattle.std.specs.Prelude.{◌≡◌, ◌↔◌, IfOk, IfErr, IsTrue};
-ghost use Rattle.dt_lock.specs.Long.{IsLongBody};
+ghost use Rattle.dt_lock.specs.LongInner.{IsLongBody};
 
 use crate::named::Named;
 use crate::statements::is_long;

@@ -1,6 +1,6 @@
 ghost use Rattle.std.specs.Prelude.{◌↔◌, IsTrue, slice_get};
 ghost use Rattle.dt_lists.specs.Lists.{AnyIn};
-ghost use Rattle.dt_lock.specs.Long.{IsLong, IsLongIn};
+ghost use Rattle.dt_lock.specs.LongInner.{IsLong, IsLongIn};
 
 use dt_proc::Procs;
 

@@ -1,6 +1,7 @@
 -- What can happen is bounded: the weight of a legal world is at most what the calls, the tries and the regions allow.
 use Rattle.std.proofs.Common.{◌≡◌, ◌≢◌, ◌<◌, ◌≤◌, ◌+◌, ◌*◌, ◌⊎◌, ℕ, zero, suc, Bool, true, false, cond, eqb, List, [], ◌∷◌, length, get_or, map, take, Some, None}
 use Rattle.std.proofs.Common.{refl, sym, ap, subst, ◌∙◌, inl, inr, arith, eqb-true, eq-eqb}
+use Rattle.std.specs.Cmp.Lexicographic.{bytes_decides}
 use Rattle.std.specs.Prelude.{Option, flat_map, slice_index, sum, sum_by}
 use Rattle.std.proofs.lemmas.Bool.{cases_Bool}
 use Rattle.std.proofs.lemmas.List.{length-append, length-map, length-set}
@@ -27,7 +28,7 @@ use Rattle.dt_session.specs.Run.{world_from, AreLegalFrom}
 use Rattle.dt_session.specs.Eager.{AllChange}
 use Rattle.dt_session.specs.World.{World, Place, Submission, no_node, node_at, log_of, received_lengths, received_logs, received_of, logs_of, submissions, txn_of, view_at}
 use Rattle.dt_agreement.specs.Invariant.{IsPartAt, IsPlaceOf, IsPlaced, IsSubmissionOf, attempts_by}
-use Rattle.dt_agreement.proofs.Callers.{WasSubmitted, done_known, fronts_longer, log_distinct, logs_length, next_keeps, ordered, received_log, received_within, test_of_key, txn_there}
+use Rattle.dt_agreement.proofs.Callers.{WasSubmitted, done_known, fronts_longer, log_distinct, logs_length, next_keeps, ordered, received_log, received_within, txn_there}
 use Rattle.dt_txn.proofs.Callers.{fronts_at}
 use Rattle.dt_merge.specs.OwnPart.{own, places_at}
 use Rattle.dt_merge.specs.Weight.{most_events, sum_below, weight, world_weight}
@@ -187,7 +188,7 @@ counted sessions (x ∷ xs) a =
     no_less s (inr n) = let e : attempts_by s.name (x ∷ xs) ≡ attempts_by s.name xs = attempts_cons s.name x xs false n in omega arith
 
     one_more : (s : Session) → x.session ≡ s.name → suc (attempts_by s.name xs) ≤ attempts_by s.name (x ∷ xs)
-    one_more s is = let e : attempts_by s.name (x ∷ xs) ≡ suc (attempts_by s.name xs) = attempts_cons s.name x xs true (test_of_key x.session s.name is) in omega arith
+    one_more s is = let e : attempts_by s.name (x ∷ xs) ≡ suc (attempts_by s.name xs) = attempts_cons s.name x xs true ((bytes_decides x.session s.name).1 is) in omega arith
 
 -- a session made no more attempts than its calls can have
 attempts_within : (tries : ℕ) (w : World) (session : Session) (place : Place) → IsPlaceOf tries w session place → attempts_by session.name (node_at w session.region).submitted ≤ length session.calls * tries

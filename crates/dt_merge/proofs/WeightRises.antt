@@ -21,7 +21,7 @@ use Rattle.dt_cluster.specs.declared.Cluster.{Cluster}
 use Rattle.dt_workload.specs.Valid.{IsValidWorkload}
 use Rattle.dt_workload.specs.declared.Session.{Session}
 use Rattle.dt_workload.specs.declared.Workload.{Workload}
-use Rattle.dt_session.specs.World.{World, Place, Submission, node_at, log_of, received_of, received_logs, txn_of, session_at, with_place}
+use Rattle.dt_session.specs.World.{World, Place, Submission, node_at, log_of, received_lengths, received_of, received_logs, txn_of, session_at, with_place}
 use Rattle.dt_session.specs.Step.{IsLegal, MayAnswer, MaySubmit, answered, next, next_attempt, placed, received, submitted}
 use Rattle.dt_session.specs.Run.{world_from, AreLegalFrom}
 use Rattle.dt_session.specs.Eager.{AllChange}
@@ -109,7 +109,7 @@ module _ (cluster : Cluster) (ok : IsValidCluster cluster) (workload : Workload)
       (subst (λ x. weight region (own workload w region) < weight region x) (sym (own_submitted cluster workload w region room s.session s.place s.call))
       (by_submitted (length (node_at w region).submitted) (length ((node_at w region).submitted ++ attempt ∷ []))
       (sum_by (λ p. p.answered) (own workload w region).places) (sum_by (λ p. p.answered) places)
-      (sum (set (node_at w region).received region (length (node_at w region).log))) (sum (node_at w region).here.inserted) (length (node_at w region).here.resolved) (length (node_at w region).here.done)
+      (sum (received_lengths w region)) (sum (node_at w region).here.inserted) (length (node_at w region).here.resolved) (length (node_at w region).here.done)
       (length_push (node_at w region).submitted attempt) (omega arith)))
 
   answer_rises : (name : Bytes) → MayAnswer cluster w region (session_at workload.sessions w.places region name) → Rises (answered workload w region (session_at workload.sessions w.places region name))
@@ -128,7 +128,7 @@ module _ (cluster : Cluster) (ok : IsValidCluster cluster) (workload : Workload)
           answered_changed (local region workload.sessions) (own workload w region).places region session.name session place now (in_own name session place f.1 e) in
           subst (λ x. weight region (own workload w region) < weight region x) (sym (own_answered cluster workload w region session place))
           (by_answered (length (node_at w region).submitted) (sum_by (λ p. p.answered) (own workload w region).places) (sum_by (λ p. p.answered) places)
-          (sum (set (node_at w region).received region (length (node_at w region).log))) (sum (node_at w region).here.inserted) (length (node_at w region).here.resolved)
+          (sum (received_lengths w region)) (sum (node_at w region).here.inserted) (length (node_at w region).here.resolved)
           (length (node_at w region).here.done) (omega arith))
 
   received_there : region < length (node_at w region).received
@@ -146,7 +146,7 @@ module _ (cluster : Cluster) (ok : IsValidCluster cluster) (workload : Workload)
       rises txn =
           subst (λ x. weight region (own workload w region) < weight region x) (sym (own_appended cluster workload w region room source true (Some txn)))
           (by_received (length (node_at w region).submitted) (sum_by (λ p. p.answered) (own workload w region).places)
-          (sum (set (node_at w region).received region (length (node_at w region).log)))
+          (sum (received_lengths w region))
           (sum (set (node_at w region).received region (length ((node_at w region).log ++ part_of txn region ∷ []))))
           (sum (node_at w region).here.inserted) (length (node_at w region).here.resolved) (length (node_at w region).here.done)
           (raise_set (node_at w region).received region (length (node_at w region).log) (length ((node_at w region).log ++ part_of txn region ∷ [])) received_there
@@ -173,12 +173,12 @@ module _ (cluster : Cluster) (ok : IsValidCluster cluster) (workload : Workload)
           by (inr n) =
               subst (λ x. weight region (own workload w region) < weight region x) (sym (own_delivered cluster workload w region room home last true))
               (by_received (length (node_at w region).submitted) (sum_by (λ p. p.answered) (own workload w region).places)
-              (sum (set (node_at w region).received region (length (node_at w region).log)))
+              (sum (received_lengths w region))
               (sum (set (set (node_at w region).received home last) region (length (node_at w region).log)))
               (sum (node_at w region).here.inserted) (length (node_at w region).here.resolved) (length (node_at w region).here.done)
-              (subst (λ xs. sum (set (node_at w region).received region (length (node_at w region).log)) < sum xs)
+              (subst (λ xs. sum (received_lengths w region) < sum xs)
               (sym (set_comm (node_at w region).received home region last (length (node_at w region).log) n))
-              (raise_at (set (node_at w region).received region (length (node_at w region).log)) home last
+              (raise_at (received_lengths w region) home last
               (subst (λ m. home < m) (sym (length-set (node_at w region).received region (length (node_at w region).log) ∙ (g.inv.sized region lr).received)) l.regions.1) below)))
 
   insert_rises : (home : ℕ) → home < cluster.regions → Rises (next cluster workload w (Insert region home))
@@ -187,7 +187,7 @@ module _ (cluster : Cluster) (ok : IsValidCluster cluster) (workload : Workload)
       let before : List ℕ = (node_at w region).here.inserted in
       subst (λ x. weight region (own workload w region) < weight region x)
       (sym (own_moved cluster workload w region room (stepped cluster.procs (txn_of w) (node_at w region).here (Insert region home))))
-      (by_inserted (length (node_at w region).submitted) (sum_by (λ p. p.answered) (own workload w region).places) (sum (set (node_at w region).received region (length (node_at w region).log)))
+      (by_inserted (length (node_at w region).submitted) (sum_by (λ p. p.answered) (own workload w region).places) (sum (received_lengths w region))
       (sum (node_at w region).here.inserted) (sum (set (node_at w region).here.inserted home (slice_index (node_at w region).here.inserted home + 1)))
       (length (node_at w region).here.resolved) (length (node_at w region).here.done)
       (raise_at (node_at w region).here.inserted home (slice_index (node_at w region).here.inserted home + 1) (subst (λ m. home < m) (sym (g.inv.sized region lr).inserted) lh) (omega arith)))
@@ -197,7 +197,7 @@ module _ (cluster : Cluster) (ok : IsValidCluster cluster) (workload : Workload)
   resolve_rises ids =
       subst (λ x. weight region (own workload w region) < weight region x)
       (sym (own_moved cluster workload w region room (stepped cluster.procs (txn_of w) (node_at w region).here (Resolve region ids))))
-      (by_resolved (length (node_at w region).submitted) (sum_by (λ p. p.answered) (own workload w region).places) (sum (set (node_at w region).received region (length (node_at w region).log)))
+      (by_resolved (length (node_at w region).submitted) (sum_by (λ p. p.answered) (own workload w region).places) (sum (received_lengths w region))
       (sum (node_at w region).here.inserted) (length (node_at w region).here.resolved) (length ((node_at w region).here.resolved ++ ids ∷ [])) (length (node_at w region).here.done)
       (length_push (node_at w region).here.resolved ids))
 
@@ -208,7 +208,7 @@ module _ (cluster : Cluster) (ok : IsValidCluster cluster) (workload : Workload)
       let outcome : _ = (known.0.id, (one cluster.procs known.0 (node_at w region).here.table).0) in
       subst (λ x. weight region (own workload w region) < weight region x)
       (sym (own_moved cluster workload w region room (executed cluster.procs (node_at w region).here (txn_of w id)) ∙ ap (λ t. move_own (own workload w region) (executed cluster.procs (node_at w region).here t)) known.1))
-      (by_done (length (node_at w region).submitted) (sum_by (λ p. p.answered) (own workload w region).places) (sum (set (node_at w region).received region (length (node_at w region).log)))
+      (by_done (length (node_at w region).submitted) (sum_by (λ p. p.answered) (own workload w region).places) (sum (received_lengths w region))
       (sum (node_at w region).here.inserted) (length (node_at w region).here.resolved) (length (node_at w region).here.done) (length ((node_at w region).here.done ++ outcome ∷ []))
       (length_push (node_at w region).here.done outcome))
 

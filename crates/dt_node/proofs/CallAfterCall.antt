@@ -1,5 +1,6 @@
 -- What calls of a turn make, put together: one call after another, a call that makes no event, and a call that makes some.
 use Rattle.std.proofs.Common.{◌≡◌, ◌≤◌, ◌+◌, ℕ, List, [], ◌∷◌, ◌++◌, length, map, drop, refl, sym, ap, subst, ◌∙◌, append-nil, append_assoc, arith}
+use Rattle.std.proofs.Math.Seq.{drop-append_seam}
 use Rattle.std.proofs.lemmas.List.{map-append}
 use Rattle.dt_lists.specs.Lists.{AllIn}
 use Rattle.dt_lists.proofs.Callers.{all_append, all_image, all_map, any_append_left, any_append_right}
@@ -8,7 +9,7 @@ use Rattle.dt_events.specs.declared.Event.TheVariants.{Submit, Append, Deliver, 
 use Rattle.dt_events.specs.declared.Stamped.{Stamped}
 use Rattle.dt_events.specs.Events.{region_of}
 use Rattle.dt_events.specs.Stamps.{events_of, stamped_from}
-use Rattle.dt_region.specs.Region.{latest_stamp}
+use Rattle.dt_region.specs.Region.{RegionView, latest_stamp}
 use Rattle.dt_sched.specs.Views.{log_at}
 use Rattle.dt_proc.specs.Tree.{ProcTree}
 use Rattle.dt_txn.specs.Replica.{taken_from}
@@ -16,6 +17,7 @@ use Rattle.dt_packet.specs.declared.packet.Packet.{Packet}
 use Rattle.dt_cluster.specs.declared.Cluster.{Cluster}
 use Rattle.dt_workload.specs.declared.Workload.{Workload}
 use Rattle.dt_merge.specs.Merge.{region_at}
+use Rattle.dt_site.specs.Site.{in_region}
 use Rattle.dt_node.specs.NodeView.{NodeView, new_items, number_of}
 use Rattle.dt_node.specs.NodeInWorld.{AreTold, NodeFits}
 use Rattle.dt_node.specs.Turn.{GoesAfter, HasGone, IsBroughtBy, greatest}
@@ -25,14 +27,9 @@ use Rattle.dt_node.proofs.TruePackets.{told_along, told_first, told_rest}
 use Rattle.dt_node.proofs.Greatest.{above_greatest}
 use Rattle.dt_node.proofs.RisingStamps.{rise_by, rise_more, rise_none}
 
--- what comes behind a list
-pub behind : {A : Type 0} (xs ys : List A) → drop (length xs) (xs ++ ys) ≡ ys
-behind [] ys = refl
-behind (x ∷ xs) ys = behind xs ys
-
 -- the new events, from what was kept
 pub new_are : (a b : NodeView) {new : List Stamped} → b.site.region.events ≡ a.site.region.events ++ new → new_items a b ≡ new
-new_are a b {new} kept = ap (drop (length a.site.region.events)) kept ∙ behind a.site.region.events new
+new_are a b {new} kept = ap (drop (length a.site.region.events)) kept ∙ drop-append_seam a.site.region.events new
 
 pub new_none : (a b : NodeView) → b.site.region.events ≡ a.site.region.events → new_items a b ≡ []
 new_none a b same = new_are a b (same ∙ sym (append-nil a.site.region.events))
@@ -185,6 +182,10 @@ made_nothing {procs} {packets} a = made_none {procs = procs} {packets = packets}
       taken = λ source. omega arith;
       logs = λ home. omega arith;
     })
+
+-- nor where the region is as it was
+pub same_moves : {procs : List ProcTree} {packets : List Packet} (a : NodeView) (r : RegionView) → r ≡ a.site.region → MovesOn procs packets a (record a { site = in_region a.site r })
+same_moves {procs} {packets} a r is = subst (λ (x : RegionView). MovesOn procs packets a (record a { site = in_region a.site x })) (sym is) (made_nothing a)
 
 -- fewer packets brought it, so more did
 pub moves_by_more : {procs : List ProcTree} {xs : List Packet} (ys : List Packet) {a b : NodeView} → MovesOn procs xs a b → MovesOn procs (xs ++ ys) a b

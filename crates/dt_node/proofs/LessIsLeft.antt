@@ -42,10 +42,7 @@ try_left tries attempt lt = omega arith
 
 calls_left : (calls tries : ℕ) → 0 < calls → calls * (tries + 2) ≡ (calls - 1) * (tries + 2) + (tries + 2)
 calls_left zero tries some = absurd (omega arith)
-calls_left (suc n) tries some = suc-mul n (tries + 2) ∙ ap (λ m. m * (tries + 2) + (tries + 2)) (sym (sub-one n))
-  where
-    sub-one : (m : ℕ) → suc m - 1 ≡ m
-    sub-one m = omega arith
+calls_left (suc n) tries some = suc-mul n (tries + 2) ∙ ap (λ m. m * (tries + 2) + (tries + 2)) (let e : n ≡ suc n - 1 = omega arith in e)
 
 one_less : (calls answered tries : ℕ) → (calls - (answered + 1)) * (tries + 2) ≡ (calls - answered - 1) * (tries + 2)
 one_less calls answered tries = ap (λ n. n * (tries + 2)) (omega arith)

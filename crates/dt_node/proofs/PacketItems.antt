@@ -17,7 +17,6 @@ use Rattle.dt_region.specs.Region.{RegionView}
 use Rattle.dt_region.specs.Conditions.{CanAppend, CanDeliver}
 use Rattle.dt_region.specs.Rules.{MakesAppend, MakesDelivery, past_end, with_entries}
 use Rattle.dt_region.specs.Sound.{IsSoundRegion}
-use Rattle.dt_packet.specs.declared.packet.Packet.{Packet}
 use Rattle.dt_cluster.specs.declared.Cluster.{Cluster}
 use Rattle.dt_workload.specs.declared.Workload.{Workload}
 use Rattle.dt_session.specs.World.{asked_of}
@@ -31,7 +30,7 @@ use Rattle.dt_node.specs.TurnInner.{CanTake, MovesOn, asking_packet, logging_pac
 use Rattle.dt_node.proofs.Rule3Deliver.{can_receive, receive_goes}
 use Rattle.dt_node.proofs.PlacedRequests.{has_placed_if, placed_to_if}
 use Rattle.dt_node.proofs.CallsOfNode.{place_moves, receive_moves}
-use Rattle.dt_node.proofs.CallAfterCall.{made_nothing, new_are, new_none}
+use Rattle.dt_node.proofs.CallAfterCall.{new_are, new_none, same_moves}
 use Rattle.dt_node.proofs.Rule2Append.{can_place, first_of_rest, place_goes}
 use Rattle.dt_node.proofs.CallConditions.{one_more}
 
@@ -40,10 +39,6 @@ wanted : {cluster : Cluster} {workload : Workload} {events : List Event} {a : No
     → slice_get (asked_of (world_after cluster workload events) source (number_of a)) number ≡ Some txn.id
 wanted {cluster} {workload} {events} {a} source number txn t =
     (first_of_rest number (number + 1) (asked_of (world_after cluster workload events) source (number_of a)) txn.id [] (sym t.told.0.asked)).0
-
--- where its region stays as it is, a node makes nothing
-stays_so : {procs : List ProcTree} {packets : List Packet} {a : NodeView} (r : RegionView) → r ≡ a.site.region → MovesOn procs packets a (record a { site = in_region a.site r })
-stays_so {procs} {packets} {a} r is = subst (λ (x : RegionView). MovesOn procs packets a (record a { site = in_region a.site x })) (sym is) (made_nothing a)
 
 module _ {a : NodeView} (source number : ℕ) (txn : Txn) (c : CanTake (asking_packet a source number (txn ∷ []) ∷ []) a) where
   -- what the call asks for
@@ -67,8 +62,8 @@ module _ {a : NodeView} (source number : ℕ) (txn : Txn) (c : CanTake (asking_p
         to = omega arith;
         earlier = omega arith;
       }))
-  place_ends (Ok false) r m sound = stays_so r m.1
-  place_ends (Err e) r m sound = stays_so r m
+  place_ends (Ok false) r m sound = same_moves a r m.1
+  place_ends (Err e) r m sound = same_moves a r m
 
   place_there : source < length a.site.region.state.here.taken
   place_there = subst (λ n. source < n) (sym c.can.fits.site.sound.taken) source_there
@@ -108,9 +103,9 @@ module _ {a : NodeView} (source first : ℕ) (entries : List Entry) (c : CanTake
         some = let low : first ≤ length (log_at a.site.region.state.logs source) = m.0 in let high : length (log_at a.site.region.state.logs source) < first + length entries = m.1 in omega (arith, low, high);
         earlier = omega arith;
       }))
-  receive_ends (Ok Old) r m sound = stays_so r m.2
-  receive_ends (Ok Gap) r m sound = stays_so r m.1
-  receive_ends (Err e) r m sound = stays_so r m
+  receive_ends (Ok Old) r m sound = same_moves a r m.2
+  receive_ends (Ok Gap) r m sound = same_moves a r m.1
+  receive_ends (Err e) r m sound = same_moves a r m
 
   pub receive_taken : (taken : Taken) (r : RegionView) → MakesDelivery a.site.region source first first entries (Ok taken) r → first + length entries ≤ length (log_at r.state.logs source)
   receive_taken (New n) r m =

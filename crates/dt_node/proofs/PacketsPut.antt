@@ -14,7 +14,8 @@ use Rattle.dt_packet.specs.declared.loss.Verdict.TheVariants.{Pass, Twice}
 use Rattle.dt_packet.specs.Links.{OutletView}
 use Rattle.dt_packet.specs.Loss.{IsVerdict}
 use Rattle.dt_node.specs.NodeView.{NodeView, number_of, other_at, packet_for}
-use Rattle.dt_node.specs.TurnPackets.{HasEntriesOf, HasSent, IsSentBy, no_outlet, packets_for, put_at, put_one}
+use Rattle.dt_node.specs.TurnPackets.{HasSent, IsSentBy, no_outlet}
+use Rattle.dt_node.specs.TurnPacketsInner.{HasEntriesOf, packets_for, put_at, put_one}
 
 many_put : (outs : List OutletView) (packets : List Packet) → length (put_at outs packets) ≡ length outs
 many_put [] packets = refl

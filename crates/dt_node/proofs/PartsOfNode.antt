@@ -21,7 +21,7 @@ use Rattle.dt_region.specs.Rules.{MakesAppend, with_event}
 use Rattle.dt_region.specs.Sound.{IsSoundRegion}
 use Rattle.dt_packet.specs.declared.packet.Packet.{Packet}
 use Rattle.dt_session.specs.Step.{ranked_body}
-use Rattle.dt_session.specs.Sessions.{IsNext, MayBeAnswered, MayGo, SessionsView, StandsAt, after_answer, after_wait, waits_of, wanted_of}
+use Rattle.dt_session.specs.Sessions.{IsNext, MayBeAnswered, MayGo, SessionsView, StandsAt, after_answer, after_wait, answered_seat, waiting, waits_of, wanted_of}
 use Rattle.dt_site.specs.declared.Origin.{Origin}
 use Rattle.dt_site.specs.Site.{SiteView, MakesAttempt, in_region}
 use Rattle.dt_node.specs.MeasureInner.{left_for}
@@ -31,10 +31,10 @@ use Rattle.dt_node.specs.Steps.{HasTakenOne, IsNextAt}
 use Rattle.dt_node.specs.StepsInner.{HasPlaced, HasReceived, IsAnswering, IsPlacedTo}
 use Rattle.dt_node.specs.TurnInner.{CanTake, HasGoneOn, KnowsTheSame, MovesOn, asking_packet, logging_packet, noted}
 use Rattle.dt_node.specs.EagerStartInner.{IsPlacingOwn}
-use Rattle.dt_node.proofs.CallAfterCall.{made_nothing, new_are}
+use Rattle.dt_node.proofs.CallAfterCall.{new_are}
 use Rattle.dt_node.proofs.SubmissionEvents.{placing_none, placing_one}
 use Rattle.dt_node.proofs.OwnRequests.{may_place_own, own_ends, own_held, own_placed}
-use Rattle.dt_node.proofs.SessionCalls.{answered_moves, answered_on, answered_seats, may_still, may_wait, submitted_less, submitted_moves, submitted_seats}
+use Rattle.dt_node.proofs.SessionCalls.{answered_moves, answered_on, may_still, may_wait, seats_as_many, submitted_less, submitted_moves}
 use Rattle.dt_node.proofs.Rule1Submit.{call_is_there}
 use Rattle.dt_node.proofs.WholePacket.{all_moved, all_steps, all_taken, asked_so_far, logged_so_far, may_ask, may_log}
 
@@ -49,9 +49,6 @@ no_name_at seats index lt none =
     cc (there.1, none)
 
 -- the region is as it was
-pub same_moves : {procs : List ProcTree} {packets : List Packet} (a : NodeView) (r : RegionView) → r ≡ a.site.region → MovesOn procs packets a (record a { site = in_region a.site r })
-same_moves {procs} {packets} a r is = subst (λ (x : RegionView). MovesOn procs packets a (record a { site = in_region a.site x })) (sym is) (made_nothing a)
-
 pub same_own : (a : NodeView) (r : RegionView) → r ≡ a.site.region → IsPlacingOwn a (record a { site = in_region a.site r })
 same_own a r is = subst (λ (x : RegionView). IsPlacingOwn a (record a { site = in_region a.site x })) (sym is) (placing_none a)
 
@@ -69,7 +66,7 @@ module _ (a : NodeView) (name : Bytes) {last : Option Outcome} (told : last ≡ 
   call_moves procs = answered_moves a name may r is s then_is procs
 
   pub call_seats : length s.seats ≡ length a.sessions.seats
-  call_seats = answered_seats a name may r is s then_is
+  call_seats = seats_as_many answered_seat name a.sessions s then_is
 
   pub call_on : HasGoneOn a (record a { site = in_region a.site r; sessions = s })
   call_on = answered_on a name may r is s then_is
@@ -199,7 +196,7 @@ module _ (procs : List ProcTree) {a : NodeView} {origin : Origin} {rank : ℕ} {
   waits_here = waits ∙ (λ i. after_wait (kept i) origin.session id)
 
   pub sub_seats : length s.seats ≡ length a.sessions.seats
-  sub_seats = submitted_seats origin.session t procs id q made s waits_here
+  sub_seats = seats_as_many (λ seat. waiting seat id) origin.session a.sessions s waits_here
 
   pub sub_less : left_for s < left_for a.sessions
   sub_less = submitted_less origin.session t procs id q made s waits_here

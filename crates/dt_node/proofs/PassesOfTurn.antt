@@ -17,7 +17,7 @@ use Rattle.dt_region.specs.Region.{RegionState, RegionView, held, latest_stamp}
 use Rattle.dt_packet.specs.declared.packet.Packet.{Packet}
 use Rattle.dt_node.specs.MeasureInner.{left_for}
 use Rattle.dt_node.specs.NodeView.{NodeView, new_items, number_of}
-use Rattle.dt_node.specs.TurnPackets.{IsReady}
+use Rattle.dt_node.specs.TurnPacketsInner.{IsReady}
 use Rattle.dt_node.specs.NodeInWorld.{NodeStands}
 use Rattle.dt_node.specs.Turn.{BeginsEagerly, HasPlacedOwn, HasTaken, IsSettled, MayAnswerAt, MaySubmitAt}
 use Rattle.dt_node.specs.Steps.{AllWhoMight, HasMadePasses, HasMadeRound, HasTakenEach, HasTurned, IsPass}

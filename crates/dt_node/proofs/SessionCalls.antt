@@ -12,7 +12,8 @@ use Rattle.dt_txn.specs.Replica.{taken_from}
 use Rattle.dt_region.specs.Region.{RegionView, outcome_of}
 use Rattle.dt_region.specs.Rules.{with_event}
 use Rattle.dt_region.specs.Sound.{IsSoundRegion}
-use Rattle.dt_session.specs.Sessions.{MayBeAnswered, MayGo, SessionsView, after_answer, after_wait, answered_seat, seat_of, waiting, waits_of}
+use Rattle.dt_session.specs.declared.sessions.Seat.{Seat}
+use Rattle.dt_session.specs.Sessions.{MayBeAnswered, MayGo, SessionsView, after_answer, after_wait, seat_of, waits_of, with_changed}
 use Rattle.dt_site.specs.declared.Origin.{Origin}
 use Rattle.dt_site.specs.Site.{SiteView, MakesAttempt, in_region}
 use Rattle.dt_node.specs.MeasureInner.{left_for}
@@ -23,6 +24,10 @@ use Rattle.dt_node.specs.TurnInner.{HasGoneOn, MovesOn}
 use Rattle.dt_node.proofs.Rule7Answer.{seats_kept}
 use Rattle.dt_node.proofs.LessIsLeft.{answer_falls, wait_falls}
 use Rattle.dt_node.proofs.CallsOfNode.{answer_moves, submit_moves}
+
+-- where one session was changed, there are as many as before
+pub seats_as_many : (change : Seat → Seat) (name : Bytes) (before after : SessionsView) → after ≡ with_changed change before name (seat_of before name) → length after.seats ≡ length before.seats
+seats_as_many change name before after is = ap (λ (x : SessionsView). length x.seats) is ∙ seats_kept change before name (seat_of before name)
 
 -- the session of this name was answered
 module _ (a : NodeView) (name : Bytes) (may : MayAnswerAt a name) (r : RegionView) (is : r ≡ with_event a.site.region a.site.region.state (Answer (number_of a) name)) where
@@ -36,9 +41,6 @@ module _ (a : NodeView) (name : Bytes) (may : MayAnswerAt a name) (r : RegionVie
 
     pub answered_moves : (procs : List ProcTree) → MovesOn procs [] a b
     answered_moves procs = subst (λ x. MovesOn procs [] a (record a { site = in_region a.site r; sessions = x })) (sym answered) (answer_moves name r is may)
-
-    pub answered_seats : length s.seats ≡ length a.sessions.seats
-    answered_seats = ap (λ (x : SessionsView). length x.seats) answered ∙ seats_kept answered_seat a.sessions name (seat_of a.sessions name)
 
     pub answered_on : HasGoneOn a b
     answered_on = record {
@@ -57,9 +59,6 @@ module _ {a : NodeView} (name : Bytes) {origin : Origin} {rank : ℕ} {body : Bo
   module _ (s : SessionsView) (waits : s ≡ after_wait a.sessions name id) where
     pub submitted_moves : IsSoundRegion q.region.state → MovesOn procs [] a (record a { site = q; sessions = s })
     submitted_moves sound = subst (λ x. MovesOn procs [] a (record a { site = q; sessions = x })) (sym waits) (submit_moves name t id q made sound)
-
-    pub submitted_seats : length s.seats ≡ length a.sessions.seats
-    submitted_seats = ap (λ (x : SessionsView). length x.seats) waits ∙ seats_kept (λ seat. waiting seat id) a.sessions name (seat_of a.sessions name)
 
     pub submitted_less : left_for s < left_for a.sessions
     submitted_less = subst (λ x. left_for x < left_for a.sessions) (sym waits) (wait_falls a.sessions name (last_at a name) id t.may)

@@ -2,11 +2,12 @@
 -- of one leaves all others as they are.
 use Rattle.std.proofs.Common.{◌≡◌, ◌<◌, ◌≤◌, ◌+◌, ◌⊎◌, ◌||◌, ℕ, zero, suc, Bool, true, false, List, [], ◌∷◌, ◌++◌, length, map, take, slice_get, Some, None}
 use Rattle.std.proofs.Common.{cond, refl, sym, ap, subst, ◌∙◌, inl, inr, arith}
-use Rattle.std.specs.Prelude.{Option, option_and_then, option_map}
+use Rattle.std.specs.Prelude.{Option, option_and_then, option_map, unwrap_or}
 use Rattle.std.specs.Map.{lookup}
 use Rattle.std.proofs.lemmas.Bool.{cases_Bool}
-use Rattle.std.proofs.lemmas.List.{length-map, take_all}
+use Rattle.std.proofs.lemmas.List.{length-map, take_all, take_more}
 use Rattle.std.proofs.lemmas.Map.{keys-set_value}
+use Rattle.std.proofs.lemmas.Option.{slice_get_within, unwrap_or-slice_get}
 use Rattle.dt_lists.specs.Lists.{EachThen, Has}
 use Rattle.dt_lists.proofs.Callers.{all_get, all_put, any_append_left, any_append_right, at_place, each_image, each_of_image, has_place}
 use Rattle.dt_access.specs.Clash.{Bytes}
@@ -67,13 +68,7 @@ module _ {A : Type 0} (P : A → Type 0) where
   picked_each R (x ∷ xs) picked (inl r) o = subst (EachThen R) (sym r.2) (all_put (R x) r.0 (λ y h. all_get (R x) xs o.0 y (picked_has xs r.0 r.3 y h).0), picked_each R xs r.0 r.3 o.1)
   picked_each R (x ∷ xs) picked (inr r) o = picked_each R xs picked r.1 o.1
 
--- the front of a list, and the item behind it
-
-front_more : {A : Type 0} (n : ℕ) (xs : List A) (x : A) → slice_get xs n ≡ Some x → take (suc n) xs ≡ take n xs ++ x ∷ []
-front_more n [] x e = cc
-front_more zero (y ∷ xs) x e = let same : y ≡ x = cc in ap (λ z. z ∷ []) same
-front_more (suc n) (y ∷ xs) x e = ap (λ l. y ∷ l) (front_more n xs x e)
-
+-- the item behind the front of a list is not in it
 not_in_front : (n : ℕ) (xs : List Bytes) (x : Bytes) → EachThen KeyBefore xs → slice_get xs n ≡ Some x → ¬ (Has (take n xs) x)
 not_in_front n [] x o e h = cc
 not_in_front zero (y ∷ xs) x o e h = h
@@ -193,7 +188,9 @@ module _ (May : NodeView → Bytes → Type 0) (Step : NodeView → Bytes → No
       is_new k = not_in_front place (seat_names a) name in_order at_first (picked_has (May a) (take place (seat_names a)) h.names h.picked name k).0
 
       up : take (place + 1) (seat_names a) ≡ take place (seat_names a) ++ name ∷ []
-      up = ap (λ n. take n (seat_names a)) (let e : place + 1 ≡ suc place = omega arith in e) ∙ front_more place (seat_names a) name at_first
+      up =
+          take_more (seat_names a) place name (slice_get_within (seat_names a) place name at_first)
+          ∙ ap (λ x. take place (seat_names a) ++ x ∷ []) (sym (unwrap_or-slice_get (seat_names a) place name) ∙ ap (λ o. unwrap_or o name) at_first)
 
       stepped_there : (c : NodeView) → Step b name c → HaveStepped May Step a (place + 1) c
       stepped_there c s = record {

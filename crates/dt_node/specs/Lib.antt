@@ -4,6 +4,7 @@ pub mod NodeInWorld
 pub mod Turn
 pub mod Steps
 pub mod TurnPackets
+pub mod TurnPacketsInner
 pub mod MeasureInner
 pub mod StepsInner
 pub mod TurnInner

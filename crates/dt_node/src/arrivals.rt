@@ -36,8 +36,8 @@ impl<S: Scheduler + Drop> Node<S> {
         // Where no packet waits, nothing changes.
         ensures still { flat_map I.waits ins.old ≡ [] → self.new ≡ self.old }
     {
-        for link in 0..ins.len() {
-            self.receive_from(alloc, &mut ins[link])?;
+        for inlet in ins.iter_mut() {
+            self.receive_from(alloc, inlet)?;
         }
         Ok(())
     }

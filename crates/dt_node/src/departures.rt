@@ -2,7 +2,8 @@ ghost use Rattle.std.specs.Prelude.{◌≡◌, ◌<◌, ◌≤◌, ◌+◌, ◌^
 ghost use Rattle.dt_lists.specs.Lists.{AllIn, Pairwise};
 ghost use Rattle.dt_region.specs.Region.{held};
 ghost use Rattle.dt_node.specs.NodeView.{entry_held, most_items, other_at, packet_for, stretch_from};
-ghost use Rattle.dt_node.specs.TurnPackets.{HasEntriesOf, HasSent, IsReady, entries_from, packets_for, put_at, put_one};
+ghost use Rattle.dt_node.specs.TurnPackets.{HasSent};
+ghost use Rattle.dt_node.specs.TurnPacketsInner.{HasEntriesOf, IsReady, entries_from, packets_for, put_at, put_one};
 
 use crate::node::Node;
 use dt_access::{Part, TryCopy, TxnId};

@@ -9,7 +9,7 @@ use Rattle.dt_sched.specs.Decide.{IsExecutable, IsResolvable}
 use Rattle.dt_sched.proofs.Callers.{has_id_decided, class_unique, in_own_class, present_of_complete}
 use Rattle.dt_plain.proofs.IdEquality.{no_id}
 use Rattle.dt_plain.proofs.Scan.{refuted}
-use Rattle.dt_sched.specs.Surroundings.{ArePresent}
+use Rattle.dt_plain.specs.SurroundingsInner.{ArePresent}
 
 -- one more id of the list has P
 all_more : (P : TxnId → Type 0) (ids : List TxnId) (i : ℕ) → i < length ids → AllIn P (take i ids) → P (get_or ids i no_id) → AllIn P (take (i + 1) ids)

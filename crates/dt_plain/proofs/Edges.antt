@@ -9,7 +9,7 @@ use Rattle.dt_access.specs.declared.TxnId.{TxnId}
 use Rattle.dt_access.specs.declared.Part.{Part}
 use Rattle.dt_sched.specs.Views.{View, AreClashing, Edge}
 use Rattle.dt_plain.specs.LinksInner.{AreReached}
-use Rattle.dt_sched.specs.Surroundings.{MakesEdge, EdgeInto, EdgeWithin, AreBehind, AreAhead}
+use Rattle.dt_plain.specs.SurroundingsInner.{MakesEdge, EdgeInto, EdgeWithin, AreBehind, AreAhead}
 use Rattle.dt_plain.specs.GraphsInner.{Gains, AreEdges, AreTurned, turned_link}
 use Rattle.dt_plain.specs.declared.search.Link.{Link}
 

@@ -5,7 +5,7 @@ use Rattle.dt_lists.specs.Lists.{Has, Distinct}
 use Rattle.dt_lists.proofs.Callers.{any_append, any_append_left, any_append_right, all_put, each_append, front_trans, front_append}
 use Rattle.dt_access.specs.declared.TxnId.{TxnId}
 use Rattle.dt_plain.proofs.IdEquality.{no_id}
-use Rattle.dt_sched.specs.IdLists.{AddsOnce}
+use Rattle.dt_plain.specs.IdListsInner.{AddsOnce}
 use Rattle.dt_plain.specs.LinksInner.{Follows}
 use Rattle.dt_plain.specs.declared.search.Link.{Link}
 

@@ -7,7 +7,7 @@ use Rattle.dt_lists.specs.Lists.{Has, Distinct}
 use Rattle.dt_lists.proofs.Callers.{any_append, any_append_left, any_append_right, each_append_left, each_across, distinct_push}
 use Rattle.dt_access.specs.declared.TxnId.{TxnId}
 use Rattle.dt_plain.proofs.IdEquality.{no_id}
-use Rattle.dt_sched.specs.IdLists.{AreShared, AreCommon, IsOrderOf}
+use Rattle.dt_plain.specs.IdListsInner.{AreShared, AreCommon, IsOrderOf}
 
 -- one more id of the first list, that is in the second
 shared_push : (left right ids : List TxnId) (x : TxnId) → ¬ (Has left x) → AreShared left right ids → Has right x → AreShared (left ++ x ∷ []) right (ids ++ x ∷ [])

@@ -8,7 +8,7 @@ use Rattle.dt_access.specs.Ids.{Before, same_id}
 use Rattle.dt_access.specs.declared.TxnId.{TxnId}
 use Rattle.dt_access.proofs.Callers.{before_or_above, before_transitive, by_parts, id_of_test, same_id_turned, test_of_id}
 use Rattle.dt_plain.proofs.IdEquality.{ids_same}
-use Rattle.dt_sched.specs.IdLists.{IsOrderOf}
+use Rattle.dt_plain.specs.IdListsInner.{IsOrderOf}
 
 pub order_of_sorted : (xs ys : List TxnId) → Distinct xs → IsPermutation xs ys → IsSorted by_parts ys → IsOrderOf xs ys
 order_of_sorted xs ys d p s = record {

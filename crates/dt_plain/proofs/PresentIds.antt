@@ -4,9 +4,9 @@ use Rattle.dt_lists.proofs.Callers.{any_append, any_append_left, any_append_righ
 use Rattle.dt_access.specs.declared.TxnId.{TxnId}
 use Rattle.dt_access.specs.declared.Part.{Part}
 use Rattle.dt_sched.specs.Views.{View}
-use Rattle.dt_sched.specs.IdLists.{AddsOnce}
+use Rattle.dt_plain.specs.IdListsInner.{AddsOnce}
 use Rattle.dt_plain.specs.GraphsInner.{GetsIds}
-use Rattle.dt_sched.specs.Surroundings.{ArePresent}
+use Rattle.dt_plain.specs.SurroundingsInner.{ArePresent}
 
 -- one more part
 pub gets_more : (log : List Part) (p : Part) (old mid new : List TxnId) → GetsIds log old mid → AddsOnce mid p.id new → GetsIds (log ++ p ∷ []) old new

@@ -9,8 +9,8 @@ use Rattle.dt_access.proofs.Callers.{either_id}
 use Rattle.dt_sched.proofs.Callers.{has_id_decided, class_unique, class_of_member, sooner_breaks_ties}
 use Rattle.dt_plain.proofs.Scan.{refuted}
 use Rattle.dt_plain.proofs.IdEquality.{no_id}
-use Rattle.dt_sched.specs.Surroundings.{AreBehind, AreAhead, IsNoObstacle, IsClear, AreCandidates, IsUnhindered}
-use Rattle.dt_sched.specs.IdLists.{AreCommon}
+use Rattle.dt_plain.specs.SurroundingsInner.{AreBehind, AreAhead, IsNoObstacle, IsClear, AreCandidates, IsUnhindered}
+use Rattle.dt_plain.specs.IdListsInner.{AreCommon}
 
 -- a class is what is behind and ahead
 pub class_from : (view : View) (t : TxnId) (behind ahead ids : List TxnId) → AreBehind view t behind → AreAhead view t ahead → AreCommon behind ahead ids → IsClass view t ids

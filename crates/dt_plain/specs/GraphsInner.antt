@@ -6,7 +6,7 @@ use Rattle.dt_lists.specs.Lists.{Has, Distinct}
 use Rattle.dt_access.specs.declared.TxnId.{TxnId}
 use Rattle.dt_access.specs.declared.Part.{Part}
 use Rattle.dt_sched.specs.Views.{View, HasPart, Edge}
-use Rattle.dt_sched.specs.Surroundings.{ArePresent}
+use Rattle.dt_plain.specs.SurroundingsInner.{ArePresent}
 use Rattle.dt_plain.specs.LinksInner.{IsLinked}
 use Rattle.dt_plain.specs.declared.search.Link.{Link}
 

@@ -1,6 +1,6 @@
 -- Scaffolding: links between ids, and a search along them, which finds from an id all that the links lead to, each once. A list
 -- of links says nothing about logs; that it is the edges of a view, forth or turned round, stands in `GraphsInner`. Read next:
--- Surroundings.antt of dt_sched, for what is read off what a search has found.
+-- SurroundingsInner.antt, for what is read off what a search has found.
 use Rattle.std.specs.Prelude.{◌≡◌, ◌⊎◌, ◌↔◌, List}
 use Rattle.dt_lists.specs.Lists.{AnyIn, Has, IsFront, Distinct}
 use Rattle.dt_access.specs.declared.TxnId.{TxnId}

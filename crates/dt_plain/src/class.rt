@@ -1,6 +1,6 @@
 ghost use Rattle.std.specs.Prelude.{◌≡◌, ◌⊎◌, ◌↔◌, IsTrue, IfOk};
 ghost use Rattle.dt_lists.specs.Lists.{AllIn, Has, Distinct};
-ghost use Rattle.dt_sched.specs.IdLists.{AreShared, AreCommon, IsOrderOf};
+ghost use Rattle.dt_plain.specs.IdListsInner.{AreShared, AreCommon, IsOrderOf};
 
 use crate::ids::has;
 use dt_access::{Ids, TxnId};

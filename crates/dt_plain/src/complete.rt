@@ -1,7 +1,7 @@
 ghost use Rattle.std.specs.Prelude.{◌↔◌, IsTrue};
 ghost use Rattle.dt_lists.specs.Lists.{AnyIn, AllIn};
 ghost use Rattle.dt_sched.specs.Views.{HasPart, log_at, IsComplete};
-ghost use Rattle.dt_sched.specs.Surroundings.{ShowsComplete};
+ghost use Rattle.dt_plain.specs.SurroundingsInner.{ShowsComplete};
 
 use dt_access::{Part, TxnId};
 use dt_text::Listed;

@@ -2,7 +2,7 @@ ghost use Rattle.std.specs.Prelude.{◌↔◌, ◌≤◌, IsTrue, IfOk, length};
 ghost use Rattle.dt_lists.specs.Lists.{AllIn, Has};
 ghost use Rattle.dt_sched.specs.Decide.{IsExecutable, IsResolvable};
 ghost use Rattle.dt_sched.specs.Sched.{IsNextReady, IsNextClass};
-ghost use Rattle.dt_sched.specs.Surroundings.{IsNoObstacle, IsClear, AreCandidates, IsUnhindered};
+ghost use Rattle.dt_plain.specs.SurroundingsInner.{IsNoObstacle, IsClear, AreCandidates, IsUnhindered};
 
 use crate::class::{are_among, common, has_class, same};
 use crate::graph::Graph;

@@ -1,5 +1,5 @@
 ghost use Rattle.std.specs.Prelude.{◌≡◌, ◌↔◌, IsTrue, IfOk, OnOk, map};
-ghost use Rattle.dt_sched.specs.Surroundings.{MakesEdge, EdgeInto, EdgeWithin, AreBehind, AreAhead, ArePresent};
+ghost use Rattle.dt_plain.specs.SurroundingsInner.{MakesEdge, EdgeInto, EdgeWithin, AreBehind, AreAhead, ArePresent};
 ghost use Rattle.dt_plain.specs.GraphsInner.{Gains, AreEdges, GetsIds, turned_link};
 ghost use Rattle.dt_lists.specs.Lists.{AllIn, Distinct};
 ghost use Rattle.dt_sched.specs.Views.{IsComplete, IsClass, IsSooner};

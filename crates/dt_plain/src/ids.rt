@@ -1,6 +1,6 @@
 ghost use Rattle.std.specs.Prelude.{◌↔◌, IsTrue, OnOk};
 ghost use Rattle.dt_lists.specs.Lists.{Has, Distinct};
-ghost use Rattle.dt_sched.specs.IdLists.{AddsOnce};
+ghost use Rattle.dt_plain.specs.IdListsInner.{AddsOnce};
 
 use dt_access::{Ids, TxnId};
 use dt_text::NoMemory;

@@ -1,6 +1,5 @@
 -- Statements as lists and as blocks.
-use Rattle.std.proofs.Common.{◌≡◌, ℕ, zero, suc, ◌+◌, ◌<◌, ◌≤◌, List, [], ◌∷◌, ◌++◌, length, take, get_or, refl, ap, sym, ◌∙◌, arith}
-use Rattle.std.proofs.lemmas.List.{take_more}
+use Rattle.std.proofs.Common.{◌≡◌, ℕ, zero, suc, ◌+◌, ◌<◌, ◌≤◌, List, [], ◌∷◌, ◌++◌, length, get_or, refl, ap, arith}
 use Rattle.dt_proc.specs.declared.tree.Stmt.{Stmt}
 use Rattle.dt_proc.specs.Tree.{done, then, joined}
 use Rattle.dt_proc.specs.TreeViews.{stmt_tree, block_tree, step_size, block_size}
@@ -14,9 +13,3 @@ pub step_in : (ss : List Stmt) (i : ℕ) (s : Stmt) → i < length ss → s ≡ 
 step_in [] i s lt e = absurd (omega arith)
 step_in (t ∷ ss) zero s lt e = let same : step_size (stmt_tree s) ≡ step_size (stmt_tree t) = ap (λ v. step_size (stmt_tree v)) e in omega arith
 step_in (t ∷ ss) (suc i) s lt e = omega (arith, step_in ss i s (omega arith) e)
-
--- the statements up to a place, and one more
-pub taken_step : (ss : List Stmt) (i : ℕ) (s : Stmt) → i < length ss → s ≡ get_or ss i s →
-    block_tree (take (i + 1) ss) ≡ joined (block_tree (take i ss)) (then (stmt_tree s) done)
-taken_step ss i s lt e =
-    ap block_tree (take_more ss i s lt) ∙ ap (λ v. block_tree (take i ss ++ v ∷ [])) (sym e) ∙ with_last (take i ss) s

@@ -42,12 +42,7 @@ fn param_of(scope: &Scope, place: u32, name: &Name, wanted: Sort) -> Result<u32,
 fn is_same(left: Sort, right: Sort) -> bool
     ensures { result ≡ checked.same_sort left right }
 {
-    match (left, right) {
-        (Sort::Int, Sort::Int) => true,
-        (Sort::Text, Sort::Text) => true,
-        (Sort::Bool, Sort::Bool) => true,
-        _ => false,
-    }
+    left == right
 }
 
 /// A shown parameter in brackets, as a part of a key expression.
@@ -58,10 +53,8 @@ fn shown_part<'a>(scope: &Scope, tokens: &'a [Placed]) -> Result<(KeyItem, &'a [
         → walked.WalkAnswers (checked.check_part scope.now (syn.show_part p b)) rest (walked.part_shown result) }
 {
     let (place, name, rest) = bracketed(tokens);
-    match param_of(scope, place, name, Sort::Int) {
-        Ok(number) => Ok((KeyItem::Show(number), rest)),
-        Err(fault) => Err(fault),
-    }
+    let number = param_of(scope, place, name, Sort::Int)?;
+    Ok((KeyItem::Show(number), rest))
 }
 
 /// A part of a key expression.
@@ -80,10 +73,10 @@ fn part<'a>(
     };
     match &first.token {
         Token::Text(text) => Ok((KeyItem::Text(text.get().copy(alloc)?), rest)),
-        Token::Name(name) => match param_of(scope, first.place, name.get(), Sort::Text) {
-            Ok(number) => Ok((KeyItem::Param(number), rest)),
-            Err(fault) => Err(fault),
-        },
+        Token::Name(name) => {
+            let number = param_of(scope, first.place, name.get(), Sort::Text)?;
+            Ok((KeyItem::Param(number), rest))
+        }
         Token::Show => shown_part(scope, rest),
         _ => unreachable!(),
     }

@@ -31,10 +31,8 @@ fn row_of<'a>(scope: &Scope, tokens: &'a [Placed]) -> Result<(Give, &'a [Placed]
     ensures right { (b : Bracketed) (rest : List Placed) → bracketed_tokens b ++ rest ≡ tokens.now
         → walked.WalkAnswers (after_ok (checked.key_of scope.now b) (λ k. Ok (tree.row k))) rest (walked.gift_shown result) }
 {
-    match key_in_brackets(scope, tokens) {
-        Ok((key, rest)) => Ok((Give::Row(key), rest)),
-        Err(fault) => Err(fault),
-    }
+    let (key, rest) = key_in_brackets(scope, tokens)?;
+    Ok((Give::Row(key), rest))
 }
 
 /// An expression as an item of `give`.
@@ -49,11 +47,9 @@ fn value_of<'a>(
     ensures right { (x : Syntax) (rest : List Placed) → IsLevel 0 x → fronts.FrontStops 0 rest → syntax_tokens x ++ rest ≡ tokens.now
         → walked.WalkAnswers (after_ok (checked.check scope.now x) (λ a. checked.needs_stored place a (tree.value a.0))) rest (walked.gift_shown result) }
 {
-    match expression(alloc, scope, tokens, 0) {
-        Ok((value, Sort::Int, rest)) => Ok((Give::Value(value), rest)),
-        Ok((value, Sort::Text, rest)) => Ok((Give::Value(value), rest)),
-        Ok((_, Sort::Bool, _)) => Err(ProcError::Kind(place)),
-        Err(fault) => Err(fault),
+    match expression(alloc, scope, tokens, 0)? {
+        (value, Sort::Int | Sort::Text, rest) => Ok((Give::Value(value), rest)),
+        (_, Sort::Bool, _) => Err(ProcError::Kind(place)),
     }
 }
 
@@ -203,10 +199,8 @@ fn give_step<'a>(
         → syn.items_tokens i more ++ at e tok.Semicolon ∷ rest ≡ tokens.now
         → walked.WalkAnswers (checked.check_statement scope.now (syn.give p i more e)) rest (walked.step_shown scope.now result) }
 {
-    match items(alloc, scope, tokens) {
-        Ok((gives, rest)) => Ok((Stmt::Give(gives), rest)),
-        Err(fault) => Err(fault),
-    }
+    let (gives, rest) = items(alloc, scope, tokens)?;
+    Ok((Stmt::Give(gives), rest))
 }
 
 /// Statements up to and with the `}` that closes them. What they let is no longer visible after it.

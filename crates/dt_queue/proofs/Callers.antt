@@ -1,7 +1,6 @@
--- What a caller's proof needs of queues: which entries wait after a push and after one is taken out, and that followers wait; and
--- what follows from an answer.
+-- What a caller's proof needs of queues: which entries wait after a push and after one is taken out, and that followers wait.
 -- All other lemmas of this crate are its own.
-use Rattle.std.proofs.Common.{◌≡◌, ◌≢◌, ℕ, Bool, true, false, cond, not, ◌==◌, List, [], ◌∷◌, ◌++◌, map, slice_get, Some, Result, Ok, Err, IfOk, IsOk, refl, ap, inl, inr, arith}
+use Rattle.std.proofs.Common.{◌≡◌, ◌≢◌, ℕ, Bool, true, false, cond, not, ◌==◌, List, [], ◌∷◌, ◌++◌, map, slice_get, Some, refl, ap, inl, inr, arith}
 use Rattle.dt_lists.specs.Lists.{AllIn, Has}
 use Rattle.dt_lists.proofs.Callers.{any_append_left, any_append_right, any_get, any_put, has_filter, has_of_filtered}
 use Rattle.dt_queue.specs.declared.follower.Follower.{Follower}
@@ -51,8 +50,3 @@ follower_waits ws slot place f e = by (followers_after ws slot place) (λ w h. a
       where
         same : Some f ≡ Some (follower_of w) → follower_of w ≡ f
         same e = cc
-
--- what goes for each answer goes where there is one
-pub settled : {A E P : Type 0} (r : Result A E) → IsOk r → IfOk r (λ _. P) → P
-settled (Ok a) o h = h
-settled (Err e) o h = cc

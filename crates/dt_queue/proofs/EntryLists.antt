@@ -4,8 +4,8 @@ use Rattle.std.proofs.Common.{nat_lt, List, [], ◌∷◌, map, Some, refl, ap, 
 use Rattle.std.specs.List.{filter, list_any}
 use Rattle.std.proofs.lemmas.Bool.{and_from, and_parts}
 use Rattle.slab.specs.Slab.{Slab, get}
-use Rattle.dt_lists.specs.Lists.{AllIn, EachThen, Has}
-use Rattle.dt_lists.proofs.Callers.{all_get, all_map, all_put, any_of_test, any_put, any_get, test_of_any, filter_none}
+use Rattle.dt_lists.specs.Lists.{EachThen, Has}
+use Rattle.dt_lists.proofs.Callers.{all_get, all_map, all_put, any_of_test, any_put, any_get, test_of_any, filter_none, filter_whole}
 use Rattle.dt_access.specs.Clash.{Bytes}
 use Rattle.dt_queue.specs.declared.cell.Cell.{Cell}
 use Rattle.dt_queue.specs.KeptInner.{entry}
@@ -38,14 +38,6 @@ lesser n K = filter (λ (p : ℕ × Cell). nat_lt p.1.number n) K
 
 abbrev pub greater : ℕ → List (ℕ × Cell) → List (ℕ × Cell)
 greater n K = filter (λ (p : ℕ × Cell). nat_lt n p.1.number) K
-
-filter_in : (test : ℕ × Cell → Bool) (xs : List (ℕ × Cell)) → AllIn (λ x. test x ≡ true) xs → filter test xs ≡ xs
-filter_in test [] all = refl
-filter_in test (x ∷ xs) all = by (test x) all.0 (filter_in test xs all.1)
-  where
-    by : (t : Bool) → t ≡ true → filter test xs ≡ xs → cond t (x ∷ filter test xs) (filter test xs) ≡ x ∷ xs
-    by true e rest = ap (λ l. x ∷ l) rest
-    by false e rest = cc
 
 -- of two different numbers the test fails, of one it holds
 slot_of : (p q : ℕ × Cell) → p ≡ q → p.0 ≡ q.0
@@ -110,7 +102,7 @@ module _ (names : List (ℕ × Bytes)) where
       by true e rest =
           let same = head_is x p xs s h (eqb-true x.0 p.0 e) in
           ap (map (entry names)) (sym (pass (nat_lt p.1.number x.1.number) (own same)
-          (filter_in (λ (q : ℕ × Cell). nat_lt p.1.number q.1.number) xs (all_map (Rise x) (λ (q : ℕ × Cell). nat_lt p.1.number q.1.number ≡ true) xs (λ q lt. higher same q lt) num.0))))
+          (filter_whole (λ (q : ℕ × Cell). nat_lt p.1.number q.1.number) xs (all_map (Rise x) (λ (q : ℕ × Cell). nat_lt p.1.number q.1.number ≡ true) xs (λ q lt. higher same q lt) num.0))))
         where
           own : x ≡ p → nat_lt p.1.number x.1.number ≡ false
           own f = let n : x.1.number ≡ p.1.number = ap (λ (y : ℕ × Cell). y.1.number) f in below_false _ _ (omega (arith, n))

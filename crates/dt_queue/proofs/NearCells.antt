@@ -3,6 +3,7 @@ use Rattle.std.proofs.Common.{◌≡◌, ◌⊎◌, ℕ, ◌<◌, ◌≤◌, tru
 use Rattle.std.proofs.Common.{◌∷◌, Option, Some, None, option_to_list, refl, ap, sym, subst, inl, inr, arith, ◌∙◌}
 use Rattle.std.specs.List.{filter}
 use Rattle.std.specs.Option.{option_or}
+use Rattle.std.proofs.Math.Nat.{lt_trans}
 use Rattle.slab.specs.Slab.{get}
 use Rattle.dt_lists.specs.Lists.{Has}
 use Rattle.dt_lists.proofs.Callers.{all_get, any_get, any_put}
@@ -133,11 +134,8 @@ none_in_use Read k kept x low none m used b = by (last_there low x.number (lane 
   where
     by : (o : Option Mark) × IsLastBetween low x.number (lane k Write x.row) o → ⊥
     by (None, l) = l m used b
-    by (Some w, l) = none w (l.0, l.1, λ j h e. after j (l.2 j h (up j e.0, e.1)) e.0)
+    by (Some w, l) = none w (l.0, l.1, λ j h e. after j (l.2 j h (lt_trans l.1.0 e.0, e.1)) e.0)
       where
-        up : (j : Mark) → w.number < j.number → low < j.number
-        up j lt = omega (arith, lt, l.1.0)
-
         after : (j : Mark) → j.number ≤ w.number → w.number < j.number → ⊥
         after j le lt = omega (arith, le, lt)
 none_in_use Write k kept x low none m used b = row_empty (lane k Read x.row) (lane k Write x.row) low x.number (row_of _ _ (apart_lanes k kept) x.row) none m b used

@@ -8,6 +8,7 @@ use Rattle.dt_lists.proofs.Callers.{all_get, either_le, filter_each, has_filter,
 use Rattle.dt_queue.specs.declared.mark.Mark.{Mark}
 use Rattle.dt_queue.specs.declared.next.Next.{Next}
 use Rattle.std.proofs.lemmas.List.{append-nil}
+use Rattle.std.proofs.Math.Nat.{lt_trans}
 use Rattle.dt_queue.specs.LanesInner.{AddsMarks, AreApart, AreMarks, HasRisingNumbers, IsBetween, IsFirstBetween, IsFirstIn, IsLastBetween, IsLastIn, IsNearInRow, IsNextInRow, NoneBetween, is_between, later_than, number_or}
 use Rattle.dt_queue.specs.NextInner.{IsFirstAfter, IsKnownNext}
 use Rattle.dt_queue.proofs.Marks.{between_true}
@@ -141,10 +142,7 @@ near_write reads writes low high (Some w) row last empty = record {
     not_after m a b = omega (arith, a, b)
 
     near_w : IsNearInRow reads writes low high w
-    near_w = (last.1, inr (last.0, (λ k g e. not_after k e.0 (last.2 k g (up k e.0, e.1))), (λ k g e. none_left k g e)))
-      where
-        up : (k : Mark) → w.number < k.number → low < k.number
-        up k a = omega (arith, a, last.1.0)
+    near_w = (last.1, inr (last.0, (λ k g e. not_after k e.0 (last.2 k g (lt_trans last.1.0 e.0, e.1))), (λ k g e. none_left k g e)))
 
 -- ---- the same the other way round: what is next
 
@@ -209,10 +207,7 @@ next_write reads writes low high (Some w) row first empty m = (
     not_before k a b = omega (arith, a, b)
 
     next_w : IsNextInRow reads writes low high w
-    next_w = (first.1, inr (first.0, (λ k g e. not_before k e.1 (first.2 k g (e.0, down k e.1))), (λ k g e. empty k g e)))
-      where
-        down : (k : Mark) → k.number < w.number → k.number < high
-        down k a = omega (arith, a, first.1.1)
+    next_w = (first.1, inr (first.0, (λ k g e. not_before k e.1 (first.2 k g (e.0, lt_trans e.1 first.1.1))), (λ k g e. empty k g e)))
 
 -- what is known of the one mark that there is at most
 pub next_of_one : (P : Mark → Type 0) (w : Option Mark) (after : ℕ) (n : Next) → ((m : Mark) → P m ↔ (w ≡ Some m)) → n.any ≡ is_some w → n.first ≡ later_than after w → IsKnownNext P after n
@@ -311,7 +306,7 @@ near_last ms low high None num l = record { numbered = tt; members = λ m. (λ h
 near_last ms low high (Some w) num l = record {
   numbered = (tt, tt);
   members = λ m. (
-    λ h. elim h [ inl e ↦ subst (IsLastIn ms low high) e (l.0, l.1, λ k g b. after k (l.2 k g (up k b.0, b.1)) b.0) | inr g ↦ absurd g ],
+    λ h. elim h [ inl e ↦ subst (IsLastIn ms low high) e (l.0, l.1, λ k g b. after k (l.2 k g (lt_trans l.1.0 b.0, b.1)) b.0) | inr g ↦ absurd g ],
     λ p. inl (same_mark ms num w m l.0 p.0 (elim (trichotomy w.number m.number) [
       | inl less ↦ absurd (after m (l.2 m p.0 p.1) less)
       | inr more ↦ elim more [ inl e ↦ e | inr gt ↦ absurd (p.2 w l.0 (gt, l.1.1)) ]
@@ -322,9 +317,6 @@ near_last ms low high (Some w) num l = record {
     after : (k : Mark) → k.number ≤ w.number → w.number < k.number → ⊥
     after k le lt = omega (arith, le, lt)
 
-    up : (k : Mark) → w.number < k.number → low < k.number
-    up k lt = omega (arith, lt, l.1.0)
-
 pub next_first : (ms : List Mark) (low high : ℕ) (w : Option Mark) → HasRisingNumbers ms → IsFirstBetween low high ms w → (m : Mark) → IsFirstIn ms low high m ↔ (w ≡ Some m)
 next_first ms low high None num l m = (λ p. absurd (l m p.0 p.1), λ e. cc)
 next_first ms low high (Some w) num l m = (
@@ -332,7 +324,7 @@ next_first ms low high (Some w) num l m = (
     | inl less ↦ absurd (p.2 w l.0 (l.1.0, less))
     | inr more ↦ elim more [ inl e ↦ e | inr gt ↦ absurd (before m (l.2 m p.0 p.1) gt) ]
   ])),
-  λ e. subst (IsFirstIn ms low high) (of_some e) (l.0, l.1, λ k g b. before k (l.2 k g (b.0, down k b.1)) b.1),
+  λ e. subst (IsFirstIn ms low high) (of_some e) (l.0, l.1, λ k g b. before k (l.2 k g (b.0, lt_trans b.1 l.1.1)) b.1),
 )
   where
     of_some : Some w ≡ Some m → w ≡ m
@@ -340,6 +332,3 @@ next_first ms low high (Some w) num l m = (
 
     before : (k : Mark) → w.number ≤ k.number → k.number < w.number → ⊥
     before k le lt = omega (arith, le, lt)
-
-    down : (k : Mark) → k.number < w.number → k.number < high
-    down k lt = omega (arith, lt, l.1.1)

@@ -1,6 +1,7 @@
 -- The marks of the nearest cells after a cell that clash with it, as they are found in the lanes.
 use Rattle.std.proofs.Common.{◌≡◌, ◌⊎◌, ◌↔◌, ℕ, ◌<◌, ◌≤◌, true, false, List, []}
 use Rattle.std.proofs.Common.{◌∷◌, Option, Some, None, is_some, refl, ap, sym, subst, inl, inr, arith, ◌∙◌}
+use Rattle.std.proofs.Math.Nat.{lt_trans}
 use Rattle.slab.specs.Slab.{get}
 use Rattle.dt_lists.specs.Lists.{Has}
 use Rattle.dt_lists.proofs.Callers.{all_get, any_get, any_put, either_le}
@@ -125,11 +126,8 @@ none_in_use Read k kept x high none m used b = by (first_there x.number high (la
   where
     by : (o : Option Mark) × IsFirstBetween x.number high (lane k Write x.row) o → ⊥
     by (None, l) = l m used b
-    by (Some w, l) = none w (l.0, l.1, λ j h e. before j (l.2 j h (e.0, down j e.1)) e.1)
+    by (Some w, l) = none w (l.0, l.1, λ j h e. before j (l.2 j h (e.0, lt_trans e.1 l.1.1)) e.1)
       where
-        down : (j : Mark) → j.number < w.number → j.number < high
-        down j lt = omega (arith, lt, l.1.1)
-
         before : (j : Mark) → w.number ≤ j.number → j.number < w.number → ⊥
         before j le lt = omega (arith, le, lt)
 none_in_use Write k kept x high none m used b = row_empty (lane k Read x.row) (lane k Write x.row) x.number high (row_of _ _ (apart_lanes k kept) x.row) none m b used

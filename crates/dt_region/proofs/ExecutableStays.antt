@@ -3,14 +3,14 @@ use Rattle.std.proofs.Common.{◌≡◌, ◌≢◌, ◌<◌, ℕ, List, [], ◌�
 use Rattle.std.specs.Prelude.{slice_get, slice_index}
 use Rattle.std.proofs.lemmas.List.{map-append}
 use Rattle.dt_lists.specs.Lists.{Has, IsWithin}
-use Rattle.dt_lists.proofs.Callers.{all_put, any_append_left, at_place, has_more, within_get, within_refl}
+use Rattle.dt_lists.proofs.Callers.{all_put, any_append_left, at_place, has_more, within_refl}
 use Rattle.dt_access.specs.declared.Part.{Part}
 use Rattle.dt_access.specs.declared.TxnId.{TxnId}
 use Rattle.dt_events.specs.declared.Event.TheVariants.{Insert, Resolve, Execute}
-use Rattle.dt_sched.specs.Views.{View, IsLonger, IsWellFormed, log_at}
+use Rattle.dt_sched.specs.Views.{View, IsLonger, log_at}
 use Rattle.dt_sched.specs.Decide.{IsExecutable}
 use Rattle.dt_sched.specs.Sched.{CanExecute}
-use Rattle.dt_sched.proofs.Callers.{class_stays, closed_stays, preceders_stay, with_part_longer, longer_refl}
+use Rattle.dt_sched.proofs.Callers.{executable_stays, with_part_longer, longer_refl}
 use Rattle.dt_proc.specs.Tree.{ProcTree}
 use Rattle.dt_txn.specs.declared.txn.Txn.{Txn}
 use Rattle.dt_txn.specs.declared.outcome.Outcome.{Outcome}
@@ -24,16 +24,6 @@ use Rattle.dt_region.proofs.Rule4Insert.{insert_sound, view_now}
 use Rattle.dt_region.proofs.Rule6Execute.{executable_held}
 use Rattle.dt_region.proofs.StepSound.{has_log}
 
--- in a longer view, where more is resolved and done
-stays : (short long : View) → IsLonger short long → IsWellFormed long → (resolved more : List (List TxnId)) (done later : List TxnId) → IsWithin resolved more → IsWithin done later
-    → (t : TxnId) → ¬ (Has later t) → IsExecutable short resolved done t → IsExecutable long more later t
-stays short long l w resolved more done later wr wd t n x = record {
-  closed = closed_stays short long l w t x.closed;
-  waiting = n;
-  preceders = λ u p. within_get done later wd u (x.preceders u ((preceders_stay short long l w u t x.closed).1 p));
-  settled = λ ids c two. within_get resolved more wr ids (x.settled ids ((class_stays short long l w t x.closed ids).1 c) two);
-}
-
 within_more : {A : Type 0} (xs : List A) (y : A) → IsWithin xs (xs ++ y ∷ [])
 within_more xs y = all_put (Has (xs ++ y ∷ [])) xs (λ x h. any_append_left (λ z. z ≡ x) xs (y ∷ []) h)
 
@@ -44,13 +34,13 @@ module _ (procs : List ProcTree) (s : RegionState) (sound : IsSoundRegion s) (id
       let known : home < s.regions = has_log s sound home (slice_index s.here.inserted home) may in
       let now : View = view_of s.logs (after_making procs s (Insert s.number home)).here in
       let longer : IsLonger (view_of s.logs s.here) now = subst (IsLonger (view_of s.logs s.here)) (sym (view_now s sound home next.0 known next.1)) (with_part_longer (view_of s.logs s.here) next.0) in
-      stays (view_of s.logs s.here) now longer (insert_sound s sound home next.0 known next.1).decided.well_formed s.here.resolved s.here.resolved (done_ids s.here) (done_ids s.here)
-      (within_refl s.here.resolved) (within_refl (done_ids s.here)) id can.waiting can
+      executable_stays (view_of s.logs s.here) now longer (insert_sound s sound home next.0 known next.1).decided.well_formed s.here.resolved s.here.resolved (done_ids s.here) (done_ids s.here)
+      id (within_refl s.here.resolved) (within_refl (done_ids s.here)) can.waiting can
 
   pub resolve_leaves : (ids : List TxnId) → CanExecute (sched_of s.logs (after_making procs s (Resolve s.number ids)).here) id
   resolve_leaves ids =
-      stays (view_of s.logs s.here) (view_of s.logs s.here) (longer_refl (view_of s.logs s.here)) sound.decided.well_formed s.here.resolved (s.here.resolved ++ ids ∷ []) (done_ids s.here) (done_ids s.here)
-      (within_more s.here.resolved ids) (within_refl (done_ids s.here)) id can.waiting can
+      executable_stays (view_of s.logs s.here) (view_of s.logs s.here) (longer_refl (view_of s.logs s.here)) sound.decided.well_formed s.here.resolved (s.here.resolved ++ ids ∷ []) (done_ids s.here) (done_ids s.here)
+      id (within_more s.here.resolved ids) (within_refl (done_ids s.here)) can.waiting can
 
   pub execute_leaves : (other : TxnId) → MayMake s (Execute s.number other) → other ≢ id → CanExecute (sched_of s.logs (after_making procs s (Execute s.number other)).here) id
   execute_leaves other may apart =
@@ -63,5 +53,5 @@ module _ (procs : List ProcTree) (s : RegionState) (sound : IsSoundRegion s) (id
           map-append (λ (d : TxnId × Outcome). d.0) s.here.done ((txn.id, (one procs txn s.here.table).0) ∷ []) ∙ ap (λ i. done_ids s.here ++ i ∷ []) (held_id s other txn e) in
           let waits : ¬ (Has (done_ids s.here ++ other ∷ []) id) = λ h. elim (has_more (done_ids s.here) other id h) [ inl k ↦ can.waiting k | inr k ↦ apart k ] in
           subst (λ l. IsExecutable (view_of s.logs s.here) s.here.resolved l id) (sym ids)
-          (stays (view_of s.logs s.here) (view_of s.logs s.here) (longer_refl (view_of s.logs s.here)) sound.decided.well_formed s.here.resolved s.here.resolved (done_ids s.here) (done_ids s.here ++ other ∷ [])
-          (within_refl s.here.resolved) (within_more (done_ids s.here) other) id waits can)
+          (executable_stays (view_of s.logs s.here) (view_of s.logs s.here) (longer_refl (view_of s.logs s.here)) sound.decided.well_formed s.here.resolved s.here.resolved (done_ids s.here) (done_ids s.here ++ other ∷ [])
+          id (within_refl s.here.resolved) (within_more (done_ids s.here) other) waits can)

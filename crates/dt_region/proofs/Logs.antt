@@ -1,5 +1,5 @@
 -- Logs and their inserted fronts: what they come to while logs grow and parts are inserted.
-use Rattle.std.proofs.Common.{◌≡◌, ◌<◌, ◌≤◌, ◌+◌, ℕ, zero, suc, List, [], ◌∷◌, ◌++◌, length, length-append, set, take, replicate, slice_get, Some, refl, sym, ap, ◌∙◌, inl, inr, arith}
+use Rattle.std.proofs.Common.{◌≡◌, ◌<◌, ◌≤◌, ◌+◌, add-one, ℕ, zero, suc, List, [], ◌∷◌, ◌++◌, length, length-append, set, take, replicate, slice_get, Some, refl, sym, ap, ◌∙◌, inl, inr, arith}
 use Rattle.std.specs.Prelude.{slice_index}
 use Rattle.std.proofs.lemmas.List.Sums.{sum_by-set}
 use Rattle.dt_lists.specs.Lists.{AllIn, Distinct}
@@ -33,15 +33,12 @@ take_next [] n part e = cc
 take_next (p ∷ log) zero part e = ap (λ x. x ∷ []) (cc)
 take_next (p ∷ log) (suc n) part e = ap (λ l. p ∷ l) (take_next log n part e)
 
-one_more : (n : ℕ) → n + 1 ≡ suc n
-one_more n = omega arith
-
 -- a front that is one part longer
 fronts_next : (lengths : List ℕ) (logs : View) (home : ℕ) (part : Part) → home < length lengths → slice_get (log_at logs home) (slice_index lengths home) ≡ Some part →
     fronts (set lengths home (slice_index lengths home + 1)) logs ≡ set (fronts lengths logs) home (log_at (fronts lengths logs) home ++ part ∷ [])
 fronts_next lengths [] home part lt e = cc
 fronts_next [] (log ∷ logs) home part lt e = absurd (omega arith)
-fronts_next (n ∷ lengths) (log ∷ logs) zero part lt e = ap (λ l. l ∷ fronts lengths logs) (ap (λ k. take k log) (one_more n) ∙ take_next log n part e)
+fronts_next (n ∷ lengths) (log ∷ logs) zero part lt e = ap (λ l. l ∷ fronts lengths logs) (ap (λ k. take k log) (add-one n) ∙ take_next log n part e)
 fronts_next (n ∷ lengths) (log ∷ logs) (suc home) part lt e = ap (λ l. take n log ∷ l) (fronts_next lengths logs home part (omega arith) e)
 
 pub fronts_insert : (lengths : List ℕ) (logs : View) (home : ℕ) (part : Part) → home < length lengths → slice_get (log_at logs home) (slice_index lengths home) ≡ Some part → part.home ≡ home →

@@ -3,7 +3,7 @@
 use Rattle.std.specs.Prelude.{ℕ, List, refl}
 use Rattle.std.specs.Coded.{Coded, code_by, coded×, coded_ℕ, coded_list}
 use Rattle.dt_table.specs.Table.{Table}
-use Rattle.dt_table.specs.CodesInner.{table_code}
+use Rattle.dt_table.specs.TableCode.{table_code}
 use Rattle.dt_access.specs.contracts.id.TxnId as id
 use Rattle.dt_access.specs.contracts.part.Part as part
 use Rattle.dt_access.specs.declared.TxnId.{TxnId}

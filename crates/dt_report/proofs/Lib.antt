@@ -1,2 +1,3 @@
 mod WordsAndLines
-mod EventsOfText
+pub mod EventsOfText
+pub mod Callers

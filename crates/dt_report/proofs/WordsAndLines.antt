@@ -1,7 +1,8 @@
 -- Words and lines that are appended one after another.
-use Rattle.std.proofs.Common.{◌≡◌, ℕ, ◌+◌, ◌<◌, ◌≤◌, List, [], ◌∷◌, ◌++◌, length, map, drop, get_or, Option, refl, ap, sym, ◌∙◌, arith, append_assoc, append-nil}
+use Rattle.std.proofs.Common.{◌≡◌, ℕ, ◌+◌, ◌<◌, ◌≤◌, List, [], ◌∷◌, ◌++◌, length, map, drop, get_or, Option, refl, ap, sym, subst, ◌∙◌, arith, append_assoc, append-nil}
 use Rattle.std.proofs.lemmas.Grind.{common_steps}
 use Rattle.std.proofs.lemmas.List.{drop_more}
+use Rattle.dt_lists.specs.Lists.{AllIn}
 use Rattle.dt_text.specs.Words.{spaced}
 use Rattle.dt_text.specs.declared.Value.{Value}
 use Rattle.dt_table.specs.declared.Shown.{Shown}
@@ -57,3 +58,13 @@ pub tables_put : (old after : List ℕ) (tables : List (List Shown)) (k : ℕ) �
 tables_put old after tables k past so_far =
     let none : drop k tables ≡ [] = grind (arith, common_steps) in
     sym (append-nil after) ∙ ap (λ t. after ++ tables_text k t) (sym none) ∙ so_far
+
+-- what follows once each item from a place on is such, follows once each item from the next place on is
+pub held_more : {A : Type 0} (P : A → Type 0) {G : Type 0} (xs : List A) (k : ℕ) (x : A) → k < length xs → x ≡ get_or xs k x → P x → (AllIn P (drop k xs) → G) → AllIn P (drop (k + 1) xs) → G
+held_more P xs k x within is one so_far rest = so_far (subst (AllIn P) (sym (from_place xs k x within is)) (one, rest))
+
+-- and so it holds after the last
+pub held_all : {A : Type 0} (P : A → Type 0) {G : Type 0} (xs : List A) (k : ℕ) → length xs ≤ k → (AllIn P (drop k xs) → G) → G
+held_all P xs k past so_far =
+    let none : drop k xs ≡ [] = grind (arith, common_steps) in
+    so_far (subst (AllIn P) (sym none) tt)

@@ -2,7 +2,7 @@
 -- at most, and its events are such as a line can have. Every report that the program makes is so, by the types of its
 -- parts. One needs it to read a report's text: a session with a line end in its name could write what it likes. Read
 -- next Laws.antt.
-use Rattle.std.specs.Prelude.{ℕ, ◌<◌, ◌^◌, length, Option, MatchOption, FitsSigned}
+use Rattle.std.specs.Prelude.{ℕ, ◌<◌, ◌≤◌, ◌^◌, length, Option, MatchOption, FitsSigned}
 use Rattle.std.specs.Int.{w64}
 use Rattle.dt_lists.specs.Lists.{AllIn}
 use Rattle.dt_text.specs.Texts.{IsKey, IsName, IsStr}
@@ -10,6 +10,8 @@ use Rattle.dt_text.specs.declared.Value.{Value}
 use Rattle.dt_text.specs.declared.Value.TheVariants.{Int, Text}
 use Rattle.dt_access.specs.declared.TxnId.{TxnId}
 use Rattle.dt_events.specs.Events.{IsWritten}
+use Rattle.dt_events.specs.declared.Event.{Event}
+use Rattle.dt_events.specs.declared.Event.TheVariants.{Resolve, Execute}
 use Rattle.dt_eval.specs.declared.Cause.{Cause}
 use Rattle.dt_eval.specs.declared.Cause.TheVariants.{Word}
 use Rattle.dt_table.specs.declared.Shown.{Shown}
@@ -59,6 +61,16 @@ IsPrintableRan ran =
 -- a row of a table
 abbrev pub IsPrintableRow : Shown → Type 0
 IsPrintableRow row = IsKey row.key × MayBePrinted row.value × IsNumber row.home × IsNumber row.moves
+
+-- the number of an id has 32 bits, and that of its region 8
+abbrev pub IsSmallId : TxnId → Type 0
+IsSmallId id = (id.seq < 2 ^ 32) × (id.region < 2 ^ 8)
+
+-- an event's ids are counted from 1, and a resolved group has two or more of them, as in each event that is legal
+abbrev pub HasCountedIds : Event → Type 0
+HasCountedIds (Resolve region ids) = (2 ≤ length ids) × AllIn (λ id. 0 < id.seq) ids
+HasCountedIds (Execute region id) = 0 < id.seq
+HasCountedIds event = Unit {0}
 
 -- a report of such parts; its events are such as a line can have
 pub record IsPrintable (report : Report) : Type 0 where

@@ -1,9 +1,12 @@
 ghost use Rattle.std.specs.Prelude.{◌≡◌, ◌++◌, [], IfOk, OnOk};
+ghost use Rattle.dt_lists.specs.Lists.{AllIn};
 ghost use Rattle.dt_table.specs.Table.{shown, shown_at};
+ghost use Rattle.dt_report.specs.Printable.{IsPrintableRow};
 ghost use Rattle.dt_report.specs.ShownTables.{all_shown};
 ghost use Rattle.dt_report.specs.Report.{events_text, order_text, replies_text, report_text, row_line, table_text, tables_text};
 
 use crate::lines::{put_ran, put_reply, put_row};
+use crate::printable::row_is_printable;
 use crate::report::{Ran, Reply, Report};
 use dt_events::{Event, put_event, put_number};
 use dt_table::{Shown, ShownList, Table};
@@ -102,7 +105,8 @@ fn put_table(alloc: Global, out: &mut Vec<u8>, region: u64, rows: &[Shown]) -> R
 /// Appends the section of what each region's table shows. One row is written at a time, so that no list is made of what the tables
 /// show.
 pub fn put_all_shown(alloc: Global, out: &mut Vec<u8>, tables: &[&Table]) -> Result<(), NoMemory>
-    ensures { OnOk result (out.new.items ≡ out.old.items ++ tables_text 0 (all_shown tables.now)) }
+    ensures text { OnOk result (out.new.items ≡ out.old.items ++ tables_text 0 (all_shown tables.now)) }
+    ensures printable { OnOk result (AllIn (AllIn IsPrintableRow) (all_shown tables.now)) }
 {
     for (region, table) in tables.iter().enumerate() {
         put_shown(alloc, out, region as u64, *table)?;
@@ -112,7 +116,8 @@ pub fn put_all_shown(alloc: Global, out: &mut Vec<u8>, tables: &[&Table]) -> Res
 
 /// Appends the section of what a region's table shows, of which no list is made.
 fn put_shown(alloc: Global, out: &mut Vec<u8>, region: u64, table: &Table) -> Result<(), NoMemory>
-    ensures { OnOk result (out.new.items ≡ out.old.items ++ table_text region (shown table.now.state)) }
+    ensures text { OnOk result (out.new.items ≡ out.old.items ++ table_text region (shown table.now.state)) }
+    ensures printable { OnOk result (AllIn IsPrintableRow (shown table.now.state)) }
 {
     put_head(alloc, out, region)?;
     for key in table.shown_keys(alloc)? {
@@ -123,9 +128,11 @@ fn put_shown(alloc: Global, out: &mut Vec<u8>, region: u64, table: &Table) -> Re
 
 /// Appends the line of a key, as a region's table shows it.
 fn put_shown_row(alloc: Global, out: &mut Vec<u8>, table: &Table, key: Key) -> Result<(), NoMemory>
-    ensures { OnOk result (out.new.items ≡ out.old.items ++ row_line (shown_at table.now.state key)) }
+    ensures text { OnOk result (out.new.items ≡ out.old.items ++ row_line (shown_at table.now.state key)) }
+    ensures printable { OnOk result (IsPrintableRow (shown_at table.now.state key)) }
 {
     let row = table.shown_at(alloc, key)?;
+    row_is_printable(&row);
     put_row(alloc, out, &row)
 }
 

@@ -43,24 +43,27 @@ use Rattle.dt_run.specs.NodesView.{NodesView, node_in}
 use Rattle.dt_run.specs.Silence.{HasArrived}
 use Rattle.dt_run.proofs.Laws.{reached}
 use Rattle.dt_run.proofs.TurnsInOrder.{good_world, received_here}
-use Rattle.dt_run.proofs.SentPackets.{held_own}
+use Rattle.dt_run.proofs.SentPackets.{held_submitted}
 use Rattle.dt_run.proofs.SomeHome.{some_home}
 use Rattle.dt_run.proofs.DoneSubmissions.{no_outcome}
 
-module _ {cluster : Cluster} {workload : Workload} {events : List Event} (some : 0 < cluster.regions) (v : NodesView)
-    (number : (region : ℕ) → region < cluster.regions → number_of (node_in v region) ≡ region)
-    (fits : (region : ℕ) → region < cluster.regions → NodeFits cluster workload events (node_in v region))
-    (drained : (region : ℕ) → region < cluster.regions → IsDrained (node_in v region).site.region.state.logs (node_in v region).site.region.state.here)
-    (placed : (region : ℕ) → region < cluster.regions → HasPlacedOwn (node_in v region))
-    (arrived : (source target : ℕ) → source < cluster.regions → target < cluster.regions → source ≢ target → HasArrived v source target) where
+-- the nodes stand in a world, nothing is outstanding between them, and none has anything to do by itself
+pub record AreAtRest (cluster : Cluster) (workload : Workload) (events : List Event) (v : NodesView) : Type 0 where
+  pub number : (region : ℕ) → region < cluster.regions → number_of (node_in v region) ≡ region
+  pub fits : (region : ℕ) → region < cluster.regions → NodeFits cluster workload events (node_in v region)
+  pub drained : (region : ℕ) → region < cluster.regions → IsDrained (node_in v region).site.region.state.logs (node_in v region).site.region.state.here
+  pub placed : (region : ℕ) → region < cluster.regions → HasPlacedOwn (node_in v region)
+  pub arrived : (source target : ℕ) → source < cluster.regions → target < cluster.regions → source ≢ target → HasArrived v source target
+
+module _ {cluster : Cluster} {workload : Workload} {events : List Event} (some : 0 < cluster.regions) {v : NodesView} (rest : AreAtRest cluster workload events v) where
   abbrev w : World
   w = world_after cluster workload events
 
   good : HasInvariant cluster workload w
-  good = good_world (fits 0 some)
+  good = good_world (rest.fits 0 some)
 
   node_is : (region : ℕ) → region < cluster.regions → node_of (node_in v region).site ≡ node_at w region
-  node_is region lr = subst (λ r. node_of (node_in v region).site ≡ node_at w r) (number region lr) (fits region lr).site.node
+  node_is region lr = subst (λ r. node_of (node_in v region).site ≡ node_at w r) (rest.number region lr) (rest.fits region lr).site.node
 
   here_is : (region : ℕ) → region < cluster.regions → (node_in v region).site.region.state.here ≡ (node_at w region).here
   here_is region lr = ap (λ (x : Node). x.here) (node_is region lr)
@@ -79,29 +82,29 @@ module _ {cluster : Cluster} {workload : Workload} {events : List Event} (some :
       by : Either (home ≡ source) → taken_of w home source ≡ length (asked_of w source home)
       by (inl same) =
           let p : length (get_or (node_in v home).site.region.state.here.asked home []) ≡ taken_from (node_in v home).site.region.state.here home =
-          subst (λ q. length (get_or (node_in v home).site.region.state.here.asked q []) ≡ taken_from (node_in v home).site.region.state.here q) (number home lh) (placed home lh) in
+          subst (λ q. length (get_or (node_in v home).site.region.state.here.asked q []) ≡ taken_from (node_in v home).site.region.state.here q) (rest.number home lh) (rest.placed home lh) in
           subst (λ q. taken_of w home q ≡ length (asked_of w q home)) same (taken_is home home lh ∙ sym p ∙ ap length (asked_is home home lh))
-      by (inr apart) = taken_is home source lh ∙ (arrived source home ls lh (λ e. apart (sym e))).requests ∙ ap length (asked_is source home ls)
+      by (inr apart) = taken_is home source lh ∙ (rest.arrived source home ls lh (λ e. apart (sym e))).requests ∙ ap length (asked_is source home ls)
 
   -- all logs are received, and inserted
 
   own_log : (home : ℕ) → home < cluster.regions → log_at (node_in v home).site.region.state.logs home ≡ log_of w home
-  own_log home lh = subst (λ q. log_at (node_in v home).site.region.state.logs q ≡ log_of w home) (number home lh) (ap (λ (x : Node). x.log) (node_is home lh))
+  own_log home lh = subst (λ q. log_at (node_in v home).site.region.state.logs q ≡ log_of w home) (rest.number home lh) (ap (λ (x : Node). x.log) (node_is home lh))
 
   received_is : (region home : ℕ) → region < cluster.regions → home < cluster.regions → received_of w region home ≡ length (log_at (node_in v region).site.region.state.logs home)
-  received_is region home lr lh = subst (λ q. received_of w q home ≡ length (log_at (node_in v region).site.region.state.logs home)) (number region lr) (received_here (fits region lr) home lh)
+  received_is region home lr lh = subst (λ q. received_of w q home ≡ length (log_at (node_in v region).site.region.state.logs home)) (rest.number region lr) (received_here (rest.fits region lr) home lh)
 
   all_received : (region home : ℕ) → region < cluster.regions → home < cluster.regions → received_of w region home ≡ length (log_of w home)
   all_received region home lr lh = by (either_nat region home)
     where
       by : Either (region ≡ home) → received_of w region home ≡ length (log_of w home)
       by (inl same) = subst (λ q. received_of w region q ≡ length (log_of w q)) same (received_own w region (subst (λ m. region < m) (sym (good.inv.sized region lr).received) lr))
-      by (inr apart) = received_is region home lr lh ∙ (arrived home region lh lr (λ e. apart (sym e))).log ∙ ap length (own_log home lh)
+      by (inr apart) = received_is region home lr lh ∙ (rest.arrived home region lh lr (λ e. apart (sym e))).log ∙ ap length (own_log home lh)
 
   all_inserted : (region home : ℕ) → region < cluster.regions → home < cluster.regions → slice_index (node_at w region).here.inserted home ≡ length (log_of w home)
   all_inserted region home lr lh =
       subst (λ (r : Replica). slice_index r.inserted home ≡ length (log_of w home)) (here_is region lr)
-      ((drained region lr).inserted home ∙ sym (received_is region home lr lh) ∙ all_received region home lr lh)
+      ((rest.drained region lr).inserted home ∙ sym (received_is region home lr lh) ∙ all_received region home lr lh)
 
   -- so the view of each region is that of all logs
   view_log : (region home : ℕ) → region < cluster.regions → home < cluster.regions → log_at (view_at w region) home ≡ log_of w home
@@ -187,10 +190,10 @@ module _ {cluster : Cluster} {workload : Workload} {events : List Event} (some :
       (record { none_executable = at.executed; none_resolvable = at.resolved }) id).1 (closed region lr id txn e)
     where
       logs_are : (node_in v region).site.region.state.logs ≡ received_logs w region
-      logs_are = subst (λ q. (node_in v region).site.region.state.logs ≡ received_logs w q) (number region lr) (fits region lr).site.logs
+      logs_are = subst (λ q. (node_in v region).site.region.state.logs ≡ received_logs w q) (rest.number region lr) (rest.fits region lr).site.logs
 
       at : IsDrained (received_logs w region) (node_at w region).here
-      at = subst (λ l. IsDrained l (node_at w region).here) logs_are (subst (IsDrained (node_in v region).site.region.state.logs) (here_is region lr) (drained region lr))
+      at = subst (λ l. IsDrained l (node_at w region).here) logs_are (subst (IsDrained (node_in v region).site.region.state.logs) (here_is region lr) (rest.drained region lr))
 
   done_here : (region : ℕ) → region < cluster.regions → (id : TxnId) (txn : Txn) → txn_of w id ≡ Some txn → Has (done_ids (node_in v region).site.region.state.here) id
   done_here region lr id txn e = subst (λ (r : Replica). Has (done_ids r) id) (sym (here_is region lr)) (executed region lr id txn e)
@@ -198,15 +201,15 @@ module _ {cluster : Cluster} {workload : Workload} {events : List Event} (some :
   -- each region has executed what each submitted
   pub all_executed : (region source : ℕ) → region < cluster.regions → source < cluster.regions → HasDone (node_in v region) (node_in v source)
   all_executed region source lr ls = all_put _ (node_in v source).site.region.state.submitted
-      (λ t h. done_here region lr t.id t ((fits source ls).site.known t.id t (held_own (node_in v source).site.region.state (fits source ls).site.sound t h)))
+      (λ t h. done_here region lr t.id t ((rest.fits source ls).site.known t.id t (held_submitted (node_in v source).site.region.state (rest.fits source ls).site.sound t h)))
 
   -- each session is answered, if none can go on
   module _ (region : ℕ) (lr : region < cluster.regions) (still : (name : Bytes) → IsStill (node_in v region) name) where
     stand : SessionsStandIn cluster workload w region (node_in v region).sessions
-    stand = subst (λ q. SessionsStandIn cluster workload w q (node_in v region).sessions) (number region lr) (fits region lr).sessions
+    stand = subst (λ q. SessionsStandIn cluster workload w q (node_in v region).sessions) (rest.number region lr) (rest.fits region lr).sessions
 
     outcome_is : (id : TxnId) → outcome_of (node_in v region).site.region.state id ≡ outcome_at w region id
-    outcome_is id = subst (λ q. outcome_of (node_in v region).site.region.state id ≡ outcome_at w q id) (number region lr) (outcome_here (reached (fits region lr)) (fits region lr).site id)
+    outcome_is id = subst (λ q. outcome_of (node_in v region).site.region.state id ≡ outcome_at w q id) (rest.number region lr) (outcome_here (reached (rest.fits region lr)) (rest.fits region lr).site id)
 
     last_is : (name : Bytes) → last_in w region (waits_of (node_in v region).sessions name) ≡ last_at (node_in v region) name
     last_is name = go (waits_of (node_in v region).sessions name)

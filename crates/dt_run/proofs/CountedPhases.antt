@@ -3,7 +3,7 @@
 use Rattle.std.proofs.Common.{◌≡◌, ◌≢◌, ◌<◌, ◌≤◌, ◌+◌, ◌⊎◌, ℕ, zero, suc, Bool, true, false, cond, eqb, List, [], ◌∷◌, ◌++◌, length, refl, sym, ap, subst, ◌∙◌, inl, inr, arith}
 use Rattle.std.proofs.Common.{append-nil, eq-eqb, eqb-true}
 use Rattle.std.proofs.lemmas.Bool.{false_from_ne_true}
-use Rattle.std.proofs.lemmas.List.{length-append, length_push}
+use Rattle.std.proofs.lemmas.List.{length-append, length_push, nil_from_length}
 use Rattle.dt_lists.specs.Lists.{Either}
 use Rattle.dt_lists.proofs.Callers.{either_nat}
 use Rattle.dt_events.specs.declared.Stamped.{Stamped}
@@ -16,7 +16,7 @@ use Rattle.dt_run.specs.NodesView.{NodesView, marks_at, node_in}
 use Rattle.dt_run.specs.Phase.{EndsInStep, IsPhase}
 use Rattle.dt_run.specs.Silence.{PhaseIsCounted, IsSilent, all_kept_after, all_kept_in, made_in, quiet_after, quiet_in}
 use Rattle.dt_run.proofs.Laws.{sum_below_added, sum_below_le, sum_below_same}
-use Rattle.dt_run.proofs.PlannedPackets.{keeps_all, marks_now, old_mark}
+use Rattle.dt_run.proofs.PlannedPackets.{keeps_all, marks_now, old_mark, regions_same}
 
 -- where no summand falls and the sum stays, each stays
 sum_stays : (f g : ℕ → ℕ) (n : ℕ) → ((k : ℕ) → k < n → f k ≤ g k) → sum_below f n ≡ sum_below g n → (k : ℕ) → k < n → f k ≡ g k
@@ -91,15 +91,6 @@ all_of_all (x ∷ items) n =
 -- a phase that did not fail
 
 module _ {before after : NodesView} (step : AreInStep before) (phase : IsPhase before after) (ends : EndsInStep before after) (one : 0 < before.cluster.regions) where
-  pub regions_same : after.cluster.regions ≡ before.cluster.regions
-  regions_same = ap (λ c. c.regions) phase.cluster
-
-  up : (region : ℕ) → region < before.cluster.regions → region < after.cluster.regions
-  up region lt = subst (λ m. region < m) (sym regions_same) lt
-
-  down : (region : ℕ) → region < after.cluster.regions → region < before.cluster.regions
-  down region lt = subst (λ m. region < m) regions_same lt
-
   pub made_is : made_in before ≡ step.made
   made_is = (step.each 0 one).marks.many
 
@@ -112,7 +103,7 @@ module _ {before after : NodesView} (step : AreInStep before) (phase : IsPhase b
   -- numbers of earlier phases stay
 
   kept_old : (p : ℕ) → p ≤ step.made → all_kept_after after p ≡ all_kept_after before p
-  kept_old p le = ap (sum_below (λ region. mark_at after region p)) regions_same ∙ sum_below_same _ _ before.cluster.regions (λ region lr. old_mark step phase ends up down region lr p le)
+  kept_old p le = ap (sum_below (λ region. mark_at after region p)) (regions_same phase) ∙ sum_below_same _ _ before.cluster.regions (λ region lr. old_mark step phase ends region lr p le)
 
   quiet_old : (p : ℕ) → p ≤ step.made → quiet_after after p ≡ quiet_after before p
   quiet_old zero le = refl
@@ -127,9 +118,9 @@ module _ {before after : NodesView} (step : AreInStep before) (phase : IsPhase b
 
   kept_next : all_kept_after after (suc step.made) ≡ all_kept_in after
   kept_next =
-      ap (sum_below (λ region. mark_at after region (suc step.made))) regions_same
-      ∙ sum_below_same _ _ before.cluster.regions (λ region lr. (marks_now step phase ends up down region lr).last)
-      ∙ ap (sum_below (λ region. length (kept_by_region after region))) (sym regions_same)
+      ap (sum_below (λ region. mark_at after region (suc step.made))) (regions_same phase)
+      ∙ sum_below_same _ _ before.cluster.regions (λ region lr. (marks_now step phase ends region lr).last)
+      ∙ ap (sum_below (λ region. length (kept_by_region after region))) (sym (regions_same phase))
 
   quiet_now : quiet_in after ≡ cond (eqb (all_kept_in before) (all_kept_in after)) (quiet_in before + 1) 0
   quiet_now =
@@ -138,7 +129,7 @@ module _ {before after : NodesView} (step : AreInStep before) (phase : IsPhase b
       ap (quiet_after after) made_next ∙ (λ i. cond (eqb (x i) (kept_next i)) (z i + 1) 0)
 
   kept_there : all_kept_in after ≡ sum_below (λ region. length (kept_by_region after region)) before.cluster.regions
-  kept_there = ap (sum_below (λ region. length (kept_by_region after region))) regions_same
+  kept_there = ap (sum_below (λ region. length (kept_by_region after region))) (regions_same phase)
 
   pub kept_up : all_kept_in before ≤ all_kept_in after
   kept_up =
@@ -153,7 +144,7 @@ module _ {before after : NodesView} (step : AreInStep before) (phase : IsPhase b
   silent_of same = record { each = each }
     where
       each : (region : ℕ) → region < before.cluster.regions → kept_by_region after region ≡ kept_by_region before region
-      each region lr = grows ∙ ap (λ l. kept_by_region before region ++ l) (none (new_items (node_in before region) (node_in after region)) no_more) ∙ append-nil (kept_by_region before region)
+      each region lr = grows ∙ ap (λ l. kept_by_region before region ++ l) (nil_from_length (new_items (node_in before region) (node_in after region)) no_more) ∙ append-nil (kept_by_region before region)
         where
           grows : kept_by_region after region ≡ kept_by_region before region ++ new_items (node_in before region) (node_in after region)
           grows = (phase.turns region lr).gone.grows
@@ -167,10 +158,6 @@ module _ {before after : NodesView} (step : AreInStep before) (phase : IsPhase b
               let f : length (kept_by_region before region ++ new_items (node_in before region) (node_in after region)) ≡ length (kept_by_region before region) + length
               (new_items (node_in before region) (node_in after region)) = length-append (kept_by_region before region) (new_items (node_in before region) (node_in after region)) in
               omega (arith, e, f, long)
-
-          none : (xs : List Stamped) → length xs ≡ 0 → xs ≡ []
-          none [] e = refl
-          none (x ∷ xs) e = absurd (omega (arith, e))
 
   pub quiet_more : all_kept_in before ≡ all_kept_in after → quiet_in after ≡ quiet_in before + 1
   quiet_more same = quiet_now ∙ (rw (eq-eqb (all_kept_in before) (all_kept_in after) same) refl)

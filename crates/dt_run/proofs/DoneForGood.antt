@@ -40,6 +40,7 @@ use Rattle.dt_run.specs.EndOfRun.{IsAllDone}
 use Rattle.dt_run.specs.NodesStand.{AreNodes}
 use Rattle.dt_run.specs.NodesView.{NodesView, node_in, waiting_at}
 use Rattle.dt_run.specs.Phase.{IsPhase, TurnsOnce}
+use Rattle.dt_run.proofs.PlannedPackets.{down}
 use Rattle.dt_run.proofs.TurnsInOrder.{goes, good_world, own_events}
 
 -- every call of each session of a region is answered
@@ -203,12 +204,9 @@ module _ {before after : NodesView} (n : AreNodes before)
     (phase : IsPhase before after) where
   pub stays_done : IsAllDone before → IsAllDone after
   stays_done d = record {
-    answered = λ region lr. let l = down region lr in still_answered (n.stand region l).fits (told region l) (phase.turns region l) (d.answered region l);
-    executed = λ region source lr ls. let l = down region lr in let m = down source ls in
+    answered = λ region lr. let l = down phase lr in still_answered (n.stand region l).fits (told region l) (phase.turns region l) (d.answered region l);
+    executed = λ region source lr ls. let l = down phase lr in let m = down phase ls in
         subst (AllIn (λ txn. Has (done_ids (node_in after region).site.region.state.here) txn.id)) (sym (still_submitted (n.stand source m).fits (told source m) (phase.turns source m) (d.answered source m)))
         (all_put _ (node_in before source).site.region.state.submitted (λ txn h. still_done (n.stand region l).fits (told region l) (phase.turns region l) (d.answered region l) txn.id
         (all_get (λ (x : Txn). Has (done_ids (node_in before region).site.region.state.here) x.id) (node_in before source).site.region.state.submitted (d.executed region source l m) txn h)));
   }
-    where
-      down : (region : ℕ) → region < after.cluster.regions → region < before.cluster.regions
-      down region lt = subst (λ m. region < m) (ap (λ c. c.regions) phase.cluster) lt

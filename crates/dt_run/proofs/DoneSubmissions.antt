@@ -1,49 +1,23 @@
 -- Whether one region has done what another one submitted: the submissions are counted, so they are found by their numbers.
-use Rattle.std.proofs.Common.{◌≡◌, ◌≢◌, ◌<◌, ◌≤◌, ◌+◌, ◌-◌, ℕ, zero, suc, List, [], ◌∷◌, ◌++◌, length, slice_get, None, Some, refl, sym, ap, subst, ◌∙◌, inl, inr, arith}
+use Rattle.std.proofs.Common.{◌≡◌, ◌≢◌, ◌<◌, ◌≤◌, ◌+◌, ◌-◌, ℕ, List, [], ◌∷◌, length, slice_get, None, Some, refl, sym, subst, ◌∙◌, inl, inr, arith}
 use Rattle.std.proofs.Common.{true, false, map}
 use Rattle.std.specs.Map.{lookup}
 use Rattle.std.proofs.Common.{Option}
 use Rattle.std.proofs.lemmas.Bool.{false≢true}
 use Rattle.std.proofs.Common.{Bor}
 use Rattle.std.specs.Option.{is_some, option_copied}
-use Rattle.std.proofs.lemmas.Option.{slice_get_within}
+use Rattle.std.proofs.lemmas.Option.{slice_get_past, slice_get_within}
 use Rattle.dt_lists.specs.Lists.{AllIn, Either, Has}
 use Rattle.dt_lists.proofs.Callers.{all_get, all_of_gets, at_place, either_le, either_nat, has_place}
 use Rattle.dt_access.specs.declared.TxnId.{TxnId}
-use Rattle.dt_access.proofs.Callers.{id_of_test, same_by_parts, test_of_id, test_of_other}
+use Rattle.dt_access.proofs.Callers.{id_of_test, test_of_id}
 use Rattle.dt_access.specs.Ids.{same_id}
 use Rattle.dt_txn.specs.declared.Txn.{Txn}
 use Rattle.dt_txn.specs.declared.Outcome.{Outcome}
 use Rattle.dt_txn.specs.Replica.{done_ids}
-use Rattle.dt_region.proofs.Callers.{held_id}
-use Rattle.dt_region.specs.Region.{RegionState, find_txn, held, outcome_of}
-use Rattle.dt_region.specs.Sound.{AreCounted, IsSoundRegion}
-
--- the one at a place has the number of that place
-pub find_counted : (region seq : ℕ) (xs ys : List Txn) → AreCounted region seq xs → (k : ℕ) (x : Txn) (id : TxnId) → id.seq ≡ seq + k → id.region ≡ region → slice_get xs k ≡ Some x → find_txn (xs ++ ys) id ≡ Some x
-find_counted region seq [] ys c k x id is at e = cc
-find_counted region seq (y ∷ xs) ys c zero x id is at e =
-    let first : y.id.seq ≡ seq = ap (λ i. i.seq) c.0 in
-    let same : y.id ≡ id = same_by_parts y.id id (omega (arith, first, is)) (ap (λ i. i.region) c.0 ∙ sym at) in
-    rw (test_of_id y.id id same) e
-find_counted region seq (y ∷ xs) ys c (suc k) x id is at e =
-    let first : y.id.seq ≡ seq = ap (λ i. i.seq) c.0 in
-    let other : y.id ≢ id = λ same. let s : y.id.seq ≡ id.seq = ap (λ i. i.seq) same in absurd (omega (arith, first, is, s)) in
-    rw (test_of_other y.id id other) (find_counted region (seq + 1) xs ys c.1 k x id (omega (arith, is)) at e)
-
--- those of other regions are not found
-find_foreign : (region : ℕ) (ys : List Txn) → AllIn (λ txn. txn.id.region ≢ region) ys → (id : TxnId) → id.region ≡ region → find_txn ys id ≡ None
-find_foreign region [] a id at = refl
-find_foreign region (y ∷ ys) a id at = rw (test_of_other y.id id (λ same. a.0 (ap (λ i. i.region) same ∙ at))) (find_foreign region ys a.1 id at)
-
--- and none behind the last
-find_behind : (region seq : ℕ) (xs ys : List Txn) → AreCounted region seq xs → AllIn (λ txn. txn.id.region ≢ region) ys → (id : TxnId) → seq + length xs ≤ id.seq → id.region ≡ region
-    → find_txn (xs ++ ys) id ≡ None
-find_behind region seq [] ys c a id far at = find_foreign region ys a id at
-find_behind region seq (y ∷ xs) ys c a id far at =
-    let first : y.id.seq ≡ seq = ap (λ i. i.seq) c.0 in
-    let other : y.id ≢ id = λ same. let s : y.id.seq ≡ id.seq = ap (λ i. i.seq) same in absurd (omega (arith, first, far, s)) in
-    rw (test_of_other y.id id other) (find_behind region (seq + 1) xs ys c.1 a id (omega (arith, far)) at)
+use Rattle.dt_region.proofs.Callers.{held_id, held_own}
+use Rattle.dt_region.specs.Region.{RegionState, held, outcome_of}
+use Rattle.dt_region.specs.Sound.{IsSoundRegion}
 
 -- all submissions below a number are done
 pub record DoneBelow (s : RegionState) (done : List TxnId) (id : TxnId) : Type 0 where
@@ -53,22 +27,23 @@ pub record DoneBelow (s : RegionState) (done : List TxnId) (id : TxnId) : Type 0
   pub each : (k : ℕ) (x : Txn) → slice_get s.submitted k ≡ Some x → k + 1 < id.seq → Has done x.id
 
 module _ {s : RegionState} (sound : IsSoundRegion s) {done : List TxnId} {id : TxnId} (d : DoneBelow s done id) where
-  held_at : (x : Txn) → slice_get s.submitted (id.seq - 1) ≡ Some x → held s id ≡ Some x
-  held_at x e = let from = d.from in find_counted s.number 1 s.submitted s.foreign sound.counted (id.seq - 1) x id (omega (arith, from)) d.own e
+  -- what is held under the number stands at its place
+  held_at : held s id ≡ slice_get s.submitted (id.seq - 1)
+  held_at = let from = d.from in held_own s.number s.submitted s.foreign id (id.seq - 1) sound.counted sound.foreign d.own (omega (arith, from))
 
   pub within : held s id ≢ None → id.seq ≤ length s.submitted
   within there = by (either_le id.seq (length s.submitted))
     where
       by : Either (id.seq ≤ length s.submitted) → id.seq ≤ length s.submitted
       by (inl le) = le
-      by (inr n) = absurd (there (find_behind s.number 1 s.submitted s.foreign sound.counted sound.foreign id (omega (arith, n)) d.own))
+      by (inr n) = absurd (there (held_at ∙ slice_get_past s.submitted (id.seq - 1) (omega (arith, n))))
 
-  -- one is held under the number, so it stands at its place
+  -- so where one is held, one stands there
   pub number_held : held s id ≢ None → (x : Txn) × (slice_get s.submitted (id.seq - 1) ≡ Some x)
   number_held there = let le = within there in let from = d.from in at_place s.submitted (id.seq - 1) (omega (arith, le, from))
 
   is_its : (x : Txn) → slice_get s.submitted (id.seq - 1) ≡ Some x → x.id ≡ id
-  is_its x e = held_id s id x (held_at x e)
+  is_its x e = held_id s id x (held_at ∙ e)
 
   -- it is done, and so are all below the next number
   pub done_goes : held s id ≢ None → Has done id → (next : TxnId) → next.seq ≡ id.seq + 1 → next.region ≡ id.region → DoneBelow s done next
@@ -100,7 +75,7 @@ module _ {s : RegionState} (sound : IsSoundRegion s) {done : List TxnId} {id : T
           by (inl le) =
               let from = d.from in
               let r : (x : Txn) × (slice_get s.submitted (id.seq - 1) ≡ Some x) = at_place s.submitted (id.seq - 1) (omega (arith, le, from)) in
-              let bad : None ≡ Some r.0 = sym none ∙ held_at r.0 r.1 in cc
+              let bad : None ≡ Some r.0 = sym none ∙ held_at ∙ r.1 in cc
           by (inr n) = let to = d.to in omega (arith, n, to)
 
       far : (k : ℕ) (x : Txn) → slice_get s.submitted k ≡ Some x → k + 1 < id.seq

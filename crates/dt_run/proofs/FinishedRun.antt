@@ -15,7 +15,7 @@ use Rattle.dt_run.specs.HelpersInner.{HaveAllDone}
 use Rattle.dt_run.specs.NodesView.{NodesView, node_in}
 use Rattle.dt_run.specs.SeatsInner.{AreSeated, HasFewSubmitted, SeatView, nodes_view, seat_at}
 use Rattle.dt_run.proofs.Laws.{few_events, reached}
-use Rattle.dt_run.proofs.WaitingPackets.{node_is, one_for_each}
+use Rattle.dt_run.proofs.WaitingPackets.{node_at_seat, region_there, seat_there}
 
 -- each seat, or each item
 
@@ -32,27 +32,21 @@ module _ {cluster : Cluster} {workload : Workload} {seats : List SeatView} {brok
   abbrev v : NodesView
   v = nodes_view cluster workload seats broken
 
-  many : length seats ≡ cluster.regions
-  many = one_for_each a
-
-  at_seat : (region : ℕ) → node_in v region ≡ (seat_at seats region).node
-  at_seat = node_is cluster workload seats broken
-
   pub answered_all : AllIn (λ s. EachNameIsAnswered s.node.sessions) seats → (region : ℕ) → region < cluster.regions → EachNameIsAnswered (node_in v region).sessions
-  answered_all all region lr = subst (λ (n : NodeView). EachNameIsAnswered n.sessions) (sym (at_seat region)) (each_seat (λ s. EachNameIsAnswered s.node.sessions) seats all region (subst (λ m. region < m) (sym many) lr))
+  answered_all all region lr = subst (λ (n : NodeView). EachNameIsAnswered n.sessions) (sym (node_at_seat a region)) (each_seat (λ s. EachNameIsAnswered s.node.sessions) seats all region (seat_there a lr))
 
   pub all_answered : ((region : ℕ) → region < cluster.regions → EachNameIsAnswered (node_in v region).sessions) → AllIn (λ s. EachNameIsAnswered s.node.sessions) seats
-  all_answered f = all_seats (λ s. EachNameIsAnswered s.node.sessions) seats (λ region lt. subst (λ (n : NodeView). EachNameIsAnswered n.sessions) (at_seat region) (f region (subst (λ m. region < m) many lt)))
+  all_answered f = all_seats (λ s. EachNameIsAnswered s.node.sessions) seats (λ region lt. subst (λ (n : NodeView). EachNameIsAnswered n.sessions) (node_at_seat a region) (f region (region_there a lt)))
 
   pub done_each : AllIn (λ source. AllIn (λ s. HasDone s.node source.node) seats) seats → (region source : ℕ) → region < cluster.regions → source < cluster.regions → HasDone (node_in v region) (node_in v source)
   done_each all region source lr ls =
-      subst (λ n. HasDone n (node_in v source)) (sym (at_seat region)) (subst (HasDone (seat_at seats region).node) (sym (at_seat source))
+      subst (λ n. HasDone n (node_in v source)) (sym (node_at_seat a region)) (subst (HasDone (seat_at seats region).node) (sym (node_at_seat a source))
       (each_seat (λ s. HasDone s.node (seat_at seats source).node) seats (each_seat (λ t. AllIn
-      (λ s. HasDone s.node t.node) seats) seats all source (subst (λ m. source < m) (sym many) ls)) region (subst (λ m. region < m) (sym many) lr)))
+      (λ s. HasDone s.node t.node) seats) seats all source (seat_there a ls)) region (seat_there a lr)))
 
   pub each_done : ((region source : ℕ) → region < cluster.regions → source < cluster.regions → HasDone (node_in v region) (node_in v source)) → AllIn (λ source. AllIn (λ s. HasDone s.node source.node) seats) seats
   each_done f = all_seats (λ t. AllIn (λ s. HasDone s.node t.node) seats) seats (λ source ls. all_seats (λ s. HasDone s.node (seat_at seats source).node) seats (λ region lr.
-      subst (λ n. HasDone n (seat_at seats source).node) (at_seat region) (subst (HasDone (node_in v region)) (at_seat source) (f region source (subst (λ m. region < m) many lr) (subst (λ m. source < m) many ls)))))
+      subst (λ n. HasDone n (seat_at seats source).node) (node_at_seat a region) (subst (HasDone (node_in v region)) (node_at_seat a source) (f region source (region_there a lr) (region_there a ls)))))
 
   pub are_done : AllIn (λ s. EachNameIsAnswered s.node.sessions) seats → AllIn (λ source. AllIn (λ s. HasDone s.node source.node) seats) seats → IsAllDone v
   are_done answered executed = record { answered = answered_all answered; executed = done_each executed }
@@ -66,10 +60,10 @@ module _ {cluster : Cluster} {workload : Workload} {seats : List SeatView} {brok
 
   -- submissions are counted by 32 bits
   pub few_submitted : AllIn HasFewSubmitted seats
-  few_submitted = all_seats HasFewSubmitted seats (λ region lt. few region (subst (λ m. region < m) many lt))
+  few_submitted = all_seats HasFewSubmitted seats (λ region lt. few region (region_there a lt))
     where
       few : (region : ℕ) → region < cluster.regions → HasFewSubmitted (seat_at seats region)
-      few region lr = subst (λ (n : NodeView). length n.site.region.state.submitted + 1 < 4294967296) (at_seat region) here
+      few region lr = subst (λ (n : NodeView). length n.site.region.state.submitted + 1 < 4294967296) (node_at_seat a region) here
         where
           f : NodeFits cluster workload (events_of a.nodes.all) (node_in v region)
           f = (a.nodes.stand region lr).fits

@@ -5,4 +5,5 @@ pub use Rattle.dt_merge.proofs.Callers.{attempt_of_own, own_answered, own_append
 pub use Rattle.dt_merge.proofs.Callers.{sum_below_added, sum_below_first, sum_below_le, sum_below_same}
 pub use Rattle.dt_node.proofs.Callers.{reached, few_events, above_greatest, greatest_below, IsHeld, all_take, found_ids, found_parts}
 pub use Rattle.dt_site.proofs.Callers.{own_of}
-pub use Rattle.dt_world.proofs.Callers.{front_length, tables_are}
+pub use Rattle.dt_world.proofs.Callers.{tables_are}
+pub use Rattle.dt_lists.proofs.Callers.{front_length}

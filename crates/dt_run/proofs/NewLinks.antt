@@ -1,6 +1,6 @@
 -- Links are made between new seats, those of each region with all before it.
 use Rattle.std.proofs.Common.{◌≡◌, ◌≢◌, ◌<◌, ◌+◌, ◌-◌, ◌++◌, ℕ, zero, suc, List, [], ◌∷◌, length, map, get_or, set, refl, sym, ap, subst, ◌∙◌, inl, inr, arith}
-use Rattle.std.proofs.lemmas.List.{get_or-set_same, get_or-set_other, get_or_append_left, length-set, length_push, length-map}
+use Rattle.std.proofs.lemmas.List.{get_or_default, get_or-set_same, get_or-set_other, get_or_append_left, length-set, length_push, length-map}
 use Rattle.std.proofs.Math.Seq.{get_or-append_seam, map-set_same}
 use Rattle.dt_lists.specs.Lists.{AllIn, Either}
 use Rattle.dt_lists.proofs.Callers.{either_nat}
@@ -10,7 +10,6 @@ use Rattle.dt_run.specs.NodesView.{link_to}
 use Rattle.dt_run.specs.SeatsInner.{AreBeside, AreLinkedBy, AreNew, HaveEnds, SeatView, new_seat, no_seat, places_of_link, seat_at}
 use Rattle.dt_run.proofs.EachItem.{all_by_place}
 use Rattle.dt_run.proofs.LinkNumbers.{LinkOf, link_above, link_below, link_of, link_within, links_apart}
-use Rattle.dt_run.proofs.RowBeside.{any_default}
 
 -- the two ends of a ring that was just made are those of a new link
 pub made_fresh : {out : RingOutView} {inlet : RingInView} → AreEnds out inlet → (out.put ≡ []) × (inlet.waits ≡ []) → (out.places ≡ 8) × (out.free ≡ 8) → AreFresh out inlet
@@ -33,13 +32,13 @@ module _ (seats : List SeatView) {source target : ℕ} (ls : source < length sea
   many_mid = length-set seats source a'
 
   first : get_or seats source a ≡ seat_at seats source
-  first = any_default seats source a no_seat ls
+  first = get_or_default seats source a no_seat ls
 
   target_mid : target < length mid
   target_mid = subst (λ n. target < n) (sym many_mid) lt
 
   second : get_or mid target b ≡ seat_at mid target
-  second = any_default mid target b no_seat target_mid
+  second = get_or_default mid target b no_seat target_mid
 
   mid_here : seat_at mid source ≡ a'
   mid_here = get_or-set_same seats source a' no_seat ls
@@ -288,7 +287,7 @@ module _ {before now : List SeatView} {regions : ℕ} (s : LinkedSoFar regions 0
   pub are_empty : AllIn (λ (q : SeatView). AllIn (λ (i : RingInView). i.waits ≡ []) q.ins) now
   are_empty =
       all_by_place (λ (q : SeatView). AllIn (λ (i : RingInView). i.waits ≡ []) q.ins) now
-      (λ t seat lt is. all_by_place (λ (i : RingInView). i.waits ≡ []) seat.ins (none_waits t seat lt (is ∙ any_default now t seat no_seat lt)))
+      (λ t seat lt is. all_by_place (λ (i : RingInView). i.waits ≡ []) seat.ins (none_waits t seat lt (is ∙ get_or_default now t seat no_seat lt)))
 
   unlinked : AreNew (map without_links now)
   unlinked = subst AreNew (sym s.seats) new

@@ -1,6 +1,6 @@
 -- All that the type of the nodes keeps is so after a phase that did not fail.
 use Rattle.std.proofs.Common.{◌≡◌, ◌<◌, ◌≤◌, ◌+◌, ℕ, suc, false, Bool, List, [], ◌∷◌, ◌++◌, length, get_or, refl, sym, ap, subst, ◌∙◌, inl, inr, arith, append-nil, append_assoc, eqb, eq-eqb}
-use Rattle.std.proofs.lemmas.List.{map-append}
+use Rattle.std.proofs.lemmas.List.{map-append, nil_from_length}
 use Rattle.dt_lists.specs.Lists.{Either, Has, IsFront}
 use Rattle.dt_lists.proofs.Callers.{Spot, all_get, any_get, either_le, either_nat, has_filter, has_of_filtered, spot}
 use Rattle.dt_events.specs.declared.Event.{Event}
@@ -27,12 +27,12 @@ use Rattle.dt_run.specs.LinksInner.{BesideSoFar}
 use Rattle.dt_run.specs.Marks.{IsPlannedIn, IsToldIn, WasAskedBefore, WerePlacedBefore, kept_before, kept_by_region, mark_at}
 use Rattle.dt_run.specs.NodesStand.{AreInStep, AreNodes, BeganEagerly, IsOnLink, LinkTells, StandsAmong}
 use Rattle.dt_run.specs.NodesView.{NodesView, kept_by, node_in, waiting_at, waiting_between}
-use Rattle.dt_run.specs.Phase.{EndsInStep, TurnsOnce}
+use Rattle.dt_run.specs.Phase.{EndsInStep, IsPhase, TurnsOnce}
 use Rattle.dt_run.specs.SeatsInner.{AreSeated, EachGoes, SeatTurned, SeatView, nodes_view, seat_at}
 use Rattle.dt_run.proofs.Laws.{asked_front}
 use Rattle.dt_run.proofs.ChronicleGrows.{worlds_grow}
 use Rattle.dt_run.proofs.PlannedItems.{entries_planned, not_lost, request_planned}
-use Rattle.dt_run.proofs.NodesAfterTurns.{all_now, chronicle_now, nodes_now, none_kept, phase_is, stand_now}
+use Rattle.dt_run.proofs.NodesAfterTurns.{EachTurns, all_now, chronicle_now, nodes_now, none_kept, phase_is, stand_now}
 use Rattle.dt_run.proofs.TurnsInOrder.{good_world, new_below}
 use Rattle.dt_run.proofs.PlannedPackets as planning
 use Rattle.dt_run.proofs.PhaseInStep.{beside_now, ends_in_step, node_now, turns_now}
@@ -48,6 +48,11 @@ named w (Resolve region ids) l = tt
 named w (Execute region id) l = tt
 named w (Answer region name) l = tt
 
+-- a list that has no item is empty
+no_item : {A : Type 0} (xs : List A) → ((x : A) → Has xs x → ⊥) → xs ≡ []
+no_item [] f = refl
+no_item (x ∷ xs) f = absurd (f x (inl refl))
+
 module _ {cluster : Cluster} {workload : Workload} {seats seats' seats'' : List SeatView} {broken : Bool} (a : AreSeated cluster workload seats broken) (sound : broken ≡ false) (g : EachGoes cluster.procs seats seats')
     (whole : (region : ℕ) → region < length seats → SeatTurned cluster.procs (seat_at seats region) (seat_at seats' region)) (b : BesideSoFar (length seats') seats' seats'') where
   abbrev v : NodesView
@@ -62,15 +67,21 @@ module _ {cluster : Cluster} {workload : Workload} {seats seats' seats'' : List 
   abbrev step : AreInStep v
   step = n.in_step sound
 
+  abbrev turned : EachTurns cluster.procs seats seats''
+  turned = turns_now a sound g whole b
+
+  abbrev phase : IsPhase v v'
+  phase = phase_is a sound turned false
+
   abbrev w : World
   w = world_after cluster workload (events_of n.all)
 
   abbrev later : World
-  later = world_after cluster workload (events_of (all_now a sound (turns_now a sound g whole b) false))
+  later = world_after cluster workload (events_of (all_now a sound turned false))
 
   legal_parts : AreLegal cluster workload (events_of n.all) × AreLegalFrom cluster workload w (events_of (new_below (node_in v) (node_in v') cluster.regions))
   legal_parts = legal_append cluster workload (opening_world cluster workload) (events_of n.all) (events_of (new_below (node_in v) (node_in v') cluster.regions))
-      (subst (AreLegal cluster workload) (map-append (λ (x : Stamped). x.event) n.all (new_below (node_in v) (node_in v') cluster.regions)) (chronicle_now a sound (turns_now a sound g whole b) false).legal)
+      (subst (AreLegal cluster workload) (map-append (λ (x : Stamped). x.event) n.all (new_below (node_in v) (node_in v') cluster.regions)) (chronicle_now a sound turned false).legal)
 
   some : 0 < cluster.regions
   some = let one = n.cluster.some in omega (arith, one)
@@ -86,7 +97,7 @@ module _ {cluster : Cluster} {workload : Workload} {seats seats' seats'' : List 
   grown = subst (HaveGrown w) (sym later_is) (worlds_grow n.cluster n.workload (events_of (new_below (node_in v) (node_in v') cluster.regions)) w good legal_parts.1).1
 
   good_later : HasInvariant cluster workload later
-  good_later = good_world (stand_now a sound (turns_now a sound g whole b) false 0 some).fits
+  good_later = good_world (stand_now a sound turned false 0 some).fits
 
   fronts : (source home : ℕ) → source < cluster.regions → home < cluster.regions
       → IsFront (get_or (node_in v source).site.region.state.here.asked home []) (get_or (node_in v' source).site.region.state.here.asked home [])
@@ -100,7 +111,7 @@ module _ {cluster : Cluster} {workload : Workload} {seats seats' seats'' : List 
 
       now : asked_of later source home ≡ get_or (node_in v' source).site.region.state.here.asked home []
       now =
-          let s : StandsAmong v' (all_now a sound (turns_now a sound g whole b) false) source = stand_now a sound (turns_now a sound g whole b) false source ls in
+          let s : StandsAmong v' (all_now a sound turned false) source = stand_now a sound turned false source ls in
           ap (λ k. asked_of later k home) (sym s.number) ∙ ap (λ (x : Node). get_or x.here.asked home []) (sym s.fits.site.node)
 
   there : (region : ℕ) (x : Stamped) → region < cluster.regions → Has (kept_by_region v region) x → planning.RegionsAre cluster.regions x.event
@@ -137,7 +148,7 @@ module _ {cluster : Cluster} {workload : Workload} {seats seats' seats'' : List 
 
     before : kept_before v' (number_of (node_in v snapshot.source)) (suc step.made) ≡ (node_in v snapshot.source).site.region.events
     before = subst (λ q. kept_before v' q (suc step.made) ≡ (node_in v snapshot.source).site.region.events) (sym from.number)
-        (planning.before_now step (phase_is a sound (turns_now a sound g whole b) false) ends (λ r l. l) (λ r l. l) snapshot.source snapshot.there)
+        (planning.before_now step phase ends snapshot.source snapshot.there)
 
     asked_planned : (home source number stamp : ℕ) → home < cluster.regions → BringsRequest home source number stamp p → WasAskedBefore v' (suc step.made) source home number
     asked_planned home source number stamp lh r =
@@ -153,11 +164,11 @@ module _ {cluster : Cluster} {workload : Workload} {seats seats' seats'' : List 
         subst (λ q. WerePlacedBefore v' (suc step.made) q last) (sym same)
         (entries_planned n.all from.fits kept_is v' p told source_is step.made before region first last stamp (subst (λ q. BringsEntries region q first last stamp p) same r))
 
-  new_planned : (region : ℕ) (x : Stamped) → region < cluster.regions → Has (planning.new step (phase_is a sound (turns_now a sound g whole b) false) ends (λ r l. l) (λ r l. l) region) x → IsPlannedIn v' (suc step.made) x.event
+  new_planned : (region : ℕ) (x : Stamped) → region < cluster.regions → Has (planning.new step phase ends region) x → IsPlannedIn v' (suc step.made) x.event
   new_planned region x lr h = by x.event refl mine brought
     where
       turn : TurnsOnce cluster.procs (waiting_at v region) (node_in v region) (node_in v' region)
-      turn = (phase_is a sound (turns_now a sound g whole b) false).turns region lr
+      turn = phase.turns region lr
 
       mine : region_of x.event ≡ region
       mine = all_get (λ y. region_at y ≡ number_of (node_in v region)) _ turn.gone.mine x h ∙ (n.stand region lr).number
@@ -180,12 +191,8 @@ module _ {cluster : Cluster} {workload : Workload} {seats seats' seats'' : List 
 
   -- before the first phase nothing was made
   nothing_made : step.made ≡ 0 → n.all ≡ []
-  nothing_made first = none n.all (λ x h. empty x h)
+  nothing_made first = no_item n.all (λ x h. empty x h)
     where
-      none : (items : List Stamped) → ((x : Stamped) → Has items x → ⊥) → items ≡ []
-      none [] f = refl
-      none (x ∷ items) f = absurd (f x (inl refl))
-
       empty : (x : Stamped) → Has n.all x → ⊥
       empty x h = by (either_le (suc (region_at x)) cluster.regions)
         where
@@ -207,7 +214,7 @@ module _ {cluster : Cluster} {workload : Workload} {seats seats' seats'' : List 
 
   begun : (region : ℕ) → region < cluster.regions → Either (step.made ≡ 0) → BeganEagerly cluster workload region (kept_by_region v' region)
   begun region lr (inr later) =
-      subst (BeganEagerly cluster workload region) (sym ((phase_is a sound (turns_now a sound g whole b) false).turns region lr).gone.grows)
+      subst (BeganEagerly cluster workload region) (sym (phase.turns region lr).gone.grows)
       (subst (IsFront _) (sym (map-append (λ (x : Stamped). x.event) (kept_by_region v region) _)) (front_longer _ (events_of (kept_by_region v region)) _ ((step.each region lr).begun later)))
     where
       front_longer : {A : Type 0} (xs ys zs : List A) → IsFront xs ys → IsFront xs (ys ++ zs)
@@ -223,41 +230,30 @@ module _ {cluster : Cluster} {workload : Workload} {seats seats' seats'' : List 
       none =
           let last : mark_at v region step.made ≡ length (kept_by_region v region) = (step.each region lr).marks.last in
           let zero_mark : mark_at v region step.made ≡ 0 = ap (mark_at v region) first in
-          no_item (kept_by_region v region) (omega (arith, last, zero_mark))
-        where
-          no_item : (xs : List Stamped) → length xs ≡ 0 → xs ≡ []
-          no_item [] e = refl
-          no_item (x ∷ xs) e = absurd (omega (arith, e))
+          nil_from_length (kept_by_region v region) (omega (arith, last, zero_mark))
 
       kept_now : kept_by_region v' region ≡ new_items (node_in v region) (node_in v' region)
-      kept_now = ((phase_is a sound (turns_now a sound g whole b) false).turns region lr).gone.grows ∙ ap (λ l. l ++ new_items (node_in v region) (node_in v' region)) none
+      kept_now = (phase.turns region lr).gone.grows ∙ ap (λ l. l ++ new_items (node_in v region) (node_in v' region)) none
 
       no_packet : waiting_at v region ≡ []
-      no_packet = no_has (waiting_at v region) (λ p h. let s = waiting.sent_by a sound lr p h in
+      no_packet = no_item (waiting_at v region) (λ p h. let s = waiting.sent_by a sound lr p h in
           nothing_waits s.source (step.links s.source region s.there lr s.apart) first p s.waits)
         where
-          no_has : (ps : List Packet) → ((p : Packet) → Has ps p → ⊥) → ps ≡ []
-          no_has [] f = refl
-          no_has (p ∷ ps) f = absurd (f p (inl refl))
-
           nothing_waits : (source : ℕ) → LinkTells v step.made source region → step.made ≡ 0 → (p : Packet) → Has (waiting_between v source region) p → ⊥
           nothing_waits source t e p h = absurd (subst (λ l. Has l p) (subst (λ m. LinkTells v m source region) e t) h)
 
       begins : BeginsEagerly cluster.procs (node_in v region) (node_in v' region)
       begins =
-          subst (λ m. BeginsEagerly cluster.procs (node_in v region) m) (sym (node_now a sound g whole b region (at_seat region)))
+          subst (λ m. BeginsEagerly cluster.procs (node_in v region) m) (sym (node_now a sound g whole b region (waiting.seat_there a lr)))
           (subst (λ m. BeginsEagerly cluster.procs m (seat_at seats' region).node) (sym (waiting.node_is cluster workload seats broken region))
-          ((whole region (at_seat region)).begins (sym (waiting.waiting_is cluster workload seats broken region) ∙ no_packet)))
-        where
-          at_seat : (r : ℕ) → region < length seats
-          at_seat r = subst (λ k. region < k) (sym (waiting.one_for_each a)) lr
+          ((whole region (waiting.seat_there a lr)).begins (sym (waiting.waiting_is cluster workload seats broken region) ∙ no_packet)))
 
   in_step_now : AreInStep v'
   in_step_now = record {
     made = suc step.made;
     each = λ region lr. record {
       turns = (ends.each region lr).turns ∙ ap (λ k. k + 1) (step.each region lr).turns ∙ (let e : step.made + 1 ≡ suc step.made = omega arith in e);
-      marks = planning.marks_now step (phase_is a sound (turns_now a sound g whole b) false) ends (λ r l. l) (λ r l. l) region lr;
+      marks = planning.marks_now step phase ends region lr;
       placed = (ends.each region lr).settled.placed (step.each region lr).placed;
       begun = λ _. begun region lr (either_nat step.made 0);
     };
@@ -265,9 +261,9 @@ module _ {cluster : Cluster} {workload : Workload} {seats seats' seats'' : List 
         let turns : (node_in v' source).turns ≡ suc step.made =
         (ends.each source ls).turns ∙ ap (λ k. k + 1) (step.each source ls).turns ∙ (let e : step.made + 1 ≡ suc step.made = omega arith in e) in
         subst (λ k. IsOnLink cluster k (packet_for (node_in v' source) target) (waiting_between v' source target)) turns (ends.links source target ls lt apart);
-    planned = planning.planned_now step (phase_is a sound (turns_now a sound g whole b) false) ends (λ r l. l) (λ r l. l) fronts step.planned there new_planned;
+    planned = planning.planned_now step phase ends fronts step.planned there new_planned;
   }
 
   -- all that the type keeps
   pub phase_seated : AreSeated cluster workload seats'' false
-  phase_seated = record { nodes = nodes_now a sound (turns_now a sound g whole b) false (λ e. in_step_now); linked = λ e. beside_now a sound g whole b }
+  phase_seated = record { nodes = nodes_now a sound turned false (λ e. in_step_now); linked = λ e. beside_now a sound g whole b }

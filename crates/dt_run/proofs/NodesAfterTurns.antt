@@ -1,17 +1,15 @@
 -- What the type of the nodes keeps is so after a turn at each seat too: there is a chronicle, and each node stands in its world.
-use Rattle.std.proofs.Common.{◌≡◌, ◌<◌, ◌≤◌, ℕ, zero, suc, true, false, Bool, List, [], ◌∷◌, ◌++◌, length, get_or, refl, sym, ap, subst, ◌∙◌, arith}
+use Rattle.std.proofs.Common.{◌≡◌, ◌<◌, ◌≤◌, ℕ, true, false, Bool, List, [], ◌++◌, length, refl, sym, ap, subst, ◌∙◌}
 use Rattle.std.specs.Prelude.{flat_map}
 use Rattle.std.proofs.lemmas.Bool.{false≢true}
-use Rattle.std.proofs.lemmas.List.{length-map}
+use Rattle.std.proofs.lemmas.List.{get_or_past, length-map}
 use Rattle.std.proofs.Math.ListN.{get_or-map}
 use Rattle.dt_events.specs.declared.Stamped.{Stamped}
-use Rattle.dt_events.specs.Stamps.{events_of}
 use Rattle.dt_proc.specs.Tree.{ProcTree}
 use Rattle.dt_cluster.specs.declared.Cluster.{Cluster}
 use Rattle.dt_workload.specs.declared.Workload.{Workload}
 use Rattle.dt_merge.specs.Merge.{IsChronicle, kept_at}
-use Rattle.dt_node.specs.NodeView.{NodeView, number_of}
-use Rattle.dt_node.specs.NodeInWorld.{NodeFits}
+use Rattle.dt_node.specs.NodeView.{NodeView}
 use Rattle.dt_run.specs.NodesStand.{AreInStep, AreNodes, StandsAmong}
 use Rattle.dt_run.specs.NodesView.{NodesView, kept_by, no_running_node, node_in, waiting_at}
 use Rattle.dt_run.specs.Phase.{IsPhase, TurnsOnce}
@@ -28,13 +26,8 @@ pub record EachTurns (procs : List ProcTree) (before after : List SeatView) : Ty
 pub turns_of : {procs : List ProcTree} {before after : List SeatView} → EachGoes procs before after → EachTurns procs before after
 turns_of g = record { many = g.many; each = λ region lt. (g.each region lt).once }
 
-get_beyond : {A : Type 0} (xs : List A) (i : ℕ) (d : A) → length xs ≤ i → get_or xs i d ≡ d
-get_beyond [] i d le = refl
-get_beyond (x ∷ xs) zero d le = absurd (omega (arith, le))
-get_beyond (x ∷ xs) (suc i) d le = get_beyond xs i d (omega (arith, le))
-
 pub none_kept : (nodes : List NodeView) (region : ℕ) → length nodes ≤ region → kept_at (kept_by nodes) region ≡ []
-none_kept nodes region le = get_or-map (λ (m : NodeView). m.site.region.events) nodes region no_running_node ∙ ap (λ (m : NodeView). m.site.region.events) (get_beyond nodes region no_running_node le)
+none_kept nodes region le = get_or-map (λ (m : NodeView). m.site.region.events) nodes region no_running_node ∙ ap (λ (m : NodeView). m.site.region.events) (get_or_past nodes region no_running_node le)
 
 module _ {cluster : Cluster} {workload : Workload} {seats seats' : List SeatView} {broken : Bool} (a : AreSeated cluster workload seats broken) (sound : broken ≡ false) (g : EachTurns cluster.procs seats seats') (later : Bool) where
   abbrev v : NodesView
@@ -54,38 +47,36 @@ module _ {cluster : Cluster} {workload : Workload} {seats seats' : List SeatView
       subst (λ m. TurnsOnce cluster.procs (waiting_at v region) (node_in v region) m) (sym (waiting.node_is cluster workload seats' later region))
       (subst (λ m. TurnsOnce cluster.procs (waiting_at v region) m (seat_at seats' region).node) (sym (waiting.node_is cluster workload seats broken region))
       (subst (λ l. TurnsOnce cluster.procs l (seat_at seats region).node (seat_at seats' region).node) (sym (waiting.waiting_is cluster workload seats broken region))
-      (g.each region (subst (λ k. region < k) (sym (waiting.one_for_each a)) lr))))
+      (g.each region (waiting.seat_there a lr))))
 
-  numbers : (region : ℕ) → region < cluster.regions → number_of (node_in v region) ≡ region
-  numbers region lr = (n.stand region lr).number
-
-  fit : (region : ℕ) → region < cluster.regions → NodeFits cluster workload (events_of n.all) (node_in v region)
-  fit region lr = (n.stand region lr).fits
-
-  kept_none : (region : ℕ) → cluster.regions ≤ region → kept_at (kept_by v.nodes) region ≡ []
-  kept_none region le = none_kept v.nodes region (subst (λ k. k ≤ region) (sym n.many) le)
-
-  now_is : (region : ℕ) → region < cluster.regions → kept_at (kept_by v'.nodes) region ≡ (node_in v' region).site.region.events
-  now_is region lr = get_or-map (λ (m : NodeView). m.site.region.events) v'.nodes region no_running_node
-
-  now_none : (region : ℕ) → cluster.regions ≤ region → kept_at (kept_by v'.nodes) region ≡ []
-  now_none region le = none_kept v'.nodes region (subst (λ k. k ≤ region) (sym many_now) le)
+  turned : turning.EachHasTurned cluster workload n.all (kept_by v.nodes) (kept_by v'.nodes) (node_in v) (node_in v') (waiting_at v)
+  turned = record {
+    sound = n.cluster;
+    fits = n.workload;
+    chronicle = n.chronicle;
+    number = λ region lr. (n.stand region lr).number;
+    fit = λ region lr. (n.stand region lr).fits;
+    addressed = λ region lr. waiting.addressed a sound lr;
+    trues = λ region lr. waiting.trues a sound lr;
+    turns = turns;
+    kept_is = λ region lr. waiting.kept_is a sound region;
+    kept_none = λ region le. none_kept v.nodes region (subst (λ k. k ≤ region) (sym n.many) le);
+    now_is = λ region lr. get_or-map (λ (m : NodeView). m.site.region.events) v'.nodes region no_running_node;
+    now_none = λ region le. none_kept v'.nodes region (subst (λ k. k ≤ region) (sym many_now) le);
+  }
 
   -- the chronicle after the turns
   abbrev pub all_now : List Stamped
   all_now = n.all ++ new_below (node_in v) (node_in v') cluster.regions
 
   pub chronicle_now : IsChronicle cluster workload all_now (kept_by v'.nodes)
-  chronicle_now = turning.chronicle_goes n.cluster n.workload (kept_by v'.nodes) n.chronicle (node_in v) (node_in v') (waiting_at v) numbers fit (λ region lr. waiting.addressed a sound lr) (λ region lr. waiting.trues a sound lr) turns
-      (λ region lr. waiting.kept_is a sound region) kept_none now_is now_none
+  chronicle_now = turning.chronicle_goes turned
 
   pub stand_now : (region : ℕ) → region < cluster.regions → StandsAmong v' all_now region
   stand_now region lr = record {
-    number = (turns region lr).gone.number ∙ numbers region lr;
-    fits = turning.fits_now n.cluster n.workload (kept_by v'.nodes) n.chronicle (node_in v) (node_in v') (waiting_at v) numbers fit (λ region lr. waiting.addressed a sound lr) (λ region lr. waiting.trues a sound lr) turns
-        (λ region lr. waiting.kept_is a sound region) kept_none now_is now_none region lr;
-    stamps = turning.stamps_go n.cluster n.workload (kept_by v'.nodes) n.chronicle (node_in v) (node_in v') (waiting_at v) numbers fit (λ region lr. waiting.addressed a sound lr) (λ region lr. waiting.trues a sound lr) turns
-        (λ region lr. waiting.kept_is a sound region) kept_none now_is now_none region lr (n.stand region lr).stamps (waiting.stamps a sound lr);
+    number = (turns region lr).gone.number ∙ (n.stand region lr).number;
+    fits = turning.fits_now turned region lr;
+    stamps = turning.stamps_go turned region lr (n.stand region lr).stamps (waiting.stamps a sound lr);
     plan = (turns region lr).gone.plan ∙ (n.stand region lr).plan;
   }
 

@@ -45,20 +45,25 @@ pub those_other : (region other : ℕ) → region ≢ other → (items : List St
 those_other region other n items a = filter_none (λ x. eqb (region_at x) region) items
     (all_map _ _ items (λ x e. false_from_ne_true (eqb (region_at x) region) (λ t. n (sym (eqb-true (region_at x) region t) ∙ e))) a)
 
-module _ {cluster : Cluster} (ok : IsValidCluster cluster) {workload : Workload} (fits : IsValidWorkload cluster workload) {all : List Stamped} {kept : List (List Stamped)} (kept' : List (List Stamped))
-    (c : IsChronicle cluster workload all kept)
-    (node node' : ℕ → NodeView) (packets : ℕ → List Packet)
-    (number : (region : ℕ) → region < cluster.regions → number_of (node region) ≡ region)
-    (fit : (region : ℕ) → region < cluster.regions → NodeFits cluster workload (events_of all) (node region))
-    (addressed : (region : ℕ) → region < cluster.regions → AllIn (IsFor cluster.regions (number_of (node region))) (packets region))
-    (trues : (region : ℕ) → region < cluster.regions → AllIn (IsTruePacket cluster workload all) (packets region))
-    (turns : (region : ℕ) → region < cluster.regions → TurnsOnce cluster.procs (packets region) (node region) (node' region))
-    (kept_is : (region : ℕ) → region < cluster.regions → kept_at kept region ≡ (node region).site.region.events)
-    (kept_none : (region : ℕ) → cluster.regions ≤ region → kept_at kept region ≡ [])
-    (now_is : (region : ℕ) → region < cluster.regions → kept_at kept' region ≡ (node' region).site.region.events)
-    (now_none : (region : ℕ) → cluster.regions ≤ region → kept_at kept' region ≡ []) where
+-- each node made a turn, after events of which each region has kept its own
+pub record EachHasTurned (cluster : Cluster) (workload : Workload) (all : List Stamped) (kept kept' : List (List Stamped)) (node node' : ℕ → NodeView) (packets : ℕ → List Packet) : Type 0 where
+  pub sound : IsValidCluster cluster
+  pub fits : IsValidWorkload cluster workload
+  pub chronicle : IsChronicle cluster workload all kept
+  pub number : (region : ℕ) → region < cluster.regions → number_of (node region) ≡ region
+  pub fit : (region : ℕ) → region < cluster.regions → NodeFits cluster workload (events_of all) (node region)
+  pub addressed : (region : ℕ) → region < cluster.regions → AllIn (IsFor cluster.regions (number_of (node region))) (packets region)
+  pub trues : (region : ℕ) → region < cluster.regions → AllIn (IsTruePacket cluster workload all) (packets region)
+  pub turns : (region : ℕ) → region < cluster.regions → TurnsOnce cluster.procs (packets region) (node region) (node' region)
+  pub kept_is : (region : ℕ) → region < cluster.regions → kept_at kept region ≡ (node region).site.region.events
+  pub kept_none : (region : ℕ) → cluster.regions ≤ region → kept_at kept region ≡ []
+  pub now_is : (region : ℕ) → region < cluster.regions → kept_at kept' region ≡ (node' region).site.region.events
+  pub now_none : (region : ℕ) → cluster.regions ≤ region → kept_at kept' region ≡ []
+
+module _ {cluster : Cluster} {workload : Workload} {all : List Stamped} {kept kept' : List (List Stamped)} {node node' : ℕ → NodeView} {packets : ℕ → List Packet}
+    (turned : EachHasTurned cluster workload all kept kept' node node' packets) where
   told : (region : ℕ) → region < cluster.regions → AreTold cluster workload (events_of all) (packets region) (node region)
-  told region lr = record { addressed = addressed region lr; told = all_map _ _ (packets region) (λ p t. t.told all [] (sym (append-nil all)) tt) (trues region lr) }
+  told region lr = record { addressed = turned.addressed region lr; told = all_map _ _ (packets region) (λ p t. t.told all [] (sym (append-nil all)) tt) (turned.trues region lr) }
 
   abbrev new : ℕ → List Stamped
   new region = new_items (node region) (node' region)
@@ -71,16 +76,16 @@ module _ {cluster : Cluster} (ok : IsValidCluster cluster) {workload : Workload}
   all' = all ++ made_by cluster.regions
 
   whole : SoFar cluster workload all node node' packets cluster.regions
-  whole = so_far all node node' packets number fit told turns cluster.regions (omega arith)
+  whole = so_far all node node' packets turned.number turned.fit told turned.turns cluster.regions (omega arith)
 
   pub fits_now : (region : ℕ) → region < cluster.regions → NodeFits cluster workload (events_of all') (node' region)
   fits_now region lr = whole.turned region lr lr
 
   some : 0 < cluster.regions
-  some = let one = ok.some in omega (arith, one)
+  some = let one = turned.sound.some in omega (arith, one)
 
   mine : (region : ℕ) → region < cluster.regions → AllIn (λ x. region_at x ≡ region) (new region)
-  mine region lr = subst (λ r. AllIn (λ x. region_at x ≡ r) (new region)) (number region lr) (turns region lr).gone.mine
+  mine region lr = subst (λ r. AllIn (λ x. region_at x ≡ r) (new region)) (turned.number region lr) (turned.turns region lr).gone.mine
 
   made_above : (n : ℕ) → n ≤ cluster.regions → (region : ℕ) → n ≤ region → those_at region (made_by n) ≡ []
   made_above zero le region above = refl
@@ -118,19 +123,19 @@ module _ {cluster : Cluster} (ok : IsValidCluster cluster) {workload : Workload}
       by : Either (suc region ≤ cluster.regions) → kept_at kept' region ≡ those_at region all'
       by (inl le) =
           let lr : region < cluster.regions = omega (arith, le) in
-          now_is region lr ∙ (turns region lr).gone.grows ∙ ap (λ l. l ++ new region) (sym (kept_is region lr) ∙ c.lists region)
+          turned.now_is region lr ∙ (turned.turns region lr).gone.grows ∙ ap (λ l. l ++ new region) (sym (turned.kept_is region lr) ∙ turned.chronicle.lists region)
           ∙ ap (λ l. those_at region all ++ l) (sym (made_below cluster.regions (omega arith) region lr)) ∙ sym split
       by (inr n) =
           let above : cluster.regions ≤ region = omega (arith, n) in
-          now_none region above ∙ sym (split ∙ ap (λ l. l ++ those_at region (made_by cluster.regions)) (sym (c.lists region) ∙ kept_none region above)
+          turned.now_none region above ∙ sym (split ∙ ap (λ l. l ++ those_at region (made_by cluster.regions)) (sym (turned.chronicle.lists region) ∙ turned.kept_none region above)
           ∙ made_above cluster.regions (omega arith) region above)
 
   rising : (region : ℕ) → EachThen HasLowerStamp (kept_at kept' region)
   rising region = by (either_le (suc region) cluster.regions)
     where
       by : Either (suc region ≤ cluster.regions) → EachThen HasLowerStamp (kept_at kept' region)
-      by (inr n) = subst (EachThen HasLowerStamp) (sym (now_none region (omega (arith, n)))) tt
-      by (inl le) = subst (EachThen HasLowerStamp) (sym (now_is region lr ∙ (turns region lr).gone.grows)) (each_append HasLowerStamp old (new region) old_rises across (turns region lr).stamps.rising)
+      by (inr n) = subst (EachThen HasLowerStamp) (sym (turned.now_none region (omega (arith, n)))) tt
+      by (inl le) = subst (EachThen HasLowerStamp) (sym (turned.now_is region lr ∙ (turned.turns region lr).gone.grows)) (each_append HasLowerStamp old (new region) old_rises across (turned.turns region lr).stamps.rising)
         where
           lr : region < cluster.regions
           lr = omega (arith, le)
@@ -139,13 +144,13 @@ module _ {cluster : Cluster} (ok : IsValidCluster cluster) {workload : Workload}
           old = (node region).site.region.events
 
           old_rises : EachThen HasLowerStamp (node region).site.region.events
-          old_rises = subst (EachThen HasLowerStamp) (kept_is region lr) (c.rising region)
+          old_rises = subst (EachThen HasLowerStamp) (turned.kept_is region lr) (turned.chronicle.rising region)
 
           across : AllIn (λ x. AllIn (HasLowerStamp x) (new region)) (node region).site.region.events
           across = all_map _ _ (node region).site.region.events
               (λ x le. all_map _ _ (new region) (λ y lt.
               let m : last_stamp (node region).site.region.events ≤ latest_stamp (node region).site.region = le-max_left (last_stamp (node region).site.region.events) (node region).site.region.heard in
-              omega (arith, le, lt, m)) (turns region lr).stamps.above)
+              omega (arith, le, lt, m)) (turned.turns region lr).stamps.above)
               (below_last (node region).site.region.events old_rises)
 
   made_has : (n : ℕ) → (x : Stamped) → Has (made_by n) x → (region : ℕ) × (region < n) × Has (new region) x
@@ -161,8 +166,8 @@ module _ {cluster : Cluster} (ok : IsValidCluster cluster) {workload : Workload}
   caused : AllIn (λ x. (q : ℕ) → source_of x.event ≡ Some q → IsFed cluster workload all' x q) all'
   caused = all_append _ all (made_by cluster.regions)
       (all_put _ all (λ x h q from.
-      let f : IsFed cluster workload all x q = all_get (λ y. (p : ℕ) → source_of y.event ≡ Some p → IsFed cluster workload all y p) all c.caused x h q from in
-      fed_longer ok fits all (made_by cluster.regions) first.run.legal x (any_left x h) q from f.stamp f.lower f.supplied))
+      let f : IsFed cluster workload all x q = all_get (λ y. (p : ℕ) → source_of y.event ≡ Some p → IsFed cluster workload all y p) all turned.chronicle.caused x h q from in
+      fed_longer turned.sound turned.fits all (made_by cluster.regions) first.run.legal x (any_left x h) q from f.stamp f.lower f.supplied))
       (all_put _ (made_by cluster.regions) (λ x h q from. new_one x h q from))
     where
       any_left : (x : Stamped) → Has all x → Has all' x
@@ -174,10 +179,10 @@ module _ {cluster : Cluster} (ok : IsValidCluster cluster) {workload : Workload}
       new_one : (x : Stamped) → Has (made_by cluster.regions) x → (q : ℕ) → source_of x.event ≡ Some q → IsFed cluster workload all' x q
       new_one x h q from =
           let r : (region : ℕ) × (region < cluster.regions) × Has (new region) x = made_has cluster.regions x h in
-          let b : IsBroughtBy (packets r.0) x.stamp x.event = all_get (λ y. IsBroughtBy (packets r.0) y.stamp y.event) (new r.0) (turns r.0 r.1).brought.each x r.2 in
+          let b : IsBroughtBy (packets r.0) x.stamp x.event = all_get (λ y. IsBroughtBy (packets r.0) y.stamp y.event) (new r.0) (turned.turns r.0 r.1).brought.each x r.2 in
           let p : (p : Packet) × Has (packets r.0) p × IsBroughtBy (p ∷ []) x.stamp x.event = one_brought (packets r.0) x.event q x.stamp from b in
-          let t = brought_there ok fits all p.0 (all_get (IsTruePacket cluster workload all) (packets r.0) (trues r.0 r.1) p.0 p.1) x.event q x.stamp from p.2 in
-          fed_longer ok fits all (made_by cluster.regions) first.run.legal x (any_right x h) q from p.0.stamp t.1 t.2
+          let t = brought_there turned.sound turned.fits all p.0 (all_get (IsTruePacket cluster workload all) (packets r.0) (turned.trues r.0 r.1) p.0 p.1) x.event q x.stamp from p.2 in
+          fed_longer turned.sound turned.fits all (made_by cluster.regions) first.run.legal x (any_right x h) q from p.0.stamp t.1 t.2
 
   pub chronicle_goes : IsChronicle cluster workload all' kept'
   chronicle_goes = record { legal = first.run.legal; changing = first.changing; lists = lists; rising = rising; caused = caused }
@@ -200,5 +205,5 @@ module _ {cluster : Cluster} (ok : IsValidCluster cluster) {workload : Workload}
   stamps_go region lr low few =
       let top : greatest (latest_stamp (node region).site.region) (map (λ p. p.stamp) (packets region)) ≤ length all =
       greatest_below (latest_stamp (node region).site.region) (length all) (map (λ p. p.stamp) (packets region)) low (all_image _ (λ (p : Packet). p.stamp) (packets region) few) in
-      let up : latest_stamp (node' region).site.region ≤ greatest (latest_stamp (node region).site.region) (map (λ p. p.stamp) (packets region)) + length (new region) = (turns region lr).stamps.low in
+      let up : latest_stamp (node' region).site.region ≤ greatest (latest_stamp (node region).site.region) (map (λ p. p.stamp) (packets region)) + length (new region) = (turned.turns region lr).stamps.low in
       omega (arith, top, up, long cluster.regions region lr, length-append all (made_by cluster.regions))

@@ -54,16 +54,15 @@ module _ {cluster : Cluster} (ok : IsValidCluster cluster) {workload : Workload}
       }
 
 -- where a region's own part is as it was, its site and its sessions stand as they stood
-module _ {cluster : Cluster} {workload : Workload} {w v : World} {region : ℕ} (lr : region < cluster.regions) (good : HasInvariant cluster workload w) (later : HasInvariant cluster workload v) (grown : HaveGrown w v)
-    (txns : (id : TxnId) (txn : Txn) → txn_of w id ≡ Some txn → txn_of v id ≡ Some txn) (same : own workload v region ≡ own workload w region) where
+module _ {cluster : Cluster} {workload : Workload} {w v : World} {changed region : ℕ} (goes : WorldGoesOn cluster workload changed w v) (lr : region < cluster.regions) (apart : region ≢ changed) where
   node_same : node_at v region ≡ node_at w region
-  node_same = ap (λ o. o.node) same
+  node_same = ap (λ o. o.node) (goes.others region apart)
 
   lengths_same : received_lengths w region ≡ received_lengths v region
   lengths_same = ap (λ (n : Node). set n.received region (length n.log)) (sym node_same)
 
   logs_same : received_logs v region ≡ received_logs w region
-  logs_same = sym (received_up w v good later grown region lr ∙ ap (λ l. fronts l (logs_of v)) lengths_same)
+  logs_same = sym (received_up w v goes.before goes.after goes.grown region lr ∙ ap (λ l. fronts l (logs_of v)) lengths_same)
 
   pub site_stays : {p : SiteView} → StandsIn cluster.regions w region p → StandsIn cluster.regions v region p
   site_stays s = record {
@@ -72,7 +71,7 @@ module _ {cluster : Cluster} {workload : Workload} {w v : World} {region : ℕ} 
     sound = s.sound;
     logs = s.logs ∙ sym logs_same;
     origins = s.origins;
-    known = λ id txn h. txns id txn (s.known id txn h);
+    known = λ id txn h. goes.txns id txn (s.known id txn h);
     node = s.node ∙ sym node_same;
   }
 
@@ -81,13 +80,13 @@ module _ {cluster : Cluster} {workload : Workload} {w v : World} {region : ℕ} 
 
   found_same : (name : Bytes) → session_at workload.sessions w.places region name ≡ session_at workload.sessions v.places region name
   found_same name =
-      found_own workload.sessions w.places region name ∙ ap (λ (o : Own). session_at (local region workload.sessions) o.places region name) (sym same)
+      found_own workload.sessions w.places region name ∙ ap (λ (o : Own). session_at (local region workload.sessions) o.places region name) (sym (goes.others region apart))
       ∙ sym (found_own workload.sessions v.places region name)
 
   pub sessions_still : {s : SessionsView} → SessionsStandIn cluster workload w region s → SessionsStandIn cluster workload v region s
   sessions_still s = record {
     tries = s.tries;
-    seats = λ name. s.seats name ∙ seat_alike good.inv v lr (λ id x found own. attempt_same id own) name (session_at workload.sessions w.places region name) refl ∙ ap (option_map (seat_in v)) (found_same name);
+    seats = λ name. s.seats name ∙ seat_alike goes.before.inv v lr (λ id x found own. attempt_same id own) name (session_at workload.sessions w.places region name) refl ∙ ap (option_map (seat_in v)) (found_same name);
   }
 
 -- what a packet says stays so
@@ -95,23 +94,22 @@ module _ {cluster : Cluster} {workload : Workload} {w v : World} {region : ℕ} 
 take_front : {A : Type 0} (n : ℕ) (xs ys : List A) → n ≤ length xs → IsFront xs ys → take n ys ≡ take n xs
 take_front n xs ys le f = subst (λ l. take n l ≡ take n xs) f.1 (take-append-le n xs f.0 le)
 
-module _ {cluster : Cluster} {workload : Workload} {w v : World} (good : HasInvariant cluster workload w) (later : HasInvariant cluster workload v) (grown : HaveGrown w v)
-    (txns : (id : TxnId) (txn : Txn) → txn_of w id ≡ Some txn → txn_of v id ≡ Some txn) {p : Packet} (ls : p.source < cluster.regions) (lt : p.target < cluster.regions)
+module _ {cluster : Cluster} {workload : Workload} {w v : World} {changed : ℕ} (goes : WorldGoesOn cluster workload changed w v) {p : Packet} (ls : p.source < cluster.regions) (lt : p.target < cluster.regions)
     (took : taken_of w p.source p.target ≤ taken_of v p.source p.target) (received : received_of w p.source p.target ≤ received_of v p.source p.target) (t : IsToldOf w p) where
   pub told_grows : IsToldOf v p
   told_grows =
-      let asks : IsFront (asked_of w p.source p.target) (asked_of v p.source p.target) = asked_front w v good later p.source p.target ls lt (grown p.source) in
-      let logs : IsFront (log_of w p.source) (log_of v p.source) = (grown p.source).log in
+      let asks : IsFront (asked_of w p.source p.target) (asked_of v p.source p.target) = asked_front w v goes.before goes.after p.source p.target ls lt (goes.grown p.source) in
+      let logs : IsFront (log_of w p.source) (log_of v p.source) = (goes.grown p.source).log in
       let long_asks = front_length (asked_of w p.source p.target) (asked_of v p.source p.target) asks in
       let long_logs = front_length (log_of w p.source) (log_of v p.source) logs in
       let a = t.asked_to in let b = t.entries_to in let c = t.took in let d = t.received in
       record {
         asked_to = omega (arith, a, long_asks);
         asked = t.asked ∙ ap (drop p.asked_at) (sym (take_front (p.asked_at + length p.asked) (asked_of w p.source p.target) (asked_of v p.source p.target) a asks));
-        asked_txns = all_map _ _ p.asked (λ txn e. txns txn.id txn e) t.asked_txns;
+        asked_txns = all_map _ _ p.asked (λ txn e. goes.txns txn.id txn e) t.asked_txns;
         entries_to = omega (arith, b, long_logs);
         entries = t.entries ∙ ap (drop p.log_at) (sym (take_front (p.log_at + length p.entries) (log_of w p.source) (log_of v p.source) b logs));
-        entry_txns = all_map _ _ p.entries (λ e f. txns e.part.id e.txn f) t.entry_txns;
+        entry_txns = all_map _ _ p.entries (λ e f. goes.txns e.part.id e.txn f) t.entry_txns;
         took = omega (arith, c, took);
         received = omega (arith, d, received);
       }

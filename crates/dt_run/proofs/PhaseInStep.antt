@@ -106,9 +106,6 @@ module _ {cluster : Cluster} {workload : Workload} {seats seats' seats'' : List 
   abbrev linked : AreLinkedBy AreBeside seats
   linked = a.linked sound
 
-  at_seat : (region : ℕ) → region < cluster.regions → region < length seats
-  at_seat region lr = subst (λ n. region < n) (sym (waiting.one_for_each a)) lr
-
   at_seat' : (region : ℕ) → region < length seats → region < length seats'
   at_seat' region lt = subst (λ n. region < n) (sym g.many) lt
 
@@ -178,9 +175,6 @@ module _ {cluster : Cluster} {workload : Workload} {seats seats' seats'' : List 
         let before : (out_at seats source target d).put ≡ [] = (linked.each source target ls lt n d e).put in
         goes.waits ∙ ap (λ l. l ++ (out_at seats' source target d).put) empty ∙ sent.put.put ∙ ap (λ l. l ++ copies_of sent.verdict packet) before
 
-  node_is : (region : ℕ) → node_in v region ≡ (seat_at seats region).node
-  node_is = waiting.node_is cluster workload seats broken
-
   pub node_now : (region : ℕ) → region < length seats → node_in v' region ≡ (seat_at seats' region).node
   node_now region lt = waiting.node_is cluster workload seats'' false region ∙ node_same region lt
 
@@ -190,29 +184,29 @@ module _ {cluster : Cluster} {workload : Workload} {seats seats' seats'' : List 
   link_waits : (source target : ℕ) → source < cluster.regions → target < cluster.regions → source ≢ target
       → IsOnLink cluster (node_in v' source).turns (packet_for (node_in v' source) target) (waiting_between v' source target)
   link_waits source target ls lt n =
-      let s : IsSentBy _ _ _ _ _ = sent source target (at_seat source ls) (at_seat target lt) n in
-      let now : node_in v' source ≡ (seat_at seats' source).node = node_now source (at_seat source ls) in
+      let s : IsSentBy _ _ _ _ _ = sent source target (waiting.seat_there a ls) (waiting.seat_there a lt) n in
+      let now : node_in v' source ≡ (seat_at seats' source).node = node_now source (waiting.seat_there a ls) in
       let number : number_of (seat_at seats' source).node ≡ source = subst (λ (m : NodeView). number_of m ≡ source) now (stand_now a sound turns_now false source ls).number in
       let other : other_at (number_of (seat_at seats' source).node) (link_to source target) ≡ target = ap (λ k. other_at k (link_to source target)) number ∙ other_of_link source target (λ i. n (sym i)) in
       let plan : (seat_at seats' source).node.plan ≡ plan_of cluster = subst (λ (m : NodeView). m.plan ≡ plan_of cluster) now (stand_now a sound turns_now false source ls).plan in
       subst (λ m. IsOnLink cluster m.turns (packet_for m target) (waiting_between v' source target)) (sym now) (record {
         verdict = s.verdict;
         is = subst (λ p. IsVerdict p (seat_at seats' source).node.turns s.verdict) plan s.is;
-        copies = waiting.between_is cluster workload seats'' false source target (e source target (at_seat source ls) (at_seat target lt) n) (in_now source target ls lt n)
-            ∙ waits source target (at_seat source ls) (at_seat target lt) n ∙ ap (λ t. copies_of s.verdict (packet_for (seat_at seats' source).node t)) other;
+        copies = waiting.between_is cluster workload seats'' false source target (e source target (waiting.seat_there a ls) (waiting.seat_there a lt) n) (in_now source target ls lt n)
+            ∙ waits source target (waiting.seat_there a ls) (waiting.seat_there a lt) n ∙ ap (λ t. copies_of s.verdict (packet_for (seat_at seats' source).node t)) other;
       })
     where
       in_now : (source target : ℕ) → source < cluster.regions → target < cluster.regions → source ≢ target → link_to target source < length (seat_at seats'' target).ins
       in_now source target ls lt n =
-          subst (λ k. link_to target source < k) (sym (b.same target (at_seat' target (at_seat target lt))).ins)
-          (subst (λ k. link_to target source < k) (pairwise_length SameIn (seat_at seats target).ins (seat_at seats' target).ins (g.each target (at_seat target lt)).ins)
-          (link_in linked g target source (at_seat target lt) (at_seat source ls) n))
+          subst (λ k. link_to target source < k) (sym (b.same target (at_seat' target (waiting.seat_there a lt))).ins)
+          (subst (λ k. link_to target source < k) (pairwise_length SameIn (seat_at seats target).ins (seat_at seats' target).ins (g.each target (waiting.seat_there a lt)).ins)
+          (link_in linked g target source (waiting.seat_there a lt) (waiting.seat_there a ls) n))
 
   turned_whole : (region : ℕ) → region < cluster.regions → TurnsWhole v v' region
   turned_whole region lr =
-      let w : SeatTurned cluster.procs (seat_at seats region) (seat_at seats' region) = whole region (at_seat region lr) in
-      let was : node_in v region ≡ (seat_at seats region).node = node_is region in
-      let now : node_in v' region ≡ (seat_at seats' region).node = node_now region (at_seat region lr) in
+      let w : SeatTurned cluster.procs (seat_at seats region) (seat_at seats' region) = whole region (waiting.seat_there a lr) in
+      let was : node_in v region ≡ (seat_at seats region).node = waiting.node_at_seat a region in
+      let now : node_in v' region ≡ (seat_at seats' region).node = node_now region (waiting.seat_there a lr) in
       record {
         turns = ap (λ (m : NodeView). m.turns) now ∙ w.sent.turns ∙ ap (λ (m : NodeView). m.turns + 1) (sym was);
         steps = subst (λ m. HasTurned cluster.procs (waiting_at v region) (node_in v region) m) (sym now) (subst (λ m. HasTurned cluster.procs (waiting_at v region) m (seat_at seats' region).node) (sym was)
@@ -221,7 +215,7 @@ module _ {cluster : Cluster} {workload : Workload} {seats seats' seats'' : List 
             (subst (λ l. HasTaken l (seat_at seats region).node (seat_at seats' region).node) (sym (waits_at region)) w.taken));
         settled = subst (λ m. IsSettled (node_in v region) m) (sym now) (subst (λ m. IsSettled m (seat_at seats' region).node) (sym was) w.settled);
         whole = subst (λ m. (target : ℕ) → target < m.site.region.state.regions → LeavesNothingOut m target) (sym now) w.whole;
-        marks = get_or-map (λ (s : SeatView). s.marks) seats'' region no_seat ∙ (b.same region (at_seat' region (at_seat region lr))).marks ∙ w.marks
+        marks = get_or-map (λ (s : SeatView). s.marks) seats'' region no_seat ∙ (b.same region (at_seat' region (waiting.seat_there a lr))).marks ∙ w.marks
             ∙ ap (λ l. l ++ length (seat_at seats' region).node.site.region.events ∷ []) (sym (get_or-map (λ (s : SeatView). s.marks) seats region no_seat))
             ∙ ap (λ (m : NodeView). marks_at v region ++ length m.site.region.events ∷ []) (sym now);
       }

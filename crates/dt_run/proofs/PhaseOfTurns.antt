@@ -17,7 +17,7 @@ use Rattle.dt_run.proofs.WaitingPackets as waiting
 module _ {cluster : Cluster} {workload : Workload} {seats : List SeatView} {broken : Bool} (a : AreSeated cluster workload seats broken) (sound : broken ≡ false) where
   -- a turn may be made at each seat
   pub seats_can : All (SeatCan cluster.procs) seats
-  seats_can = All-from_get_or (SeatCan cluster.procs) seats no_seat (λ region lt. waiting.seat_can a sound (subst (λ m. region < m) (waiting.one_for_each a) lt))
+  seats_can = All-from_get_or (SeatCan cluster.procs) seats no_seat (λ region lt. waiting.seat_can a sound (waiting.region_there a lt))
 
   -- a turn was made at each
   module _ {seats' : List SeatView} (g : EachGoes cluster.procs seats seats') where

@@ -1,8 +1,8 @@
 -- After a phase that did not fail the nodes are in step again, and all that they took from each other came as planned.
-use Rattle.std.proofs.Common.{◌≡◌, ◌<◌, ◌≤◌, ◌+◌, ◌-◌, ℕ, zero, suc, List, [], ◌∷◌, ◌++◌, length, get_or, slice_get, take, Some, refl, sym, ap, subst, ◌∙◌, inl, inr, arith}
+use Rattle.std.proofs.Common.{◌≡◌, ◌<◌, ◌≤◌, ◌+◌, ◌-◌, ℕ, zero, suc, List, [], ◌∷◌, ◌++◌, length, get_or, slice_get, take, Some, sym, ap, subst, ◌∙◌, inl, inr, arith}
 use Rattle.std.proofs.Math.ListN.{get_or-append}
 use Rattle.std.proofs.Math.Seq.{get_or-append_seam, take-append_seam}
-use Rattle.std.proofs.lemmas.List.{length-append, take-append-le}
+use Rattle.std.proofs.lemmas.List.{get_or_past, length-append, take-append-le}
 use Rattle.dt_lists.specs.Lists.{Either, Has, IsFront}
 use Rattle.dt_lists.proofs.Callers.{either_le, either_nat, get_front, has_place}
 use Rattle.dt_events.specs.declared.Event.{Event}
@@ -46,8 +46,14 @@ keeps_all {v} {v'} phase region lr =
     let e : length (kept_by_region v' region) ≡ length (kept_by_region v region ++ new_items (node_in v region) (node_in v' region)) = ap length (phase.turns region lr).gone.grows in
     omega (arith, e, length-append (kept_by_region v region) (new_items (node_in v region) (node_in v' region)))
 
-module _ {v v' : NodesView} (step : AreInStep v) (phase_is : IsPhase v v') (ends : EndsInStep v v') (lr : (region : ℕ) → region < v.cluster.regions → region < v'.cluster.regions)
-    (back : (region : ℕ) → region < v'.cluster.regions → region < v.cluster.regions) where
+-- and has the same regions
+pub regions_same : {v v' : NodesView} → IsPhase v v' → v'.cluster.regions ≡ v.cluster.regions
+regions_same phase = ap (λ c. c.regions) phase.cluster
+
+pub down : {v v' : NodesView} → IsPhase v v' → {region : ℕ} → region < v'.cluster.regions → region < v.cluster.regions
+down phase {region} lt = subst (λ m. region < m) (regions_same phase) lt
+
+module _ {v v' : NodesView} (step : AreInStep v) (phase_is : IsPhase v v') (ends : EndsInStep v v') where
   abbrev made : ℕ
   made = step.made
 
@@ -131,7 +137,7 @@ module _ {v v' : NodesView} (step : AreInStep v) (phase_is : IsPhase v v') (ends
     module _ (old : ArePlanned v) (there : (region : ℕ) (x : Stamped) → region < v.cluster.regions → Has (kept_by_region v region) x → RegionsAre v.cluster.regions x.event)
         (now : (region : ℕ) (x : Stamped) → region < v.cluster.regions → Has (new region) x → IsPlannedIn v' (suc made) x.event) where
       pub planned_now : ArePlanned v'
-      planned_now = record { each = λ region phase x l from k. by region phase x (back region l) from k (either_le phase made) (either_nat phase (suc made)) }
+      planned_now = record { each = λ region phase x l from k. by region phase x (down phase_is l) from k (either_le phase made) (either_nat phase (suc made)) }
         where
           got_left : {A : Type 0} (xs ys : List A) (i : ℕ) (x : A) → i < length xs → slice_get (xs ++ ys) i ≡ Some x → slice_get xs i ≡ Some x
           got_left [] ys i x lt e = absurd (omega (arith, lt))
@@ -144,12 +150,7 @@ module _ {v v' : NodesView} (step : AreInStep v) (phase_is : IsPhase v v') (ends
           got_right (y ∷ xs) ys (suc i) x le e = got_right xs ys i x (omega (arith, le)) e
 
           beyond : (region phase : ℕ) → region < v.cluster.regions → suc made < phase → mark_at v' region phase ≡ 0
-          beyond region phase l lt = past (0 ∷ marks_at v' region) phase (let k : length (marks_at v' region) ≡ suc made = (marks_now region l).many in omega (arith, k, lt))
-            where
-              past : (xs : List ℕ) (i : ℕ) → length xs ≤ i → get_or xs i 0 ≡ 0
-              past [] i le = refl
-              past (x ∷ xs) zero le = absurd (omega (arith, le))
-              past (x ∷ xs) (suc i) le = past xs i (omega (arith, le))
+          beyond region phase l lt = get_or_past (0 ∷ marks_at v' region) phase 0 (let k : length (marks_at v' region) ≡ suc made = (marks_now region l).many in omega (arith, k, lt))
 
           by : (region phase : ℕ) (x : Stamped) → region < v.cluster.regions → 1 ≤ phase → IsKeptIn v' region phase x → Either (phase ≤ made) → Either (phase ≡ suc made) → IsPlannedIn v' phase x.event
           by region phase x l from k (inl le) e =

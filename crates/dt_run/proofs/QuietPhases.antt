@@ -11,18 +11,17 @@ use Rattle.dt_packet.specs.Loss.{IsVerdict}
 use Rattle.dt_packet.proofs.Callers.{one_of_two, one_verdict}
 use Rattle.dt_cluster.specs.Valid.{IsDrop, IsValidCluster}
 use Rattle.dt_cluster.specs.declared.Cluster.{Cluster}
-use Rattle.dt_txn.specs.Replica.{IsDrained}
-use Rattle.dt_node.specs.NodeView.{number_of, packet_for}
-use Rattle.dt_node.specs.NodeInWorld.{AreTold, NodeFits}
-use Rattle.dt_node.specs.Turn.{HasPlacedOwn}
+use Rattle.dt_node.specs.NodeView.{packet_for}
+use Rattle.dt_node.specs.NodeInWorld.{AreTold}
 use Rattle.dt_run.specs.EndOfRun.{IsAllDone}
 use Rattle.dt_run.specs.Marks.{plan_of}
 use Rattle.dt_run.specs.NodesStand.{AreInStep, AreNodes, LinkTells}
 use Rattle.dt_run.specs.NodesView.{NodesView, node_in, waiting_at, waiting_between}
 use Rattle.dt_run.specs.Phase.{EndsInStep, IsPhase}
 use Rattle.dt_run.specs.Silence.{HasAllArrived, HasArrived, IsExact, IsSilent, PacketsWait, made_in}
-use Rattle.dt_run.proofs.AllArrived.{all_answered, all_executed}
-use Rattle.dt_run.proofs.CountedPhases.{made_is, made_now, regions_same}
+use Rattle.dt_run.proofs.AllArrived.{AreAtRest, all_answered, all_executed}
+use Rattle.dt_run.proofs.CountedPhases.{made_is, made_now}
+use Rattle.dt_run.proofs.PlannedPackets.{down, regions_same}
 use Rattle.dt_run.proofs.SilentPhase.{fits_now, has_arrived, is_put, none_new, number_now, still_exact, told_exact}
 
 -- whether a packet is lost is decided
@@ -50,9 +49,6 @@ module _ {before after : NodesView} (n : AreNodes before) (sound : before.broken
 
   one : 0 < before.cluster.regions
   one = let s = n.cluster.some in omega (arith, s)
-
-  down : (region : ℕ) → region < after.cluster.regions → region < before.cluster.regions
-  down region lt = subst (λ m. region < m) (regions_same step phase ends one) lt
 
   -- where packets wait, one waits on each link that its source would send now
   waits : PacketsWait before → (source target : ℕ) → source < before.cluster.regions → target < before.cluster.regions → source ≢ target → Has (waiting_between before source target) (packet_for (node_in before source) target)
@@ -82,13 +78,13 @@ module _ {before after : NodesView} (n : AreNodes before) (sound : before.broken
     exact_stays : IsExact before → IsExact after
     exact_stays x = record {
       each = λ region other lr lo apart.
-          still_exact n told phase silent region other (down region lr) (down other lo) apart (ends.each region (down region lr)) (x.each region other (down region lr) (down other lo) apart);
+          still_exact n told phase silent region other (down phase lr) (down phase lo) apart (ends.each region (down phase lr)) (x.each region other (down phase lr) (down phase lo) apart);
     }
 
     exact_told : PacketsWait before → IsExact after
     exact_told p = record {
       each = λ region other lr lo apart.
-          told_exact n told phase silent region other (down region lr) (down other lo) apart (ends.each region (down region lr)) (waits p other region (down other lo) (down region lr) (λ e. apart (sym e)));
+          told_exact n told phase silent region other (down phase lr) (down phase lo) apart (ends.each region (down phase lr)) (waits p other region (down phase lo) (down phase lr) (λ e. apart (sym e)));
     }
 
     -- after one silent phase
@@ -103,21 +99,18 @@ module _ {before after : NodesView} (n : AreNodes before) (sound : before.broken
     -- where nothing is outstanding after it, all is done
     pub done_arrived : ((source target : ℕ) → source < before.cluster.regions → target < before.cluster.regions → source ≢ target → HasArrived after source target) → IsAllDone after
     done_arrived arrived = record {
-      answered = λ region lr. all_answered one after number fits drained placed arrived region (down region lr) ((ends.each region (down region lr)).settled.still (inl (none_new n told phase silent region (down region lr))));
-      executed = λ region source lr ls. all_executed one after number fits drained placed arrived region source (down region lr) (down source ls);
+      answered = λ region lr. all_answered one rest region (down phase lr) ((ends.each region (down phase lr)).settled.still (inl (none_new n told phase silent region (down phase lr))));
+      executed = λ region source lr ls. all_executed one rest region source (down phase lr) (down phase ls);
     }
       where
-        number : (region : ℕ) → region < before.cluster.regions → number_of (node_in after region) ≡ region
-        number = number_now n told phase silent
-
-        fits : (region : ℕ) → region < before.cluster.regions → NodeFits before.cluster before.workload (events_of n.all) (node_in after region)
-        fits = fits_now n told phase silent
-
-        drained : (region : ℕ) → region < before.cluster.regions → IsDrained (node_in after region).site.region.state.logs (node_in after region).site.region.state.here
-        drained region lr = (ends.each region lr).settled.drained
-
-        placed : (region : ℕ) → region < before.cluster.regions → HasPlacedOwn (node_in after region)
-        placed region lr = (ends.each region lr).settled.placed (step.each region lr).placed
+        rest : AreAtRest before.cluster before.workload (events_of n.all) after
+        rest = record {
+          number = number_now n told phase silent;
+          fits = fits_now n told phase silent;
+          drained = λ region lr. (ends.each region lr).settled.drained;
+          placed = λ region lr. (ends.each region lr).settled.placed (step.each region lr).placed;
+          arrived = arrived;
+        }
 
     -- where packets waited that carried what is first in turn, nothing was outstanding, so all is done
     pub done_now : IsExact before → PacketsWait before → IsAllDone after
@@ -128,7 +121,7 @@ module _ {before after : NodesView} (n : AreNodes before) (sound : before.broken
     done_with_nothing_out all = done_arrived (λ source target ls lt apart. all.each source target (up source ls) (up target lt) apart)
       where
         up : (region : ℕ) → region < before.cluster.regions → region < after.cluster.regions
-        up region lt = subst (λ m. region < m) (sym (regions_same step phase ends one)) lt
+        up region lt = subst (λ m. region < m) (sym (regions_same phase)) lt
 
     -- after three
     pub exact_and_put : ¬ (IsAllDone after) → IsExact before → IsExact after × PacketsWait after

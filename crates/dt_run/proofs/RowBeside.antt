@@ -1,6 +1,6 @@
 -- One outlet after another is brought beside its inlet, of one seat after another.
-use Rattle.std.proofs.Common.{◌≡◌, ◌≢◌, ◌<◌, ◌≤◌, ◌+◌, ◌⊎◌, ℕ, zero, suc, List, [], ◌∷◌, length, get_or, set, refl, sym, ap, subst, ◌∙◌, inl, inr, arith}
-use Rattle.std.proofs.lemmas.List.{get_or-set_same, get_or-set_other, length-set}
+use Rattle.std.proofs.Common.{◌≡◌, ◌≢◌, ◌<◌, ◌≤◌, ◌+◌, ◌⊎◌, ℕ, List, [], length, get_or, set, refl, sym, ap, subst, ◌∙◌, inl, inr, arith}
+use Rattle.std.proofs.lemmas.List.{get_or_default, get_or-set_same, get_or-set_other, length-set}
 use Rattle.dt_lists.specs.Lists.{Either}
 use Rattle.dt_lists.proofs.Callers.{either_nat}
 use Rattle.dt_ring.specs.Rings.{RingInView, RingOutView}
@@ -9,12 +9,6 @@ use Rattle.dt_run.specs.LinksInner.{BesideSoFar, InletGoes, LinkGoes, LinksGo, R
 use Rattle.dt_run.specs.NodesView.{link_to}
 use Rattle.dt_run.specs.SeatsInner.{EndsAreApart, AreLinkedBy, SeatView, no_seat, seat_at}
 use Rattle.dt_run.proofs.LinkNumbers.{LinkOfNumber, link_of_number, link_within, links_apart}
-
--- which default is given is no matter where there is an item
-pub any_default : {A : Type 0} (xs : List A) (i : ℕ) (d e : A) → i < length xs → get_or xs i d ≡ get_or xs i e
-any_default [] i d e lt = absurd (omega (arith, lt))
-any_default (x ∷ xs) zero d e lt = refl
-any_default (x ∷ xs) (suc i) d e lt = any_default xs i d e (omega (arith, lt))
 
 -- one outlet more
 module _ {source link : ℕ} {row row1 : List RingOutView} {seats seats1 : List SeatView} (r : RowSoFar source link row seats row1 seats1) (a : RowApart source row seats) (below : link < length row)
@@ -78,10 +72,10 @@ module _ {source link : ℕ} {row row1 : List RingOutView} {seats seats1 : List 
   gone q d e lt lq n (inl is) = subst (λ t. LinkGoes (get_or row (link_to source t) d) (in_at seats source t e) (get_or row2 (link_to source t) d) (in_at seats2 source t e)) (sym is) here
     where
       old_out : out ≡ get_or row (link_to source target) d
-      old_out = out_is ∙ any_default row1 link out d link_there ∙ r.row_left link d (omega arith) ∙ ap (λ k. get_or row k d) (sym place_is)
+      old_out = out_is ∙ get_or_default row1 link out d link_there ∙ r.row_left link d (omega arith) ∙ ap (λ k. get_or row k d) (sym place_is)
 
       old_in : inlet ≡ in_at seats source target e
-      old_in = inlet_is ∙ any_default seat.ins place inlet e place_there ∙ r.ins_left target e (omega (arith, place_is)) within apart
+      old_in = inlet_is ∙ get_or_default seat.ins place inlet e place_there ∙ r.ins_left target e (omega (arith, place_is)) within apart
 
       new_out : get_or row2 (link_to source target) d ≡ out'
       new_out = ap (λ k. get_or row2 k d) place_is ∙ get_or-set_same row1 link out' d link_there
@@ -141,7 +135,7 @@ module _ {source link : ℕ} {row row1 : List RingOutView} {seats seats1 : List 
 
   module _ (place : ℕ) (place_is : place ≡ link_to target source) (out : RingOutView) (seat : SeatView) where
     seat_is : get_or seats1 target seat ≡ seat_at seats1 target
-    seat_is = any_default seats1 target seat no_seat next_there
+    seat_is = get_or_default seats1 target seat no_seat next_there
 
     pub next_place : place < length (get_or seats1 target seat).ins
     next_place = subst (λ p. p < length (get_or seats1 target seat).ins) (sym place_is) (subst (λ (q : SeatView). link_to target source < length q.ins) (sym seat_is) next_within)
@@ -159,8 +153,8 @@ module _ {source link : ℕ} {row row1 : List RingOutView} {seats seats1 : List 
         → RowSoFar source (link + 1) row seats (set row1 link out') (set seats1 target later)
     row_steps out' later g =
         let old : RingInView = get_or (seat_at seats1 target).ins (link_to target source) g.inlet in
-        let old_is : old ≡ get_or (seat_at seats1 target).ins (link_to target source) old = any_default (seat_at seats1 target).ins (link_to target source) g.inlet old next_within in
-        let out_is : get_or row1 link out ≡ get_or row1 link (get_or row1 link out) = any_default row1 link out (get_or row1 link out) more in
+        let old_is : old ≡ get_or (seat_at seats1 target).ins (link_to target source) old = get_or_default (seat_at seats1 target).ins (link_to target source) g.inlet old next_within in
+        let out_is : get_or row1 link out ≡ get_or row1 link (get_or row1 link out) = get_or_default row1 link out (get_or row1 link out) more in
         let goes : LinkGoes (get_or row1 link out) old out' g.inlet =
         subst (λ (q : SeatView). LinkGoes (get_or row1 link out) (get_or q.ins (link_to target source) g.inlet) out' g.inlet) seat_is
         (subst (λ k. LinkGoes (get_or row1 link out) (get_or (get_or seats1 target seat).ins k g.inlet) out' g.inlet) place_is g.goes) in
@@ -297,7 +291,7 @@ module _ {source : ℕ} {seats : List SeatView} (a : RowApart source (seat_at se
 module _ {source : ℕ} {seats : List SeatView} (a : RowApart source (seat_at seats source).outs seats) (seat : SeatView) {taken : SeatView} (taken_is : taken ≡ record (get_or seats source seat) { outs = [] })
     (row : List RingOutView) (row_is : row ≡ (get_or seats source seat).outs) where
   found : get_or seats source seat ≡ seat_at seats source
-  found = any_default seats source seat no_seat a.within
+  found = get_or_default seats source seat no_seat a.within
 
   without : taken ≡ record (seat_at seats source) { outs = [] }
   without = taken_is ∙ ap (λ (q : SeatView). record q { outs = [] }) found
@@ -315,7 +309,7 @@ module _ {source : ℕ} {seats : List SeatView} (a : RowApart source (seat_at se
       subst (λ q. RowSoFar source (length (seat_at seats source).outs) (seat_at seats source).outs (set seats source q) row' seats') without
       (subst (λ l. RowSoFar source (length l) l (set seats source taken) row' seats') found_row r) in
       let there : source < length seats' = let m : length seats' ≡ length (set seats source taken) = r.many in subst (λ n. source < n) (sym (m ∙ length-set seats source taken)) a.within in
-      let same = ap (λ l. record (get_or seats' source seat') { outs = l }) outs_are ∙ ap (λ (q : SeatView). record q { outs = row' }) (any_default seats' source seat' no_seat there) in
+      let same = ap (λ l. record (get_or seats' source seat') { outs = l }) outs_are ∙ ap (λ (q : SeatView). record q { outs = row' }) (get_or_default seats' source seat' no_seat there) in
       subst (λ q. LinksGo source seats (set seats' source q)) (sym (full_is ∙ same)) (links_go a r1)
 
 -- one seat after another

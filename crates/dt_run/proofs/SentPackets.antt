@@ -17,7 +17,7 @@ use Rattle.dt_txn.specs.declared.Txn.{Txn}
 use Rattle.dt_txn.specs.Replica.{taken_from}
 use Rattle.dt_region.specs.Region.{RegionState, held}
 use Rattle.dt_region.specs.Sound.{AreCounted, IsSoundRegion}
-use Rattle.dt_region.proofs.Callers.{all_drop, held_id}
+use Rattle.dt_region.proofs.Callers.{all_drop, held_id, held_own}
 use Rattle.dt_packet.specs.declared.packet.Packet.{Packet}
 use Rattle.dt_cluster.specs.declared.Cluster.{Cluster}
 use Rattle.dt_workload.specs.declared.Workload.{Workload}
@@ -35,7 +35,6 @@ use Rattle.dt_node.specs.NodeView.{NodeView, entry_held, most_items, number_of, 
 use Rattle.dt_node.specs.Packets.{IsToldOf, IsTruePacket}
 use Rattle.dt_node.specs.NodeInWorld.{NodeFits}
 use Rattle.dt_run.proofs.Laws.{IsHeld, all_take, found_ids, found_parts, frame, own_of, reached}
-use Rattle.dt_run.proofs.DoneSubmissions.{find_counted}
 use Rattle.dt_run.proofs.ChronicleGrows.{good_after}
 use Rattle.dt_run.proofs.TurnsInOrder.{good_world, received_here}
 use Rattle.dt_run.proofs.OneChronicle.{below_last}
@@ -76,11 +75,11 @@ counted_at region seq (y ∷ xs) c (suc k) x e =
     let s : x.id.seq ≡ (seq + 1) + k = r.0 in
     (omega (arith, s), r.1)
 
-pub held_own : (s : RegionState) → IsSoundRegion s → (x : Txn) → Has s.submitted x → held s x.id ≡ Some x
-held_own s sound x h =
+pub held_submitted : (s : RegionState) → IsSoundRegion s → (x : Txn) → Has s.submitted x → held s x.id ≡ Some x
+held_submitted s sound x h =
     let p : (i : ℕ) × (slice_get s.submitted i ≡ Some x) = place_of s.submitted x h in
     let at = counted_at s.number 1 s.submitted sound.counted p.0 x p.1 in
-    find_counted s.number 1 s.submitted s.foreign sound.counted p.0 x x.id at.0 at.1 p.1
+    held_own s.number s.submitted s.foreign x.id p.0 sound.counted sound.foreign at.1 at.0 ∙ p.1
 
 -- looking all of a list up
 
@@ -141,7 +140,7 @@ module _ {cluster : Cluster} {workload : Workload} (all : List Stamped) {n : Nod
           let t = r.submission.txn in
           let found : txn_of whole t.id ≡ Some t = subst (λ i. txn_of whole i ≡ Some t) (sym r.same) r.found in
           let mine : Has s.submitted t = own_of (reached f) f.site t found (ap (λ i. i.region) r.same ∙ r.region) in
-          (t, subst (λ i. held s i ≡ Some t) r.same (held_own s f.site.sound t mine))
+          (t, subst (λ i. held s i ≡ Some t) r.same (held_submitted s f.site.sound t mine))
 
   parts_held : AllIn (λ p. IsHeld s p.id) log
   parts_held = all_map _ _ log (λ p h. (h.0, h.1)) (f.site.sound.parts me)

@@ -3,7 +3,6 @@
 use Rattle.std.proofs.Common.{◌≡◌, ◌<◌, ◌≤◌, ◌+◌, ◌^◌, ℕ, Bool, false, cond, List, [], ◌∷◌, length, map, get_or, refl, sym, ap, ◌∙◌, arith}
 use Rattle.std.proofs.Common.{Result, Ok, Err, IfOk, Vec}
 use Rattle.std.specs.Prelude.{sum_by}
-use Rattle.std.proofs.lemmas.List.{length-map}
 use Rattle.std.proofs.lemmas.List.Sums.{count_by-le-length, sum_by-cons}
 use Rattle.dt_text.specs.Texts.{Bytes}
 use Rattle.dt_text.specs.declared.NoMemory.{NoMemory}
@@ -30,7 +29,7 @@ use Rattle.dt_run.proofs.Laws.{are_kept, merge_exists, merge_sums, most_few, tab
 use Rattle.dt_run.proofs.RunEnds.{kept_few}
 use Rattle.dt_run.proofs.RunLaws.{run_report, sites_after}
 use Rattle.dt_run.proofs.SeatCounts.{kept_seen}
-use Rattle.dt_run.proofs.WaitingPackets.{node_is}
+use Rattle.dt_run.proofs.WaitingPackets.{node_is, one_for_each}
 
 -- the answers among events, with or without their stamps
 count_answers : (xs : List Stamped) → answer_count (events_of xs) ≡ kept_answers xs
@@ -95,18 +94,15 @@ module _ {v : NodesView} (n : AreNodes v) (sound : v.broken ≡ false) (some : 1
 
 -- seats, as the code goes through them
 module _ {cluster : Cluster} {workload : Workload} {seats : List SeatView} {broken : Bool} (a : AreSeated cluster workload seats broken) where
-  pub seated_many : length seats ≡ cluster.regions
-  seated_many = sym (length-map seats (λ (s : SeatView). s.node)) ∙ a.nodes.many
-
   pub kept_fits : sum_by events_at seats < 2 ^ 64
   kept_fits =
-      let seen : sum_by events_at seats ≡ all_kept_in (nodes_view cluster workload seats broken) = kept_seen cluster workload seats broken seated_many in
+      let seen : sum_by events_at seats ≡ all_kept_in (nodes_view cluster workload seats broken) = kept_seen cluster workload seats broken (one_for_each a) in
       let few : all_kept_in (nodes_view cluster workload seats broken) ≤ most_events cluster workload = kept_few a.nodes in
       let most : most_events cluster workload ≤ 24640000 = most_few cluster a.nodes.cluster workload a.nodes.workload in
       omega (arith, seen, few, most)
 
   pub some_seat : 0 < length seats
-  some_seat = let one : 0 < cluster.regions = a.nodes.cluster.some in let many : length seats ≡ cluster.regions = seated_many in omega (arith, one, many)
+  some_seat = let one : 0 < cluster.regions = a.nodes.cluster.some in omega (arith, one, one_for_each a)
 
   pub answers_seen : sum_by answers_at seats ≡ sum_by kept_answers (kept_by (nodes_view cluster workload seats broken).nodes)
   answers_seen = sum_through kept_answers (λ (s : SeatView). s.node.site.region.events) seats ∙ ap (sum_by kept_answers) (through (λ (x : NodeView). x.site.region.events) (λ (s : SeatView). s.node) seats)

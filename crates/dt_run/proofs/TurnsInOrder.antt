@@ -92,8 +92,8 @@ module _ {cluster : Cluster} {workload : Workload} {events : List Event} {packet
     run = goes.fits.run;
     changing = goes.fits.changing;
     number = g.number;
-    site = site_stays g.number (good_world g) goes_to.after goes_to.grown goes_to.txns (goes_to.others (number_of n) apart) g.site;
-    sessions = sessions_still g.number (good_world g) goes_to.after goes_to.grown goes_to.txns (goes_to.others (number_of n) apart) g.sessions;
+    site = site_stays goes_to g.number apart g.site;
+    sessions = sessions_still goes_to g.number apart g.sessions;
     few = g.few;
     took = g.took;
     received = g.received;
@@ -114,7 +114,7 @@ module _ {cluster : Cluster} {workload : Workload} {events : List Event} {packet
       still p to i =
           let target : p.target < cluster.regions = subst (λ r. r < cluster.regions) (sym to.target) lt in
           let c = counts p.source p.target target (either_nat p.source (number_of before)) in
-          told_grows (good_world f) goes_to.after goes_to.grown goes_to.txns to.source target c.0 c.1 i
+          told_grows goes_to to.source target c.0 c.1 i
 
 -- what the turns of the first n nodes made
 abbrev pub new_below : (ℕ → NodeView) → (ℕ → NodeView) → ℕ → List Stamped

@@ -52,6 +52,16 @@ node_is cluster workload seats broken region = get_or-map (λ (s : SeatView). s.
 pub one_for_each : {cluster : Cluster} {workload : Workload} {seats : List SeatView} {broken : Bool} → AreSeated cluster workload seats broken → length seats ≡ cluster.regions
 one_for_each {cluster} {workload} {seats} a = sym (length-map seats (λ (s : SeatView). s.node)) ∙ a.nodes.many
 
+pub seat_there : {cluster : Cluster} {workload : Workload} {seats : List SeatView} {broken : Bool} → AreSeated cluster workload seats broken → {region : ℕ} → region < cluster.regions → region < length seats
+seat_there a {region} lr = subst (λ m. region < m) (sym (one_for_each a)) lr
+
+pub region_there : {cluster : Cluster} {workload : Workload} {seats : List SeatView} {broken : Bool} → AreSeated cluster workload seats broken → {region : ℕ} → region < length seats → region < cluster.regions
+region_there a {region} lt = subst (λ m. region < m) (one_for_each a) lt
+
+pub node_at_seat : {cluster : Cluster} {workload : Workload} {seats : List SeatView} {broken : Bool} → AreSeated cluster workload seats broken
+    → (region : ℕ) → node_in (nodes_view cluster workload seats broken) region ≡ (seat_at seats region).node
+node_at_seat {cluster} {workload} {seats} {broken} a region = node_is cluster workload seats broken region
+
 ins_are : (seats : List SeatView) (region : ℕ) → get_or (map (λ (s : SeatView). map waits_in s.ins) seats) region [] ≡ map waits_in (seat_at seats region).ins
 ins_are seats region = get_or-map (λ (s : SeatView). map waits_in s.ins) seats region no_seat
 
@@ -134,27 +144,18 @@ module _ {cluster : Cluster} {workload : Workload} {seats : List SeatView} {brok
   abbrev linked : AreLinkedBy AreBeside seats
   linked = a.linked sound
 
-  many : length seats ≡ cluster.regions
-  many = one_for_each a
-
-  node_at_seat : (region : ℕ) → node_in v region ≡ (seat_at seats region).node
-  node_at_seat = node_is cluster workload seats broken
-
   pub kept_is : (region : ℕ) → kept_at (kept_by v.nodes) region ≡ (node_in v region).site.region.events
   kept_is = kept_now n
 
   module _ {region : ℕ} (lr : region < cluster.regions) where
-    at_seat : region < length seats
-    at_seat = subst (λ m. region < m) (sym many) lr
-
     -- each packet that waits for a node is what another one would send now
     pub sent_by : (p : Packet) → Has (waiting_at v region) p → IsSnapshot v region p
     sent_by p h =
         let r : (link : ℕ) × (link < length (seat_at seats region).ins) × Has (get_or (map waits_in (seat_at seats region).ins) link []) p =
         on_link (seat_at seats region).ins p (subst (λ l. Has l p) (waiting_is cluster workload seats broken region) h) in
-        let ends : length (seat_at seats region).ins + 1 ≡ length seats = linked.ends.ins region at_seat in
+        let ends : length (seat_at seats region).ins + 1 ≡ length seats = linked.ends.ins region (seat_there a lr) in
         let below : r.0 < length (seat_at seats region).ins = r.1 in
-        let l : LinkOf cluster.regions region r.0 = link_of cluster.regions region r.0 lr (omega (arith, below, ends, many)) in
+        let l : LinkOf cluster.regions region r.0 = link_of cluster.regions region r.0 lr (omega (arith, below, ends, one_for_each a)) in
         let here : Has (waiting_between v l.other region) p = subst (λ k. Has (get_or (get_or v.waiting region []) k []) p) (sym l.is) (subst (λ k. Has (get_or k r.0 []) p) (sym (ins_are seats region)) r.2) in
         record {
           source = l.other;
@@ -214,29 +215,29 @@ module _ {cluster : Cluster} {workload : Workload} {seats : List SeatView} {brok
     pub seat_can : SeatCan cluster.procs (seat_at seats region)
     unfolding places_of_link
     seat_can = record {
-      stands = subst (λ m. NodeStands cluster.procs (flat_map waits_in (seat_at seats region).ins) m) (node_at_seat region)
+      stands = subst (λ m. NodeStands cluster.procs (flat_map waits_in (seat_at seats region).ins) m) (node_at_seat a region)
           (subst (λ l. NodeStands cluster.procs l (node_in v region)) (waiting_is cluster workload seats broken region) stands);
-      ends = linked.ends.outs region at_seat ∙ many ∙ subst (λ (m : NodeView). cluster.regions ≡ m.site.region.state.regions) (node_at_seat region) (sym (n.stand region lr).fits.site.many);
+      ends = linked.ends.outs region (seat_there a lr) ∙ one_for_each a ∙ subst (λ (m : NodeView). cluster.regions ≡ m.site.region.state.regions) (node_at_seat a region) (sym (n.stand region lr).fits.site.many);
       free = all_of_gets (λ (o : RingOutView). 2 ≤ o.free) (seat_at seats region).outs free_one;
-      turns = subst (λ (m : NodeView). m.turns ≡ length (seat_at seats region).marks) (node_at_seat region)
+      turns = subst (λ (m : NodeView). m.turns ≡ length (seat_at seats region).marks) (node_at_seat a region)
           ((step.each region lr).turns ∙ sym ((step.each region lr).marks.many) ∙ ap length (get_or-map (λ (s : SeatView). s.marks) seats region no_seat));
     }
       where
         free_one : (link : ℕ) (o : RingOutView) → slice_get (seat_at seats region).outs link ≡ Some o → 2 ≤ o.free
         free_one link o e =
-            let ends : length (seat_at seats region).outs + 1 ≡ length seats = linked.ends.outs region at_seat in
+            let ends : length (seat_at seats region).outs + 1 ≡ length seats = linked.ends.outs region (seat_there a lr) in
             let below : link < length (seat_at seats region).outs = slice_get_within (seat_at seats region).outs link o e in
-            let l : LinkOf cluster.regions region link = link_of cluster.regions region link lr (omega (arith, below, ends, many)) in
+            let l : LinkOf cluster.regions region link = link_of cluster.regions region link lr (omega (arith, below, ends, one_for_each a)) in
             by l (get_or_from_slice_get (seat_at seats region).outs link o o e)
           where
             by : LinkOf cluster.regions region link → get_or (seat_at seats region).outs link o ≡ o → 2 ≤ o.free
             by l is =
-                let there : l.other < length seats = subst (λ m. l.other < m) (sym many) l.there in
+                let there : l.other < length seats = seat_there a l.there in
                 let ins : length (seat_at seats l.other).ins + 1 ≡ length seats = linked.ends.ins l.other there in
                 let within : link_to l.other region + 1 < cluster.regions = link_within cluster.regions l.other region l.there lr (λ e. l.apart (sym e)) in
-                by_inlet (seat_at seats l.other).ins (link_to l.other region) (omega (arith, ins, within, many)) (λ e. subst (λ x. AreBeside x
+                by_inlet (seat_at seats l.other).ins (link_to l.other region) (omega (arith, ins, within, one_for_each a)) (λ e. subst (λ x. AreBeside x
                 (get_or (seat_at seats l.other).ins (link_to l.other region) e)) (ap (λ k. get_or (seat_at seats region).outs k o) l.is ∙ is)
-                (linked.each region l.other at_seat there (λ q. l.apart (sym q)) o e)) (λ e lt. subst (λ k. length k ≤ 2)
+                (linked.each region l.other (seat_there a lr) there (λ q. l.apart (sym q)) o e)) (λ e lt. subst (λ k. length k ≤ 2)
                 (between_is cluster workload seats broken region l.other e lt) (link_few v step.made region l.other (step.links region l.other lr l.there (λ q. l.apart (sym q)))))
               where
                 by_inlet : (ins : List RingInView) (k : ℕ) → k < length ins → ((e : RingInView) → AreBeside o (get_or ins k e)) → ((e : RingInView) → k < length ins → length (get_or ins k e).waits ≤ 2) → 2 ≤ o.free

@@ -31,8 +31,8 @@ fn least(left: &[&[Stamped]]) -> Option<usize>
     ensures { IsLeast (map (λ items. items.now) left.now) result }
 {
     let mut found: Option<(usize, u64)> = None;
-    for region in 0..left.len() {
-        let Some(first) = left[region].first() else {
+    for (region, items) in left.iter().enumerate() {
+        let Some(first) = items.first() else {
             continue;
         };
         let lower = match found {

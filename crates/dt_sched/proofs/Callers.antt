@@ -1,6 +1,5 @@
 -- What a caller's proof needs of the dependency graph: what stays as a view grows, classes, precedence, and what is
 -- decided. All other lemmas of this crate are its own.
-pub use Rattle.dt_access.proofs.Callers.{clash_of_uses, uses_of_clash}
 pub use Rattle.dt_sched.proofs.LongerViews.{complete_longer, longer_refl, parts_cons, present_longer, reaches_longer, well_formed_front}
 pub use Rattle.dt_sched.proofs.ClosedTransactions.{class_stays, closed_listed, closed_stays, complete_of_closed, edge_at_home, home_of_edge}
 pub use Rattle.dt_sched.proofs.ClosedTransactions.{part_of_complete, preceders_stay, reaches_back}
@@ -10,6 +9,7 @@ pub use Rattle.dt_sched.proofs.Precedence.{comparable_in_log, precedes_decided, 
 pub use Rattle.dt_sched.proofs.Ranks.{rank_of_part, sooner_breaks_ties}
 pub use Rattle.dt_sched.proofs.Classes.{class_alone, class_of, class_of_member, class_unique, few_groups, in_own_class, several_in_class}
 pub use Rattle.dt_sched.proofs.Decisions.{has_id_decided}
+pub use Rattle.dt_sched.proofs.StableDecisions.{executable_stays}
 pub use Rattle.dt_sched.proofs.NothingToDo.{done_where_closed}
 pub use Rattle.dt_sched.proofs.OnePartMore.{empty_log, has_with_part, log_with_part, put_log, with_part_longer, with_part_well_formed}
 pub use Rattle.dt_sched.proofs.Sound.{sound_at_first, sound_execute, sound_insert, sound_longer, sound_resolve, sound_with_none}

@@ -1,5 +1,5 @@
 -- Which words are numbers.
-use Rattle.std.proofs.Common.{◌≡◌, ℕ, ◌<◌, ◌≤◌, ◌^◌, Bool, true, false, cond, ◌||◌, ◌==◌, not, nat_lt, List, [], ◌∷◌, length, get_or, ℤ, pos, negsuc, w64, lt-ltb}
+use Rattle.std.proofs.Common.{◌≡◌, ℕ, ◌<◌, ◌≤◌, ◌^◌, true, ◌||◌, ◌==◌, not, nat_lt, List, [], ◌∷◌, length, get_or, ℤ, pos, negsuc, w64, lt-ltb}
 use Rattle.std.proofs.Common.{ltb-true}
 use Rattle.std.proofs.Common.{FitsSigned, Option, Some, None, refl, subst, arith}
 use Rattle.std.specs.Option.{option_map}
@@ -10,6 +10,7 @@ use Rattle.std.specs.Char.{digit_value}
 use Rattle.std.proofs.lemmas.Bool.{and_from, and_parts}
 use Rattle.std.proofs.lemmas.Bool.Decides.{nat_tests}
 use Rattle.std.proofs.lemmas.Int.{ints}
+use Rattle.std.proofs.lemmas.Option.{cond_some}
 use Rattle.std.proofs.lemmas.Str.Parse.{digit_at}
 use Rattle.dt_text.specs.Numbers.{ReadsSignedNumber}
 use Rattle.dt_text.proofs.Callers.{one_spelling, digit_value_is}
@@ -43,10 +44,6 @@ plain_test a n h = grind (arith, nat_tests)
 test_plain : (a n : ℕ) → (not (a == 48) || n == 1) ≡ true → a ≡ 48 → n ≡ 1
 test_plain a n h e = grind (arith, nat_tests)
 
-chosen : (t : Bool) (v n : ℕ) → cond t (Some v) None ≡ Some n → (t ≡ true) × (v ≡ n)
-chosen true v n e = (refl, cc)
-chosen false v n e = absurd cc
-
 -- the printed form of a number that fits is that number
 number_known : (word : List ℕ) (n : ℕ) → n < 2 ^ 63 → word ≡ decimal n → whole_number word ≡ Some n
 number_known word n small is =
@@ -60,7 +57,7 @@ number_known word n small is =
 -- a word that is a number is its printed form
 number_spelled : (word : List ℕ) (n : ℕ) → 0 < length word → whole_number word ≡ Some n → (n < 2 ^ 63) × (word ≡ decimal n)
 number_spelled word n some is =
-    let facts = chosen _ _ _ is in
+    let facts = cond_some _ _ _ is in
     let all : list_all is_digit word ≡ true = (and_parts _ _ ((and_parts _ _ facts.0).0)).0 in
     let plain : (not (get_or word 0 0 == 48) || length word == 1) ≡ true = (and_parts _ _ ((and_parts _ _ facts.0).0)).1 in
     let low : digits_value 10 word < 2 ^ 63 = ltb-true (digits_value 10 word) (2 ^ 63) ((and_parts _ _ facts.0).1) in
@@ -94,7 +91,7 @@ number_is word (Some (negsuc n)) digit h =
 -- a number that a word writes is small
 pub whole_small : (word : List ℕ) (n : ℕ) → whole_number word ≡ Some n → n < 2 ^ 63
 whole_small word n is =
-    let facts = chosen _ _ _ is in
+    let facts = cond_some _ _ _ is in
     let low : digits_value 10 word < 2 ^ 63 = ltb-true (digits_value 10 word) (2 ^ 63) ((and_parts _ _ facts.0).1) in
     let value : digits_value 10 word ≡ n = facts.1 in
     omega arith

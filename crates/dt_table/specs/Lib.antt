@@ -1,5 +1,5 @@
 pub mod Table
-pub mod CodesInner
+pub mod TableCode
 pub mod RowsInner
 pub mod StoredUnitInner
 pub mod StoredMovesInner

@@ -20,7 +20,7 @@ pub struct Opening {
 
 impl Model for Opening {
     ghost use Rattle.dt_table.specs.Table.{OpeningView};
-    ghost use Rattle.dt_table.specs.CodesInner.{opening_view_code};
+    ghost use Rattle.dt_table.specs.TableCode.{opening_view_code};
 
     ghost Value = { OpeningView };
 

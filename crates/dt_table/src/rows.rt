@@ -30,7 +30,7 @@ pub struct Rows {
 
 impl Model for Rows {
     ghost use Rattle.dt_table.specs.RowsInner.{RowsView};
-    ghost use Rattle.dt_table.specs.CodesInner.{rows_view_code};
+    ghost use Rattle.dt_table.specs.TableCode.{rows_view_code};
 
     ghost Value = { RowsView };
 

@@ -53,7 +53,7 @@ pub struct Table {
 
 impl Model for Table {
     ghost use Rattle.dt_table.specs.Table.{TableView};
-    ghost use Rattle.dt_table.specs.CodesInner.{table_view_code};
+    ghost use Rattle.dt_table.specs.TableCode.{table_view_code};
 
     ghost Value = { TableView };
 

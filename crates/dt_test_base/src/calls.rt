@@ -1,11 +1,12 @@
 //! Calls: which keys they use, and how they end.
 ghost use Rattle.std.specs.Prelude.{◌≡◌, IfOk, map};
 
+use crate::rows::put_option;
 use crate::wrong;
 use dt_access::{Keys, Mode, TryCopy, Writes};
 use dt_eval::{Args, Cause, Finish, Reads, Values, fits, keys_of, run};
 use dt_proc::{Proc, Procs, builtin_procs, read_procs};
-use dt_text::{Key, NoMemory, Str, Value, put_u64, put_value, read_i64};
+use dt_text::{Key, NoMemory, Str, Value, put_u64, read_i64};
 use std::alloc::Global;
 use std::mem::forget;
 use std::test::Fail;
@@ -73,7 +74,7 @@ fn put_keys(out: &mut Vec<u8>, keys: &Keys) -> Result<(), NoMemory> {
 fn put_values(alloc: Global, out: &mut Vec<u8>, values: &Values) -> Result<(), NoMemory> {
     for value in values.as_slice() {
         out.push(b' ')?;
-        put_option(alloc, out, value)?;
+        put_option(alloc, out, value.as_ref())?;
     }
     Ok(())
 }
@@ -84,7 +85,7 @@ fn put_writes(alloc: Global, out: &mut Vec<u8>, writes: &Writes) -> Result<(), N
         out.push(b';')?;
         out.extend_from_slice(key.bytes())?;
         out.push(b'=')?;
-        put_option(alloc, out, value)?;
+        put_option(alloc, out, value.as_ref())?;
     }
     Ok(())
 }
@@ -112,15 +113,6 @@ fn put_cause(out: &mut Vec<u8>, cause: &Cause) -> Result<(), NoMemory> {
     };
     out.extend_from_slice(word)?;
     out.extend_from_slice(said)?;
-    Ok(())
-}
-
-/// Adds the printed form of a value, or `none`.
-fn put_option(alloc: Global, out: &mut Vec<u8>, value: &Option<Value>) -> Result<(), NoMemory> {
-    match value {
-        Some(value) => put_value(alloc, out, value)?,
-        None => out.extend_from_slice(b"none")?,
-    }
     Ok(())
 }
 

@@ -145,11 +145,11 @@ fn tell<S: Scheduler>(
     alloc: Global,
     region: &Region<S>,
     story: Story,
-    telling: RoundReport,
+    report: RoundReport,
 ) -> Result<Vec<u8>, Fail> {
     let mut told = Vec::new(alloc);
     let count = story.calls.len().saturating_add(story.rows.len());
-    match telling {
+    match report {
         RoundReport::Events => put_events(alloc, &mut told, region, count)?,
         RoundReport::Outcomes => put_outcomes(alloc, &mut told, region, story.rows)?,
     }
@@ -165,14 +165,14 @@ pub fn told_of<R: Threads + Wait + Sync, S: Scheduler + Drop + Send, G: Gate>(
     story: Story,
     workers: Option<u32>,
     gate: &G,
-    telling: RoundReport,
+    report: RoundReport,
 ) -> Result<Vec<u8>, Fail> {
     if story.number >= story.regions || story.regions > 8 {
         return Err(Fail::from("the region is one of eight at most"));
     }
     let mut region: Region<S> = begun(alloc, story.number, story.regions)?;
     let told = match go_on(rt, alloc, &mut region, procs, story, workers, gate) {
-        Ok(()) => tell(alloc, &region, story, telling),
+        Ok(()) => tell(alloc, &region, story, report),
         Err(fail) => Err(fail),
     };
     forget(region);

@@ -3,8 +3,7 @@ use Rattle.std.proofs.Common.{◌≡◌, ◌≢◌, ℕ, ◌+◌, ◌<◌, ◌�
 use Rattle.std.proofs.Common.{◌∷◌, ◌++◌, length, get_or, drop, Option, Some, None, refl, sym, ◌∙◌, ap, arith, append-nil}
 use Rattle.std.specs.Option.{option_map}
 use Rattle.std.proofs.lemmas.Bool.Decides.{nat_tests}
-use Rattle.std.proofs.lemmas.Grind.{common_steps}
-use Rattle.std.proofs.lemmas.List.{drop_more}
+use Rattle.std.proofs.lemmas.List.{drop_all, drop_more}
 use Rattle.dt_lists.proofs.Callers.{joined_more, joined_none}
 use Rattle.dt_text.specs.Texts.{is_text_byte, IsStr}
 use Rattle.dt_text.specs.Words.{is_visible}
@@ -13,9 +12,6 @@ use Rattle.dt_text.specs.ReadingInner.{WordAt, TextEndsAt, ItemAt}
 use Rattle.dt_text.proofs.ReadingSteps as step
 use Rattle.dt_text.specs.declared.word.Word.{Word}
 use Rattle.dt_text.specs.declared.word.Word.TheVariants.{Bare, Text}
-
-past_end : (line : List ℕ) (at : ℕ) → length line ≤ at → drop at line ≡ []
-past_end line at past = grind (arith, common_steps)
 
 -- a space between words
 pub gap_step : (line : List ℕ) (at : ℕ) → at < length line → get_or line at 0 ≡ 32 → words_from at (drop at line) ≡ words_from (at + 1) (drop (at + 1) line)
@@ -30,7 +26,7 @@ pub bare_stop : (line : List ℕ) (at : ℕ) → at < length line → is_visible
 bare_stop line at inside over from = rw (drop_more line at 0 inside) (step.bare_over from at _ _ over)
 
 pub bare_at_end : (line : List ℕ) (at : ℕ) → length line ≤ at → BareEndsAt line at at
-bare_at_end line at past from = rw (past_end line at past) (step.bare_end from at)
+bare_at_end line at past from = rw (drop_all at line past) (step.bare_end from at)
 
 -- a bare word begins
 pub bare_begins : (line : List ℕ) (at end : ℕ) → at < length line → get_or line at 0 ≢ 34 → is_visible (get_or line at 0) ≡ true → BareEndsAt line (at + 1) end
@@ -57,7 +53,7 @@ text_closes line text at inside quote = rw (drop_more line at 0 inside) (step.te
 
 -- a text word without its last `"`
 pub text_open : (line text : List ℕ) (at : ℕ) → length line ≤ at → text_from text at (drop at line) ≡ None
-text_open line text at past = rw (past_end line at past) (step.text_end text at)
+text_open line text at past = rw (drop_all at line past) (step.text_end text at)
 
 -- after a text word
 pub text_ends : (line text : List ℕ) (end : ℕ) → end ≤ length line → (end < length line → get_or line end 0 ≡ 32) → TextEndsAt line text end (Some (Text text, end))
@@ -65,7 +61,7 @@ text_ends line text end within may = (refl, refl, by_end (nat_lt end (length lin
   where
     by_end : (inside : Bool) → nat_lt end (length line) ≡ inside → after_text text end (drop end line) ≡ with_word (Text text) (words_from end (drop end line))
     by_end true e = let inside : end < length line = grind (arith, nat_tests) in rw (drop_more line end 0 inside) (step.after_space text end _ _ (may inside))
-    by_end false e = let past : length line ≤ end = grind (arith, nat_tests) in rw (past_end line end past) (step.after_end text end)
+    by_end false e = let past : length line ≤ end = grind (arith, nat_tests) in rw (drop_all end line past) (step.after_end text end)
 
 pub text_goes_on : (line text : List ℕ) (end : ℕ) → end < length line → get_or line end 0 ≢ 32 → TextEndsAt line text end None
 text_goes_on line text end inside no_space = rw (drop_more line end 0 inside) (step.after_other text end _ _ no_space)
@@ -81,7 +77,7 @@ bad_item line at inside plain unescaped bad = λ text. rw (drop_more line at 0 i
 pub cut_item : (line : List ℕ) (at : ℕ) → at < length line → get_or line at 0 ≡ 92 → at + 1 ≡ length line → ItemAt line at None
 cut_item line at inside escape last = λ text.
     let past : length line ≤ at + 1 = omega arith in
-    rw (drop_more line at 0 inside) (step.text_escape text at _ _ escape ∙ rw (past_end line (at + 1) past) (step.escape_end text (at + 1)))
+    rw (drop_more line at 0 inside) (step.text_escape text at _ _ escape ∙ rw (drop_all (at + 1) line past) (step.escape_end text (at + 1)))
 
 escaped : (line text : List ℕ) (at : ℕ) → at + 1 < length line → get_or line at 0 ≡ 92
     → text_from text at (drop at line) ≡ cond ((get_or line (at + 1) 0 == 34 || get_or line (at + 1) 0 == 92) && nat_lt (length text) 256) (text_from (text ++ get_or line (at + 1) 0 ∷ []) (at + 1 + 1) (drop (at + 1 + 1) line)) None
@@ -118,7 +114,7 @@ words_go_on line found word all at end next before one gap =
 
 -- no word begins at the end
 pub no_more : (line : List ℕ) (at : ℕ) → length line ≤ at → words_from at (drop at line) ≡ Some []
-no_more line at past = rw (past_end line at past) (step.gap_end at)
+no_more line at past = rw (drop_all at line past) (step.gap_end at)
 
 -- each word is found
 pub words_end : (line : List ℕ) (found : List Word) (all : Option (List Word)) (at : ℕ) → length line ≤ at → option_map (λ ws. found ++ ws) (words_from at (drop at line)) ≡ all → Some found ≡ all

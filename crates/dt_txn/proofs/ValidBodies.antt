@@ -1,13 +1,10 @@
 -- A body that fits can run, and what it moves is a unit.
-use Rattle.std.proofs.Common.{ℕ, zero, suc, List, [], ◌∷◌, Option, None, Some}
-use Rattle.dt_lists.specs.Lists.{AllIn}
-use Rattle.dt_text.specs.Texts.{IsKey}
+use Rattle.std.proofs.Common.{ℕ, List, Option, None, Some}
 use Rattle.dt_access.specs.Clash.{Bytes}
 use Rattle.dt_proc.specs.Tree.{ProcTree}
 use Rattle.dt_access.specs.declared.TxnId.{TxnId}
 use Rattle.dt_text.specs.declared.Value.{Value}
 use Rattle.dt_table.specs.Table.{Table, MovesUnit}
-use Rattle.dt_eval.specs.Meaning.{IsFirstBadKey}
 use Rattle.dt_eval.specs.Calls.{call_meaning}
 use Rattle.dt_eval.specs.declared.Finish.{Finish}
 use Rattle.dt_eval.specs.declared.finish.Finish.TheVariants as finish
@@ -37,9 +34,3 @@ result_moves procs version regions id (Move key target) reads None fits = fits.0
 pub moves_unit : (procs : List ProcTree) (version regions : ℕ) (txn : Txn) (t : Table) → IsValid procs version regions txn → MovesUnit version (one procs txn t).1.moved
 moves_unit procs version regions txn t valid =
     result_moves procs version regions txn.id txn.body (reads_of txn.access (see txn t)) (stale_of txn.access (see txn t)) valid.body
-
--- where all are keys, none is the first that is no key
-pub no_bad : (names : List Bytes) (i : ℕ) → AllIn IsKey names → IsFirstBadKey names i → ⊥
-no_bad [] i all bad = bad
-no_bad (name ∷ names) zero all bad = bad all.0
-no_bad (name ∷ names) (suc i) all bad = no_bad names i all.1 bad.1

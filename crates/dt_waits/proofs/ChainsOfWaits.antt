@@ -11,9 +11,9 @@ use Rattle.dt_access.specs.Clash.{Bytes, uses_clash, clash}
 use Rattle.dt_access.specs.declared.access.Mode.{Mode}
 use Rattle.dt_access.specs.declared.TxnId.{TxnId}
 use Rattle.dt_access.specs.declared.Part.{Part}
-use Rattle.dt_access.proofs.Callers.{either_id}
+use Rattle.dt_access.proofs.Callers.{clash_of_uses, either_id, uses_of_clash}
 use Rattle.dt_sched.specs.Views.{View, log_at, ids_of, AreClashing, Edge, Reaches, IsWellFormed}
-use Rattle.dt_sched.proofs.Callers.{clash_of_uses, uses_of_clash, edge_at_home, home_of_edge}
+use Rattle.dt_sched.proofs.Callers.{edge_at_home, home_of_edge}
 use Rattle.dt_waits.specs.LeftInGraph.{IsLeft, LeftEdge, IsFree}
 use Rattle.dt_queue.specs.Queues.{Waiting, entries_clash, neighbours}
 use Rattle.dt_waits.specs.Waits.{id_at, IsUseOf, WaitsWith, FollowsLog, AreUses, HoldsUp}

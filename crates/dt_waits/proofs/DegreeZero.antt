@@ -3,6 +3,7 @@ use Rattle.std.proofs.Common.{◌≡◌, ◌≢◌, ◌+◌, ◌<◌, ◌⊎◌,
 use Rattle.std.proofs.Common.{length, refl, sym, ap, subst, inl, inr, eqb-true, arith}
 use Rattle.std.specs.List.{sum_by}
 use Rattle.std.proofs.lemmas.Bool.{cases_Bool}
+use Rattle.std.proofs.lemmas.List.Sums.{sum_by-cons}
 use Rattle.dt_lists.specs.Lists.{AnyIn, AllIn, Has, Distinct}
 use Rattle.dt_lists.proofs.Callers.{all_get, all_put, any_get, any_put, has_filter, has_of_filtered, none_in_empty}
 use Rattle.dt_access.specs.declared.TxnId.{TxnId}
@@ -11,7 +12,6 @@ use Rattle.dt_queue.specs.Queues.{Waiting, neighbours}
 use Rattle.dt_waits.specs.LeftInGraph.{IsFree}
 use Rattle.dt_waits.specs.Waits.{id_at, AreUses, HoldsUp, others, degree}
 use Rattle.dt_waits.proofs.NeighbourChains.{neighbour_waits, slot_other, slot_same}
-use Rattle.dt_waits.proofs.Sums.{sum_first}
 use Rattle.dt_waits.proofs.ChainsOfWaits.{free_by_queues}
 
 -- in a list in which nothing stands twice, a place is known by what is there
@@ -45,7 +45,7 @@ place_has (y ∷ ys) t (inr h) = let r : (v : ℕ) × (v < length ys) × (id_at 
 -- a sum is zero just where each term is
 sum_zero : {A : Type 0} (f : A → ℕ) (xs : List A) → sum_by f xs ≡ 0 → AllIn (λ x. f x ≡ 0) xs
 sum_zero f [] e = tt
-sum_zero f (x ∷ xs) e = (left (f x) (sum_by f xs) (sym (sum_first f x xs) ∙ e), sum_zero f xs (right (f x) (sum_by f xs) (sym (sum_first f x xs) ∙ e)))
+sum_zero f (x ∷ xs) e = (left (f x) (sum_by f xs) (sym (sum_by-cons f x xs) ∙ e), sum_zero f xs (right (f x) (sum_by f xs) (sym (sum_by-cons f x xs) ∙ e)))
   where
     left : (a b : ℕ) → a + b ≡ 0 → a ≡ 0
     left a b e = omega (arith, e)
@@ -55,7 +55,7 @@ sum_zero f (x ∷ xs) e = (left (f x) (sum_by f xs) (sym (sum_first f x xs) ∙ 
 
 pub zero_sum : {A : Type 0} (f : A → ℕ) (xs : List A) → AllIn (λ x. f x ≡ 0) xs → sum_by f xs ≡ 0
 zero_sum f [] a = refl
-zero_sum f (x ∷ xs) a = sum_first f x xs ∙ both (f x) (sum_by f xs) a.0 (zero_sum f xs a.1)
+zero_sum f (x ∷ xs) a = sum_by-cons f x xs ∙ both (f x) (sum_by f xs) a.0 (zero_sum f xs a.1)
   where
     both : (a b : ℕ) → a ≡ 0 → b ≡ 0 → a + b ≡ 0
     both a b e f = omega (arith, e, f)

@@ -9,12 +9,12 @@ use Rattle.std.proofs.lemmas.List.Sums.{sum_by-append}
 use Rattle.std.proofs.lemmas.List.Elements.{filter-append}
 use Rattle.dt_lists.specs.Lists.{AllIn, Has}
 use Rattle.dt_lists.specs.Lists.{Distinct}
-use Rattle.dt_lists.proofs.Callers.{all_get, all_put, any_get, any_of_test, each_across, each_append_left, filter_none, has_of_filtered, Spot, spot, sum_mapped}
+use Rattle.dt_lists.proofs.Callers.{all_get, all_put, any_get, any_of_test, each_across, each_append_left, filter_none, has_of_filtered, Spot, spot, sum_mapped, sum_same}
 use Rattle.dt_queue.specs.Queues.{Waiting, HasDistinctSlots, is_at, nearest, neighbours, is_neighbour, followers}
 use Rattle.dt_waits.specs.Waits.{others, degree, is_leaving, is_of, lowered, lowered_by, slots_of}
 use Rattle.dt_waits.proofs.NeighbourChains.{is_near, nearest_clash, neighbours_split, slot_same, slot_other}
 use Rattle.dt_waits.proofs.NeighboursOfTheRest.{KeepsLater, neighbours_kept, neighbours_pushed}
-use Rattle.dt_waits.proofs.Sums.{chosen_turned, filter_both, filter_same, length_split, sum_chosen, sum_grouped, sum_kept, sum_of_ones, sum_of_sums, sum_same, sum_swapped}
+use Rattle.dt_waits.proofs.Sums.{chosen_turned, filter_both, filter_same, length_split, sum_chosen, sum_grouped, sum_kept, sum_of_ones, sum_of_sums, sum_swapped}
 
 -- the entries that pass the test, among the neighbours of the entries of a vertex: how many there are
 abbrev pub count_neighbours : (Waiting → Bool) → List Waiting → ℕ → ℕ

@@ -3,7 +3,7 @@
 use Rattle.std.proofs.Common.{◌≡◌, ◌+◌, ◌<◌, ◌⊎◌, ◌↔◌, ◌∙◌, ℕ, Bool, true, false, ◌==◌, ◌&&◌, not, List, []}
 use Rattle.std.proofs.Common.{◌∷◌, ◌++◌, length, map, filter, refl, sym, ap, subst, inl, inr, eq-eqb, eqb-true}
 use Rattle.std.specs.List.{sum_by}
-use Rattle.std.proofs.lemmas.Bool.{cases_Bool, false_from_ne_true}
+use Rattle.std.proofs.lemmas.Bool.{cases_Bool, false_from_ne_true, not-true, not_from_false}
 use Rattle.std.proofs.lemmas.List.{append_assoc}
 use Rattle.dt_lists.specs.Lists.{AnyIn, AllIn, Has, EachThen, Distinct}
 use Rattle.dt_lists.proofs.Callers.{all_get, all_put, any_get, any_map, any_of_test, any_put, any_of_image, either_any, either_nat, either_not, has_map, has_middle, has_of_filtered, test_of_any, chain_step, Spot, spot}
@@ -89,17 +89,10 @@ module _ (view : View) (done later ids : List TxnId) (waiting : List Waiting) (l
   in_ids : (w : Waiting) → Has waiting w → w.vertex < length ids
   in_ids w h = all_get _ waiting uses.vertices w h
 
-  not_true : (b : Bool) → b ≡ false → not b ≡ true
-  not_true b e = rw e refl
-
-  true_not : (b : Bool) → not b ≡ true → b ≡ false
-  true_not true e = cc
-  true_not false e = refl
-
   stays_left : (w : Waiting) → Has waiting w → (stays w ≡ true) ↔ IsLeft view later (id_at ids w.vertex)
   stays_left w h = (
-    λ e. (left_vertex w.vertex (in_ids w h)).1 (all_get _ waiting uses.of_left w h, true_not _ e),
-    λ l. not_true _ ((left_vertex w.vertex (in_ids w h)).0 l).1,
+    λ e. (left_vertex w.vertex (in_ids w h)).1 (all_get _ waiting uses.of_left w h, not-true _ e),
+    λ l. not_from_false _ ((left_vertex w.vertex (in_ids w h)).0 l).1,
   )
 
   pub uses_together : AreUses view later ids (filter stays waiting)
@@ -111,7 +104,7 @@ module _ (view : View) (done later ids : List TxnId) (waiting : List Waiting) (l
     where
       by : (front between rest : List Waiting) (v w : Waiting) → waiting ≡ front ++ v ∷ (between ++ w ∷ rest) → entries_clash v w ≡ true → stays v ≡ true
           → (is_leaving leaving w.vertex ≡ true) ⊎ (is_leaving leaving w.vertex ≡ false) → stays w ≡ true
-      by front between rest v w is c kept (inr e) = not_true _ e
+      by front between rest v w is c kept (inr e) = not_from_false _ e
       by front between rest v w is c kept (inl e) = absurd (still.1 (out_before view later (id_at ids v.vertex) (id_at ids w.vertex) (chain_step edge) out))
         where
           has_v : Has waiting v
@@ -138,7 +131,7 @@ module _ (view : View) (done later ids : List TxnId) (waiting : List Waiting) (l
   slots_together v e = ap (map (λ w. w.slot)) (filter_both (is_of v) stays waiting ∙ filter_same _ (is_of v) waiting (λ w h. by w (cases_Bool (w.vertex == v))))
     where
       by : (w : Waiting) → ((w.vertex == v) ≡ true) ⊎ ((w.vertex == v) ≡ false) → ((w.vertex == v) && not (is_leaving leaving w.vertex)) ≡ (w.vertex == v)
-      by w (inl s) = rw s (not_true _ (ap (is_leaving leaving) (eqb-true w.vertex v s) ∙ e))
+      by w (inl s) = rw s (not_from_false _ (ap (is_leaving leaving) (eqb-true w.vertex v s) ∙ e))
       by w (inr s) = rw s refl
 
   -- what is free now is of degree 0 among what stays

@@ -1,30 +1,18 @@
--- Sums over lists of entries: of equal terms, of a part of the list, and of terms that count.
+-- Sums over lists of entries: of a part of the list, and of terms that count.
 use Rattle.std.proofs.Common.{◌≡◌, ◌+◌, ◌⊎◌, ◌∙◌, ℕ, suc, Bool, true, false, ◌&&◌, ◌||◌, ◌==◌, not, if◌then◌else◌, List, [], ◌∷◌}
 use Rattle.std.proofs.Common.{length, filter, refl, sym, ap, ap₂, inl, inr, eqb-true, eq-eqb, arith}
 use Rattle.std.specs.List.{list_any, sum_by}
 use Rattle.std.proofs.lemmas.Bool.{cases_Bool, false_from_ne_true}
-use Rattle.std.proofs.lemmas.List.Sums.{sum_by-append}
+use Rattle.std.proofs.lemmas.List.Sums.{sum_by-cons}
 use Rattle.dt_lists.specs.Lists.{Has, Distinct}
 use Rattle.dt_lists.proofs.Callers.{all_get, any_get, any_of_test}
-
--- the first term, and the rest
-pub sum_first : {A : Type 0} (f : A → ℕ) (x : A) (xs : List A) → sum_by f (x ∷ xs) ≡ f x + sum_by f xs
-sum_first f x xs = sum_by-append f (x ∷ []) xs ∙ first (f x) (sum_by f xs)
-  where
-    first : (a b : ℕ) → (0 + a) + b ≡ a + b
-    first a b = omega arith
-
--- terms that are equal
-pub sum_same : {A : Type 0} (f g : A → ℕ) (xs : List A) → ((x : A) → Has xs x → f x ≡ g x) → sum_by f xs ≡ sum_by g xs
-sum_same f g [] e = refl
-sum_same f g (x ∷ xs) e = sum_first f x xs ∙ ap₂ ◌+◌ (e x (inl refl)) (sum_same f g xs (λ y h. e y (inr h))) ∙ sym (sum_first g x xs)
 
 -- terms that are sums
 pub sum_of_sums : {A : Type 0} (f g h : A → ℕ) (xs : List A) → ((x : A) → Has xs x → f x ≡ g x + h x) → sum_by f xs ≡ sum_by g xs + sum_by h xs
 sum_of_sums f g h [] e = omega arith
 sum_of_sums f g h (x ∷ xs) e =
-    sum_first f x xs ∙ joined (f x) (g x) (h x) (sum_by f xs) (sum_by g xs) (sum_by h xs) (e x (inl refl)) (sum_of_sums f g h xs (λ y k. e y (inr k)))
-    ∙ sym (ap₂ ◌+◌ (sum_first g x xs) (sum_first h x xs))
+    sum_by-cons f x xs ∙ joined (f x) (g x) (h x) (sum_by f xs) (sum_by g xs) (sum_by h xs) (e x (inl refl)) (sum_of_sums f g h xs (λ y k. e y (inr k)))
+    ∙ sym (ap₂ ◌+◌ (sum_by-cons g x xs) (sum_by-cons h x xs))
   where
     joined : (a b c s t u : ℕ) → a ≡ b + c → s ≡ t + u → a + s ≡ (b + t) + (c + u)
     joined a b c s t u p q = omega (arith, p, q)
@@ -35,8 +23,8 @@ sum_kept f keep [] none = refl
 sum_kept f keep (x ∷ xs) none = by (sum_kept f keep xs (λ y h. none y (inr h))) (cases_Bool (keep x))
   where
     by : sum_by f (filter keep xs) ≡ sum_by f xs → (keep x ≡ true) ⊎ (keep x ≡ false) → sum_by f (filter keep (x ∷ xs)) ≡ sum_by f (x ∷ xs)
-    by rest (inl kept) = rw kept (sum_first f x (filter keep xs) ∙ ap (λ n. f x + n) rest ∙ sym (sum_first f x xs))
-    by rest (inr gone) = rw gone (rest ∙ zero_first (f x) (sum_by f xs) (none x (inl refl) gone) ∙ sym (sum_first f x xs))
+    by rest (inl kept) = rw kept (sum_by-cons f x (filter keep xs) ∙ ap (λ n. f x + n) rest ∙ sym (sum_by-cons f x xs))
+    by rest (inr gone) = rw gone (rest ∙ zero_first (f x) (sum_by f xs) (none x (inl refl) gone) ∙ sym (sum_by-cons f x xs))
       where
         zero_first : (m n : ℕ) → m ≡ 0 → n ≡ m + n
         zero_first m n e = omega (arith, e)
@@ -54,10 +42,10 @@ sum_of_ones a b (x ∷ xs) = by (sum_of_ones a b xs) (cases_Bool (b x)) (cases_B
 
     by : sum_by (λ x. if a x then (if b x then 1 else 0) else 0) xs ≡ length (filter a (filter b xs)) → (b x ≡ true) ⊎ (b x ≡ false) → (a x ≡ true) ⊎ (a x ≡ false)
         → sum_by (λ x. if a x then (if b x then 1 else 0) else 0) (x ∷ xs) ≡ length (filter a (filter b (x ∷ xs)))
-    by rest (inl p) (inl q) = sum_first _ x xs ∙ rw (q, p, q) (one_more _ _ rest)
-    by rest (inl p) (inr q) = sum_first _ x xs ∙ rw (q, p, q) (none_more _ _ rest)
-    by rest (inr p) (inl q) = sum_first _ x xs ∙ rw (q, p) (none_more _ _ rest)
-    by rest (inr p) (inr q) = sum_first _ x xs ∙ rw (q, p) (none_more _ _ rest)
+    by rest (inl p) (inl q) = sum_by-cons _ x xs ∙ rw (q, p, q) (one_more _ _ rest)
+    by rest (inl p) (inr q) = sum_by-cons _ x xs ∙ rw (q, p, q) (none_more _ _ rest)
+    by rest (inr p) (inl q) = sum_by-cons _ x xs ∙ rw (q, p) (none_more _ _ rest)
+    by rest (inr p) (inr q) = sum_by-cons _ x xs ∙ rw (q, p) (none_more _ _ rest)
 
 -- filters twice
 pub filter_both : {A : Type 0} (p q : A → Bool) (xs : List A) → filter p (filter q xs) ≡ filter (λ x. p x && q x) xs
@@ -97,19 +85,19 @@ chosen_turned false false n = refl
 pub sum_swapped : {A B : Type 0} (f : A → B → ℕ) (xs : List A) (ys : List B) → sum_by (λ x. sum_by (f x) ys) xs ≡ sum_by (λ y. sum_by (λ x. f x y) xs) ys
 sum_swapped f [] ys = sym (sum_chosen false (λ y. 0) ys)
 sum_swapped f (x ∷ xs) ys =
-    sum_first (λ x. sum_by (f x) ys) x xs ∙ ap (λ n. sum_by (f x) ys + n) (sum_swapped f xs ys)
-    ∙ sym (sum_of_sums (λ y. sum_by (λ x. f x y) (x ∷ xs)) (f x) (λ y. sum_by (λ x. f x y) xs) ys (λ y h. sum_first (λ x. f x y) x xs))
+    sum_by-cons (λ x. sum_by (f x) ys) x xs ∙ ap (λ n. sum_by (f x) ys + n) (sum_swapped f xs ys)
+    ∙ sym (sum_of_sums (λ y. sum_by (λ x. f x y) (x ∷ xs)) (f x) (λ y. sum_by (λ x. f x y) xs) ys (λ y h. sum_by-cons (λ x. f x y) x xs))
 
 -- a sum over those that pass
 pub sum_of_passing : {A : Type 0} (p : A → Bool) (g : A → ℕ) (xs : List A) → sum_by (λ x. if p x then g x else 0) xs ≡ sum_by g (filter p xs)
 sum_of_passing p g [] = refl
-sum_of_passing p g (x ∷ xs) = sum_first _ x xs ∙ by (sum_of_passing p g xs) (cases_Bool (p x))
+sum_of_passing p g (x ∷ xs) = sum_by-cons _ x xs ∙ by (sum_of_passing p g xs) (cases_Bool (p x))
   where
     none_more : (n m : ℕ) → n ≡ m → 0 + n ≡ m
     none_more n m e = omega (arith, e)
 
     by : sum_by (λ x. if p x then g x else 0) xs ≡ sum_by g (filter p xs) → (p x ≡ true) ⊎ (p x ≡ false) → (if p x then g x else 0) + sum_by (λ x. if p x then g x else 0) xs ≡ sum_by g (filter p (x ∷ xs))
-    by rest (inl e) = rw e (ap (λ n. g x + n) rest ∙ sym (sum_first g x (filter p xs)))
+    by rest (inl e) = rw e (ap (λ n. g x + n) rest ∙ sym (sum_by-cons g x (filter p xs)))
     by rest (inr e) = rw e (none_more _ _ rest)
 
 -- a sum over those whose key is one of these, key by key
@@ -119,7 +107,7 @@ sum_grouped key g xs [] once = sum_chosen false (λ x. 0) xs
 sum_grouped key g xs (k ∷ keys) once =
     sum_of_sums _ (λ x. if key x == k then g x else 0) (λ x. if list_any (λ k. k == key x) keys then g x else 0) xs (λ x h. one_of x (cases_Bool (key x == k)) (cases_Bool (list_any (λ k. k == key x) keys)))
     ∙ ap₂ ◌+◌ (sum_of_passing (λ x. key x == k) g xs) (sum_grouped key g xs keys once.1)
-    ∙ sym (sum_first (λ k. sum_by g (filter (λ x. key x == k) xs)) k keys)
+    ∙ sym (sum_by-cons (λ k. sum_by g (filter (λ x. key x == k) xs)) k keys)
   where
     turned : (a b : ℕ) (c : Bool) → (a == b) ≡ c → (b == a) ≡ c
     turned a b true e = eq-eqb b a (sym (eqb-true a b e))

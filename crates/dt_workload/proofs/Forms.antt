@@ -2,6 +2,7 @@
 use Rattle.std.proofs.Common.{◌≡◌, ◌≢◌, ℕ, zero, suc, ◌<◌, ◌≤◌, ◌^◌, Bool, true, false, not, nat_eq, List, [], ◌∷◌, length, map, take, drop, get_or, Option, Some}
 use Rattle.std.proofs.Common.{None, MatchOption, inl, inr, ◌++◌, refl, ap, sym, ◌∙◌, subst, arith}
 use Rattle.std.proofs.lemmas.Bool.{false≢true, not-false, not-true}
+use Rattle.std.proofs.Math.Seq.{drop-append_seam, take-append_seam}
 use Rattle.std.specs.Cmp.Lexicographic.{pointwise, bytes_decides}
 use Rattle.std.specs.Fmt.{decimal}
 use Rattle.std.proofs.lemmas.Fmt.{decimal_injective}
@@ -167,14 +168,6 @@ no_digit kind word digits other cut none rank low (inr h) = none rank low (same_
 
 -- ---- the front of a word
 
-front_taken : (front rest : Bytes) → take (length front) (front ++ rest) ≡ front
-front_taken [] rest = refl
-front_taken (b ∷ front) rest = ap (λ bs. b ∷ bs) (front_taken front rest)
-
-front_dropped : (front rest : Bytes) → drop (length front) (front ++ rest) ≡ rest
-front_dropped [] rest = refl
-front_dropped (b ∷ front) rest = front_dropped front rest
-
 front_cut : (front word : Bytes) → take (length front) word ≡ front → word ≡ front ++ drop (length front) word
 front_cut [] word e = refl
 front_cut (b ∷ front) [] e = cc
@@ -187,12 +180,12 @@ one_slash (b ∷ left) rest e after = λ i. same_head e i ∷ sym after i
 -- a word that does not begin with the kind
 pub begins_not : (word kind : Bytes) → pointwise nat_eq (take (length kind) word) kind ≡ false → (rest : Bytes) → word ≢ kind ++ 47 ∷ rest
 begins_not word kind other rest is =
-    false≢true (sym other ∙ (bytes_decides (take (length kind) word) kind).1 (ap (take (length kind)) is ∙ front_taken kind (47 ∷ rest)))
+    false≢true (sym other ∙ (bytes_decides (take (length kind) word) kind).1 (ap (take (length kind)) is ∙ take-append_seam kind (47 ∷ rest)))
 
 -- a word that goes on after the kind with another byte than a slash, or ends
 pub no_slash : (word kind left : Bytes) → left ≡ drop (length kind) word → pointwise nat_eq (take 1 left) (47 ∷ []) ≡ false → (rest : Bytes) → word ≢ kind ++ 47 ∷ rest
 no_slash word kind left cut other rest is =
-    false≢true (sym other ∙ (bytes_decides (take 1 left) (47 ∷ [])).1 (ap (take 1) (cut ∙ ap (drop (length kind)) is ∙ front_dropped kind (47 ∷ rest))))
+    false≢true (sym other ∙ (bytes_decides (take 1 left) (47 ∷ [])).1 (ap (take 1) (cut ∙ ap (drop (length kind)) is ∙ drop-append_seam kind (47 ∷ rest))))
 
 -- a word that begins with the kind and a slash
 pub slash_cut : (word kind left rest : Bytes) → pointwise nat_eq (take (length kind) word) kind ≡ true → left ≡ drop (length kind) word

@@ -1,5 +1,5 @@
 -- What one line more makes of sessions.
-use Rattle.std.proofs.Common.{◌≡◌, ℕ, zero, suc, ◌+◌, ◌<◌, ◌≤◌, ◌==◌, Bool, true, false, cond, nat_eq, List, [], ◌∷◌, ◌++◌, map, length, slice_get, Some, refl}
+use Rattle.std.proofs.Common.{◌≡◌, ℕ, ◌+◌, ◌<◌, ◌≤◌, ◌==◌, Bool, true, false, cond, nat_eq, List, [], ◌∷◌, ◌++◌, map, length, slice_get, Some, refl}
 use Rattle.std.proofs.Common.{eqb-true}
 use Rattle.std.proofs.Common.{ap, sym, ◌∙◌, subst, arith, append_assoc, append-nil}
 use Rattle.std.specs.Option.{option_and_then}
@@ -10,11 +10,9 @@ use Rattle.std.proofs.lemmas.List.Quantifiers.{position-Some}
 use Rattle.std.proofs.lemmas.Option.{get_or_from_slice_get}
 use Rattle.dt_lists.specs.Lists.{AllIn, Has, Pairwise}
 use Rattle.dt_lists.proofs.Callers.{all_append, all_append_left, all_append_right, all_get, distinct_push, has_place, pairwise_more}
-use Rattle.dt_text.specs.Texts.{IsKey}
 use Rattle.dt_text.specs.Lines.{FileLine}
 use Rattle.dt_proc.specs.Tree.{ProcTree}
 use Rattle.dt_proc.specs.Names.{place_of_name}
-use Rattle.dt_eval.specs.Keys.{IsFirstBadKey}
 use Rattle.dt_cluster.specs.declared.Cluster.{Cluster}
 use Rattle.dt_text.specs.Texts.{Bytes}
 use Rattle.dt_workload.specs.Lines.{Form, session_line, call_line, move_line, HasForm}
@@ -25,12 +23,6 @@ use Rattle.dt_workload.specs.declared.workload.Ranked.{Ranked}
 use Rattle.dt_workload.specs.declared.workload.Wanted.TheVariants.{Call, Move}
 use Rattle.dt_workload.specs.declared.workload.Session.{Session}
 use Rattle.dt_workload.specs.declared.workload.Workload.{Workload}
-
--- texts of which one is no key are no keys
-pub bad_first : (names : List Bytes) (i : ℕ) → IsFirstBadKey names i → AllIn IsKey names → ⊥
-bad_first [] i bad keys = bad
-bad_first (name ∷ names) zero bad keys = bad keys.0
-bad_first (name ∷ names) (suc i) bad keys = bad_first names i bad.1 keys.1
 
 pub all_at : {A : Type 0} (P : A → Type 0) (xs : List A) (i : ℕ) (x : A) → AllIn P xs → slice_get xs i ≡ Some x → P x
 all_at P xs i x all is = all_get P xs all x (has_place xs i x is)

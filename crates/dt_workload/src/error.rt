@@ -27,6 +27,23 @@ pub enum WorkloadCause {
     Key,
 }
 
+impl fmt::Display for WorkloadCause {
+    fn fmt<W: fmt::Write>(&self, f: &mut fmt::Formatter<W>) -> fmt::Result {
+        match self {
+            WorkloadCause::TooLong => write!(f, "too long"),
+            WorkloadCause::Form => write!(f, "no line of a workload"),
+            WorkloadCause::Name => write!(f, "no name"),
+            WorkloadCause::Twice => write!(f, "name used twice"),
+            WorkloadCause::Region => write!(f, "no region"),
+            WorkloadCause::TooMany => write!(f, "too many"),
+            WorkloadCause::NoSession => write!(f, "no session"),
+            WorkloadCause::Proc => write!(f, "unknown procedure"),
+            WorkloadCause::Args => write!(f, "wrong arguments"),
+            WorkloadCause::Key => write!(f, "no key"),
+        }
+    }
+}
+
 /// Why a file is no workload.
 #[derive(Clone, Copy, Debug, PartialEq, Eq)]
 pub enum WorkloadError {
@@ -39,7 +56,7 @@ pub enum WorkloadError {
 impl fmt::Display for WorkloadError {
     fn fmt<W: fmt::Write>(&self, f: &mut fmt::Formatter<W>) -> fmt::Result {
         match self {
-            WorkloadError::Fault(line, cause) => write!(f, "line {line}: {cause:?}"),
+            WorkloadError::Fault(line, cause) => write!(f, "line {line}: {cause}"),
             WorkloadError::NoMemory => write!(f, "no memory"),
         }
     }

@@ -1,4 +1,3 @@
 -- What the proofs of crates above may cite of this crate, and nothing else of its proofs: that the tables which a report of events
--- shows are those of the sites of all regions after these events, and that a front is no longer than the whole.
+-- shows are those of the sites of all regions after these events.
 pub use Rattle.dt_world.proofs.Reports.{tables_are}
-pub use Rattle.dt_lists.proofs.Callers.{front_length}

@@ -15,4 +15,5 @@ pub mod Reports
 pub mod TextByLines
 pub mod NothingLeftOut
 pub mod ReportLookups
+pub mod CountedIds
 pub mod Callers

@@ -2,6 +2,7 @@
 use Rattle.std.proofs.Common.{eq-eqb, ◌≡◌, ◌≢◌, ◌<◌, ◌≤◌, ◌+◌, ◌⊎◌, ℕ, zero, suc, Bool, true, false, cond, ltb, List, [], ◌∷◌, ◌++◌, length, map, get_or, set, take}
 use Rattle.std.proofs.Common.{Some, None, refl, sym, ap, ap₂, subst, ◌∙◌, inl, inr, arith}
 use Rattle.std.specs.Prelude.{Option, option_map}
+use Rattle.std.specs.Cmp.Lexicographic.{bytes_decides}
 use Rattle.std.specs.List.{position, position_or_len}
 use Rattle.std.proofs.lemmas.Bool.{cases_Bool, false_from_ne_true}
 use Rattle.std.proofs.lemmas.Bool.Decides.{nat_tests}
@@ -15,7 +16,7 @@ use Rattle.dt_lists.proofs.Callers.{any_get, any_of_test, each_at, get_front, fr
 use Rattle.dt_access.specs.Clash.{Bytes, same_key}
 use Rattle.dt_workload.specs.declared.Session.{Session}
 use Rattle.dt_session.specs.World.{Place, is_session, session_at, with_place}
-use Rattle.dt_agreement.proofs.Callers.{key_of_test, test_of_key, session_of_test}
+use Rattle.dt_agreement.proofs.Callers.{key_of_test, session_of_test}
 
 -- the first place at which a test passes, by recursion
 
@@ -134,7 +135,7 @@ not_session : (region : ℕ) (name : Bytes) (s : Session) → (s.name ≡ name �
 not_session region name s n = false_from_ne_true (is_session region name s) (λ e. let r : (s.name ≡ name) × (s.region ≡ region) = session_of_test region name s e in n r.0 r.1)
 
 is_session_there : (region : ℕ) (name : Bytes) (s : Session) → s.name ≡ name → s.region ≡ region → is_session region name s ≡ true
-is_session_there region name s n r = rw (test_of_key s.name name n) (eq-eqb s.region region r)
+is_session_there region name s n r = rw ((bytes_decides s.name name).1 n) (eq-eqb s.region region r)
 
 module _ (region : ℕ) (name : Bytes) (sessions : List Session) (once : Distinct (map (λ s. s.name) sessions)) where
   name_at : (k : ℕ) (d : Session) → get_or (map (λ s. s.name) sessions) k d.name ≡ (get_or sessions k d).name
@@ -189,7 +190,7 @@ module _ (region : ℕ) (name : Bytes) (sessions : List Session) (once : Distinc
       absent k e lt same =
           let no : same_key name (get_or (map (λ s. s.name) sessions) k e.name) ≡ false =
           fails (same_key name) (map (λ s. s.name) sessions) (sym (position_is (same_key name) (map (λ s. s.name) sessions)) ∙ none) k e.name (subst (λ m. k < m) (sym (length-map sessions (λ s. s.name))) lt) in
-          let yes : same_key name (get_or (map (λ s. s.name) sessions) k e.name) ≡ true = test_of_key name (get_or (map (λ s. s.name) sessions) k e.name) (sym (name_at k e ∙ same)) in
+          let yes : same_key name (get_or (map (λ s. s.name) sessions) k e.name) ≡ true = (bytes_decides name (get_or (map (λ s. s.name) sessions) k e.name)).1 (sym (name_at k e ∙ same)) in
           absurd (cc)
 
 -- a new name is not among the names before it

@@ -1,7 +1,8 @@
 -- What follows of a lawful world for the calls on it: its numbers are small, its regions are there, and what its regions keep of
 -- a session is what the rules ask.
-use Rattle.std.proofs.Common.{◌≡◌, ◌<◌, ◌≤◌, ◌+◌, ◌-◌, ℕ, zero, suc, List, [], ◌∷◌, length, get_or, slice_get, Some, None, refl, sym, ap, subst, ◌∙◌, arith}
+use Rattle.std.proofs.Common.{◌≡◌, ◌<◌, ◌≤◌, ◌+◌, ◌-◌, ℕ, List, length, get_or, slice_get, Some, None, refl, sym, ap, subst, ◌∙◌, arith}
 use Rattle.std.specs.Prelude.{Option, IsSome, option_and_then, option_map}
+use Rattle.std.proofs.lemmas.List.{get_or_read}
 use Rattle.std.proofs.lemmas.Option.{same_Some}
 use Rattle.dt_lists.specs.Lists.{Has}
 use Rattle.dt_lists.proofs.Callers.{all_get, at_place, has_place}
@@ -23,7 +24,7 @@ use Rattle.dt_agreement.proofs.Callers.{body_fits, session_found}
 use Rattle.dt_agreement.proofs.Callers as agreed
 use Rattle.dt_agreement.specs.Invariant.{IsPlaceOf}
 use Rattle.dt_site.specs.declared.Origin.{Origin}
-use Rattle.dt_site.specs.SessionsStandIn.{seat_in}
+use Rattle.dt_site.specs.SessionsStandIn.{no_sessions, seat_in}
 use Rattle.dt_site.specs.Site.{SiteView}
 use Rattle.dt_site.proofs.Callers.{fits_region, inv, kept_here, last_in, may_answer, may_be_answered, may_go, may_submit, numbers_are, order, outcome_here}
 use Rattle.dt_world.specs.WorldInner.{IsLawful, IsNextOf, IsNextTry, MayBeTold, sessions_of, site_at, view_in, world_of}
@@ -32,9 +33,7 @@ use Rattle.dt_world.specs.WorldView.{WorldView}
 
 -- sessions that were taken out of the list are those at that place
 pub sessions_at_place : (all : List SessionsView) (region : ℕ) (s : SessionsView) → region < length all → s ≡ get_or all region s → s ≡ sessions_of all region
-sessions_at_place [] region s lt e = absurd (omega arith)
-sessions_at_place (x ∷ all) zero s lt e = e
-sessions_at_place (x ∷ all) (suc region) s lt e = sessions_at_place all region s (omega arith) e
+sessions_at_place all region s lt e = get_or_read all region s lt e no_sessions
 
 module _ {cluster : Cluster} {sessions : WorldSessions} {sites : List SiteView} {steps : ℕ} (k : IsLawful cluster sessions sites steps) {region : ℕ} (lr : region < cluster.regions) (name : Bytes) where
   abbrev w : World

@@ -1,7 +1,7 @@
 -- What the type of a world keeps: what follows of it, and how it stays so when one site steps.
-use Rattle.std.proofs.Common.{◌≡◌, ◌<◌, ◌≤◌, ◌+◌, ℕ, zero, suc, true, false, cond, List, [], ◌∷◌, ◌++◌, length, map, get_or}
+use Rattle.std.proofs.Common.{◌≡◌, ◌<◌, ◌≤◌, ◌+◌, ℕ, true, false, cond, List, [], ◌∷◌, ◌++◌, length, map, get_or}
 use Rattle.std.proofs.Common.{set, Result, Ok, Err, IsErrAnd, sym, ap, ap₂, subst, ◌∙◌, inl, inr, arith}
-use Rattle.std.proofs.lemmas.List.{length-map, length_push, map-set, get_or-set_same, get_or-set_other}
+use Rattle.std.proofs.lemmas.List.{length-map, length_push, map-set, get_or_read, get_or-set_same, get_or-set_other}
 use Rattle.std.proofs.Math.ListN.{get_or-map}
 use Rattle.dt_lists.specs.Lists.{Either, Has}
 use Rattle.dt_lists.proofs.Callers.{all_get, either_nat}
@@ -41,9 +41,7 @@ made_before {cluster} {sessions} {sites} {steps} {event} {later} {after} {now} v
 
 -- a site that was taken out of the list is the one at that place
 pub read_at : (sites : List SiteView) (region : ℕ) (p : SiteView) → region < length sites → p ≡ get_or sites region p → p ≡ site_at sites region
-read_at [] region p lt e = absurd (omega arith)
-read_at (x ∷ sites) zero p lt e = e
-read_at (x ∷ sites) (suc region) p lt e = read_at sites region p (omega arith) e
+read_at sites region p lt e = get_or_read sites region p lt e no_site
 
 module _ {cluster : Cluster} {sessions : WorldSessions} {sites : List SiteView} {steps : ℕ} (k : IsLawful cluster sessions sites steps) where
   pub many_sites : length sites ≡ cluster.regions

@@ -12,6 +12,8 @@ use Rattle.dt_events.specs.declared.Event.TheVariants.{Answer}
 use Rattle.dt_table.specs.Table.{shown}
 use Rattle.dt_table.specs.declared.Shown.{Shown}
 use Rattle.dt_txn.specs.declared.Outcome.{Outcome}
+use Rattle.dt_report.specs.Report.{report_text}
+use Rattle.dt_report.specs.Printable.{IsPrintable}
 use Rattle.dt_report.specs.declared.Report.{Report}
 use Rattle.dt_report.specs.declared.Reply.{Reply}
 use Rattle.dt_report.specs.declared.Ran.{Ran}
@@ -96,3 +98,12 @@ pub record IsReplyOf (regions : ℕ) (w : World) (reply : Reply) : Type 0 where
   pub session : submission.session ≡ reply.session
   pub call : submission.call ≡ reply.call
   pub outcome : IsOutcomeOf regions w id reply.outcome
+
+-- the text is that of the report of these events, of a cluster and its workload, and the report's parts are printable
+abbrev pub IsToldBy : List ℕ → List Event → Type 0
+IsToldBy text events =
+    (cluster : Cluster) × (workload : Workload) × (text ≡ report_text (report_of cluster workload events)) × IsPrintable (report_of cluster workload events)
+
+-- a text tells of one list of events, of whatever cluster and workload: two worlds whose reports have equal texts had equal events
+abbrev pub TextsTellOneRun : Type 0
+TextsTellOneRun = (text : List ℕ) (left right : List Event) → IsToldBy text left → IsToldBy text right → left ≡ right

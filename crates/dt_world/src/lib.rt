@@ -16,4 +16,4 @@ mod site_reports;
 mod world;
 
 pub use site_reports::{report_of_sites, text_of_sites};
-pub use world::{StepError, World, kept_are_own};
+pub use world::{StepError, World, kept_are_own, texts_tell_one_run};

@@ -4,13 +4,14 @@
 //! the order of first executions, and to follow what each session waits for, which sites do not keep.
 ghost use Rattle.std.specs.Prelude.{if◌then◌else◌, ◌≡◌, ◌+◌, ◌<◌, ◌++◌, ◌∷◌, [], ℕ, List, flat_map, length, map, option_to_list, position, take, Some, IfOk, OnOk};
 ghost use Rattle.std.specs.List.{list_any};
-ghost use Rattle.dt_lists.specs.Lists.{Distinct};
+ghost use Rattle.dt_lists.specs.Lists.{AllIn, Distinct};
 ghost use Rattle.dt_access.specs.Clash.{same_key};
 ghost use Rattle.dt_table.specs.Table.{shown};
 ghost use Rattle.dt_workload.specs.Valid.{session_names};
 ghost use Rattle.dt_session.specs.World.{is_session};
 ghost use Rattle.dt_session.specs.Run.{order_of};
 ghost use Rattle.dt_agreement.specs.Invariant.{IsExecutedAt};
+ghost use Rattle.dt_report.specs.Printable.{IsPrintable, IsPrintableRan, IsPrintableReply};
 ghost use Rattle.dt_report.specs.Report.{order_text, ran_line, reply_line, report_text};
 ghost use Rattle.dt_report.specs.ShownTables.{all_shown};
 ghost use Rattle.dt_world.specs.SessionReplayInner.{IsReply, ran_at, rans_at, replay_at, replies_at};
@@ -23,8 +24,9 @@ use dt_access::TxnId;
 use dt_cluster::Cluster;
 use dt_events::Event;
 use dt_report::{
-    EventList, Ran, Rans, Replies, Reply, Report, Tables, begin_order, begin_text, put_all_shown,
-    put_events, put_ran, put_reply,
+    EventList, Ran, Rans, Replies, Reply, Report, Tables, begin_order, begin_text,
+    events_are_written, put_all_shown, put_events, put_ran, put_reply, ran_is_printable,
+    reply_is_printable,
 };
 use dt_sched::Scheduler;
 use dt_site::Site;
@@ -96,7 +98,8 @@ pub fn text_of_sites<S: Scheduler + Drop>(
     events: &[Event],
 ) -> Result<Vec<u8>, NoMemory>
     requires { AreSitesAfter cluster workload events.now (map (λ site. site.now) sites.now) }
-    ensures { IfOk result (λ text. text.items ≡ report_text (report_of cluster workload events.now)) }
+    ensures text { IfOk result (λ text. text.items ≡ report_text (report_of cluster workload events.now)) }
+    ensures printable { IfOk result (λ text. IsPrintable (report_of cluster workload events.now)) }
 {
     let mut text = begin_text(alloc, events.len())?;
     put_replies_and_order(alloc, &mut text, &cluster, &workload, &*sites, &*events)?;
@@ -104,7 +107,8 @@ pub fn text_of_sites<S: Scheduler + Drop>(
     drop(workload);
     let tables = tables_lent(alloc, sites)?;
     put_all_shown(alloc, &mut text, tables.as_slice())?;
-    put_events(alloc, &mut text, events)?;
+    put_events(alloc, &mut text, &*events)?;
+    events_are_written(events);
     Ok(text)
 }
 
@@ -118,9 +122,11 @@ fn put_replies_and_order<'a, 'b, S: Scheduler + Drop>(
     events: &'a [Event],
 ) -> Result<(), NoMemory>
     requires { AreSitesAfter cluster.now workload.now events.now (map (λ site. site.now) sites.now) }
-    ensures { OnOk result (out.new.items ≡ (out.old.items
+    ensures text { OnOk result (out.new.items ≡ (out.old.items
         ++ flat_map reply_line (replies_of cluster.now workload.now events.now))
         ++ order_text (rans_of cluster.now workload.now events.now)) }
+    ensures replies { OnOk result (AllIn IsPrintableReply (replies_of cluster.now workload.now events.now)) }
+    ensures order { OnOk result (AllIn IsPrintableRan (rans_of cluster.now workload.now events.now)) }
 {
     let source = ReportSource {
         cluster,
@@ -129,7 +135,8 @@ fn put_replies_and_order<'a, 'b, S: Scheduler + Drop>(
         events,
     };
     source.put_replies(alloc, out)?;
-    source.put_order(alloc, out)
+    source.put_order(alloc, out)?;
+    Ok(())
 }
 
 /// The replies that the events give, and the executed attempts in the serial order.
@@ -188,7 +195,8 @@ impl<'a, 'b, S: Scheduler + Drop> ReportSource<'a, 'b, S> {
     /// Appends the section of the executed attempts, in the order of their first executions.
     fn put_order(&self, alloc: Global, out: &mut Vec<u8>) -> Result<(), NoMemory>
         requires { LedTo self.now }
-        ensures { OnOk result (out.new.items ≡ out.old.items ++ order_text (rans_of self.now.cluster self.now.workload self.now.events)) }
+        ensures text { OnOk result (out.new.items ≡ out.old.items ++ order_text (rans_of self.now.cluster self.now.workload self.now.events)) }
+        ensures printable { OnOk result (AllIn IsPrintableRan (rans_of self.now.cluster self.now.workload self.now.events)) }
     {
         begin_order(out)?;
         let mut seen = IndexSet::new(alloc);
@@ -204,7 +212,8 @@ impl<'a, 'b, S: Scheduler + Drop> ReportSource<'a, 'b, S> {
     ) -> Result<(), NoMemory>
         requires led { LedTo self.now }
         requires seen { seen.old.keys ≡ [] }
-        ensures { OnOk result (out.new.items ≡ out.old.items ++ flat_map ran_line (rans_of self.now.cluster self.now.workload self.now.events)) }
+        ensures text { OnOk result (out.new.items ≡ out.old.items ++ flat_map ran_line (rans_of self.now.cluster self.now.workload self.now.events)) }
+        ensures printable { OnOk result (AllIn IsPrintableRan (rans_of self.now.cluster self.now.workload self.now.events)) }
     {
         for at in 0..self.events.len() {
             if let Some(ran) = self.note(alloc, seen, self.events, at)? {
@@ -228,6 +237,7 @@ impl<'a, 'b, S: Scheduler + Drop> ReportSource<'a, 'b, S> {
         requires seen { seen.old.keys ≡ order_of (take at self.now.events) }
         ensures seen { OnOk result (seen.new.keys ≡ order_of (take (at + 1) self.now.events)) }
         ensures ran { IfOk result (λ ran. rans_at self.now (at + 1) ≡ rans_at self.now at ++ option_to_list ran) }
+        ensures printable { IfOk result (λ ran. AllIn IsPrintableRan (rans_at self.now at) → AllIn IsPrintableRan (rans_at self.now (at + 1))) }
     {
         let Event::Execute { region, id } = &events[at] else {
             return Ok(None);
@@ -235,7 +245,9 @@ impl<'a, 'b, S: Scheduler + Drop> ReportSource<'a, 'b, S> {
         if !seen.insert(*id)? {
             return Ok(None);
         }
-        Ok(Some(self.ran(alloc, *region, *id)?))
+        let ran = self.ran(alloc, *region, *id)?;
+        ran_is_printable(&ran);
+        Ok(Some(ran))
     }
 
     /// An attempt that a region has executed, with its outcome.
@@ -298,7 +310,8 @@ impl<'a, 'b, S: Scheduler + Drop> ReportSource<'a, 'b, S> {
     /// Appends the lines of the answers that the events give, in their order.
     fn put_replies(&self, alloc: Global, out: &mut Vec<u8>) -> Result<(), NoMemory>
         requires { LedTo self.now }
-        ensures { OnOk result (out.new.items ≡ out.old.items ++ flat_map reply_line (replies_of self.now.cluster self.now.workload self.now.events)) }
+        ensures text { OnOk result (out.new.items ≡ out.old.items ++ flat_map reply_line (replies_of self.now.cluster self.now.workload self.now.events)) }
+        ensures printable { OnOk result (AllIn IsPrintableReply (replies_of self.now.cluster self.now.workload self.now.events)) }
     {
         let names = names_of(alloc, self.workload)?;
         let sessions = self.workload.sessions.len();
@@ -317,7 +330,8 @@ impl<'a, 'b, S: Scheduler + Drop> ReportSource<'a, 'b, S> {
         requires led { LedTo self.now }
         requires names { names.now.keys ≡ session_names self.now.workload.sessions }
         requires replay { replay.old ≡ replay_at self.now 0 }
-        ensures { OnOk result (out.new.items ≡ out.old.items ++ flat_map reply_line (replies_of self.now.cluster self.now.workload self.now.events)) }
+        ensures text { OnOk result (out.new.items ≡ out.old.items ++ flat_map reply_line (replies_of self.now.cluster self.now.workload self.now.events)) }
+        ensures printable { OnOk result (AllIn IsPrintableReply (replies_of self.now.cluster self.now.workload self.now.events)) }
     {
         for at in 0..self.events.len() {
             self.put_followed(alloc, out, names, replay, self.events, at)?;
@@ -341,13 +355,15 @@ impl<'a, 'b, S: Scheduler + Drop> ReportSource<'a, 'b, S> {
         requires names { names.now.keys ≡ session_names self.now.workload.sessions }
         requires replay { replay.old ≡ replay_at self.now at }
         ensures replay { OnOk result (replay.new ≡ replay_at self.now (at + 1)) }
+        ensures printable { OnOk result (AllIn IsPrintableReply (replies_at self.now at) → AllIn IsPrintableReply (replies_at self.now (at + 1))) }
         ensures lines { OnOk result ((start : List ℕ) → out.old.items ≡ start ++ flat_map reply_line (replies_at self.now at)
             → out.new.items ≡ start ++ flat_map reply_line (replies_at self.now (at + 1))) }
     {
         let Some(reply) = self.follow(alloc, names, replay, events, at)? else {
             return Ok(());
         };
-        put_reply(alloc, out, &reply)
+        put_reply(alloc, out, &reply)?;
+        Ok(())
     }
 
     /// Follows what an event does to sessions. The reply that it gives, if it is an answer.
@@ -366,6 +382,7 @@ impl<'a, 'b, S: Scheduler + Drop> ReportSource<'a, 'b, S> {
         requires replay { replay.old ≡ replay_at self.now at }
         ensures replay { OnOk result (replay.new ≡ replay_at self.now (at + 1)) }
         ensures reply { IfOk result (λ reply. replies_at self.now (at + 1) ≡ replies_at self.now at ++ option_to_list reply) }
+        ensures printable { IfOk result (λ reply. AllIn IsPrintableReply (replies_at self.now at) → AllIn IsPrintableReply (replies_at self.now (at + 1))) }
     {
         match &events[at] {
             Event::Submit { region, session } => {
@@ -383,6 +400,7 @@ impl<'a, 'b, S: Scheduler + Drop> ReportSource<'a, 'b, S> {
                     unreachable!()
                 };
                 let reply = self.reply(alloc, *region, session, id)?;
+                reply_is_printable(&reply);
                 replay.answer(place);
                 Ok(Some(reply))
             }

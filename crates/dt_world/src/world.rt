@@ -18,7 +18,7 @@ ghost use Rattle.dt_session.specs.Run.{AreLegal, order_of, world_after};
 ghost use Rattle.dt_session.specs.World.{opening_table};
 ghost use Rattle.dt_site.specs.Site.{opening_site};
 ghost use Rattle.dt_world.specs.WorldInner.{IsNextOf, MayBeTold, opening_sites};
-ghost use Rattle.dt_world.specs.WorldReport.{IsOutcomeOf, IsReplyOf, answered_name, report_of};
+ghost use Rattle.dt_world.specs.WorldReport.{IsOutcomeOf, IsReplyOf, IsToldBy, TextsTellOneRun, answered_name, report_of};
 ghost use Rattle.dt_world.specs.WorldSessions.{opening_sessions};
 ghost use Rattle.dt_world.specs.WorldView.{Makes, kept_next, kept_after, opening_view, own_events};
 
@@ -384,7 +384,8 @@ impl<S: Scheduler + Drop> World<S> {
     pub fn text(self, alloc: Global, events: &[Event]) -> Result<(Vec<u8>, Vec<Site<S>>), NoMemory>
         requires legal { AreLegal self.cluster self.workload events.now }
         requires reached { self.state ≡ world_after self.cluster self.workload events.now }
-        ensures { IfOk result (λ made. made.0.items ≡ report_text (report_of self.cluster self.workload events.now)) }
+        ensures text { IfOk result (λ made. made.0.items ≡ report_text (report_of self.cluster self.workload events.now)) }
+        ensures told { IfOk result (λ made. IsToldBy made.0.items events.now) }
     {
         // Names the steps, so that the proof has what is kept of their number.
         let _made = self.steps();
@@ -470,6 +471,11 @@ fn each_lent<S: Scheduler + Drop>(
 pub fn kept_are_own()
     ensures { (cluster : Cluster) (workload : Workload) (events : List Event) (region : ℕ) → region < cluster.regions →
         get_or (kept_after cluster workload events) region [] ≡ own_events cluster workload region events }
+{}
+
+/// The text of a report tells of one list of events. This is a law: the function does nothing.
+pub fn texts_tell_one_run()
+    ensures { TextsTellOneRun }
 {}
 
 /// Whether a delivery of the places from `first` up to `last` goes on where what was received ends, and past it.

@@ -5,7 +5,7 @@ use Rattle.std.proofs.lemmas.Bool.{MatchBool-at_true}
 use Rattle.std.proofs.lemmas.Iterator.{cases_from_any, YieldsList-from_range}
 use Rattle.std.proofs.lemmas.Iterator.Search.{true_from_Any}
 use Rattle.std.proofs.lemmas.List.FromFn.{get_or-range_with_len, length-range_with_len}
-use Rattle.dt_lock.specs.Long.{IsLongIn}
+use Rattle.dt_lock.specs.LongInner.{IsLongIn}
 use Rattle.dt_lock.proofs.LongProcedures.{long_at, place_of_long}
 use Rattle.dt_lock.proofs.statements.some_is_long.Goals as goal
 

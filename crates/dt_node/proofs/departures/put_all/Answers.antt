@@ -1,7 +1,7 @@
 use Rattle.std.proofs.Common.{◌≡◌, ◌<◌, ◌≤◌, ◌+◌, ◌++◌, suc, length, map, drop, take, sym, ap, ◌∙◌, arith}
 use Rattle.std.specs.Vec.Iter.{into_iter_items}
 use Rattle.std.proofs.lemmas.List.{length-set}
-use Rattle.dt_node.specs.TurnPackets.{put_at}
+use Rattle.dt_node.specs.TurnPacketsInner.{put_at}
 use Rattle.dt_node.proofs.PacketsPut.{all_goes, pairs_go, put_goes}
 use Rattle.dt_node.proofs.departures.put_all.Goals as goal
 

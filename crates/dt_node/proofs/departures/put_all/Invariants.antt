@@ -1,7 +1,7 @@
 use Rattle.std.proofs.Common.{◌≡◌, ◌+◌, ◌≤◌, ◌++◌, List, drop, length, map, take}
 use Rattle.std.specs.Vec.Iter.{into_iter_items}
 use Rattle.dt_lists.specs.Lists.{AllIn, Pairwise}
-use Rattle.dt_node.specs.TurnPackets.{put_at}
+use Rattle.dt_node.specs.TurnPacketsInner.{put_at}
 use Rattle.dt_node.proofs.departures.put_all.Given as goal
 
 abbrev pub invariant-loop-packet : goal.invariant-loop-packet

@@ -1,5 +1,5 @@
 use Rattle.std.proofs.Common.{take}
-use Rattle.dt_sched.specs.IdLists.{AreShared}
+use Rattle.dt_plain.specs.IdListsInner.{AreShared}
 use Rattle.dt_plain.proofs.class.shared.Given as goal
 
 abbrev pub invariant-loop-id : goal.invariant-loop-id

@@ -1,7 +1,7 @@
 use Rattle.std.proofs.Common.{arith}
 use Rattle.dt_plain.proofs.Scan.{any_found, any_on}
 use Rattle.dt_lists.specs.Lists.{AnyIn}
-use Rattle.dt_sched.specs.Surroundings.{ShowsComplete}
+use Rattle.dt_plain.specs.SurroundingsInner.{ShowsComplete}
 use Rattle.dt_plain.proofs.complete.is_complete.Goals as goal
 
 pub returns-then-log_shows_complete : goal.returns-then-log_shows_complete

@@ -1,6 +1,6 @@
 use Rattle.std.proofs.Common.{arith}
 use Rattle.dt_plain.proofs.Scan.{any_found, any_on}
-use Rattle.dt_sched.specs.Surroundings.{ShowsComplete}
+use Rattle.dt_plain.specs.SurroundingsInner.{ShowsComplete}
 use Rattle.dt_plain.proofs.complete.log_shows_complete.Goals as goal
 
 pub returns-then-shows_complete : goal.returns-then-shows_complete

@@ -1,6 +1,6 @@
 use Rattle.std.proofs.Common.{◌↔◌, drop}
 use Rattle.dt_lists.specs.Lists.{AnyIn}
-use Rattle.dt_sched.specs.Surroundings.{ShowsComplete}
+use Rattle.dt_plain.specs.SurroundingsInner.{ShowsComplete}
 use Rattle.dt_plain.proofs.complete.log_shows_complete.Given as goal
 
 abbrev pub invariant-loop-part : goal.invariant-loop-part

@@ -1,6 +1,6 @@
 use Rattle.std.proofs.Common.{◌↔◌, drop}
 use Rattle.dt_lists.specs.Lists.{AllIn}
-use Rattle.dt_sched.specs.Surroundings.{IsClear}
+use Rattle.dt_plain.specs.SurroundingsInner.{IsClear}
 use Rattle.dt_plain.proofs.decide.are_clear.Given as goal
 
 abbrev pub invariant-loop-other : goal.invariant-loop-other

@@ -1,5 +1,5 @@
 use Rattle.std.proofs.Common.{take}
-use Rattle.dt_sched.specs.Surroundings.{EdgeInto}
+use Rattle.dt_plain.specs.SurroundingsInner.{EdgeInto}
 use Rattle.dt_plain.specs.GraphsInner.{Gains}
 use Rattle.dt_plain.proofs.graph.link_front.Given as goal
 

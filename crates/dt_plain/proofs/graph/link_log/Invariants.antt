@@ -1,5 +1,5 @@
 use Rattle.std.proofs.Common.{take}
-use Rattle.dt_sched.specs.Surroundings.{EdgeWithin}
+use Rattle.dt_plain.specs.SurroundingsInner.{EdgeWithin}
 use Rattle.dt_plain.specs.GraphsInner.{Gains}
 use Rattle.dt_plain.proofs.graph.link_log.Given as goal
 

@@ -1,5 +1,5 @@
 use Rattle.std.proofs.Common.{take}
-use Rattle.dt_sched.specs.Surroundings.{ArePresent}
+use Rattle.dt_plain.specs.SurroundingsInner.{ArePresent}
 use Rattle.dt_plain.proofs.graph.present.Given as goal
 
 abbrev pub invariant-loop-log : goal.invariant-loop-log

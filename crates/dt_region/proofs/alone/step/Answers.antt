@@ -16,6 +16,9 @@ use Rattle.dt_region.proofs.alone.step.Goals as goal
 none_inserted : (procs : List ProcTree) (r after : RegionView) (on : Bool) → on ≡ false → InsertsSome procs r (Ok on) after → HasInsertedAll r.state.logs r.state.here × (after ≡ r)
 none_inserted procs r after on e made = subst (λ b. InsertsSome procs r (Ok b) after) e made
 
+still : (procs : List ProcTree) {r after : RegionView} {on : Bool} → on ≡ false → ((procs : List ProcTree) → InsertsSome procs r (Ok on) after) → after ≡ r
+still procs off made = (none_inserted procs _ _ _ off (made procs)).1
+
 -- memory ran out before anything was done
 stopped : (procs : List ProcTree) (r after : RegionView) (result : Result Bool NoMemory) → IsErr result → after ≡ r → StepsOn procs r result after
 stopped procs r after (Err e) is same = same
@@ -30,19 +33,19 @@ returns-then-branch-clause-steps g c =
 
 pub returns-in_err-id-clause-steps : goal.returns-in_err-id-clause-steps
 returns-in_err-id-clause-steps g c =
-    stopped c.args.procs.now _ _ _ c.from_residual-in_err-id.ensures.0 (none_inserted c.args.procs.now _ _ _ c.if-branch.false (c.in_ok-insert_some.ensures.inserts c.args.procs.now)).1
+    stopped c.args.procs.now _ _ _ c.from_residual-in_err-id.ensures.0 (still c.args.procs.now c.if-branch.false c.in_ok-insert_some.ensures.inserts)
 
 pub execute-requires-clause-stamp : goal.execute-requires-clause-stamp
 execute-requires-clause-stamp g c =
-    subst HasStamp (sym (none_inserted c.args.procs.now _ _ _ c.if-branch.false (c.in_ok-insert_some.ensures.inserts c.args.procs.now)).1) c.requires.stamp
+    subst HasStamp (sym (still c.args.procs.now c.if-branch.false c.in_ok-insert_some.ensures.inserts)) c.requires.stamp
 
 pub execute-requires-clause-holds : goal.execute-requires-clause-holds
 execute-requires-clause-holds g c =
-    subst (λ (r : RegionView). HoldsValid c.args.procs.now r.state) (sym (none_inserted c.args.procs.now _ _ _ c.if-branch.false (c.in_ok-insert_some.ensures.inserts c.args.procs.now)).1) c.requires.holds
+    subst (λ (r : RegionView). HoldsValid c.args.procs.now r.state) (sym (still c.args.procs.now c.if-branch.false c.in_ok-insert_some.ensures.inserts)) c.requires.holds
 
 pub execute-requires-clause-place : goal.execute-requires-clause-place
 execute-requires-clause-place g c =
-    let same = (none_inserted c.args.procs.now _ _ _ c.if-branch.false (c.in_ok-insert_some.ensures.inserts c.args.procs.now)).1 in
+    let same = still c.args.procs.now c.if-branch.false c.in_ok-insert_some.ensures.inserts in
     let sched = sched_of c.insert_some.new.region.state.logs c.insert_some.new.region.state.here in
     let next : IsNextReady sched [] (Some c.in-Some.id) = subst (IsNextReady sched []) c.in-Some.is c.in_ok-id.ensures in
     subst (λ (r : RegionView). (id : TxnId) → CanExecute (sched_of r.state.logs r.state.here) id → CanMove r.state id) (sym same) c.requires.moves c.in-Some.id next.0
@@ -52,20 +55,20 @@ returns-in-Some-clause-steps g c =
     let sched = sched_of c.insert_some.new.region.state.logs c.insert_some.new.region.state.here in
     let next : IsNextReady sched [] (Some c.in-Some.id) = subst (IsNextReady sched []) c.in-Some.is c.in_ok-id.ensures in
     executes c.args.procs.now c.args.region.now c.insert_some.new.region
-    (none_inserted c.args.procs.now _ _ _ c.if-branch.false (c.in_ok-insert_some.ensures.inserts c.args.procs.now)).1 c.in-Some.id next.0 c.execute.result c.execute.new.self c.execute.ensures.makes
+    (still c.args.procs.now c.if-branch.false c.in_ok-insert_some.ensures.inserts) c.in-Some.id next.0 c.execute.result c.execute.new.self c.execute.ensures.makes
 
 pub returns-in_err-ids-clause-steps : goal.returns-in_err-ids-clause-steps
-returns-in_err-ids-clause-steps g c = stopped c.args.procs.now _ _ _ c.from_residual-in_err-ids.ensures.0 (none_inserted c.args.procs.now _ _ _ c.if-branch.false (c.in_ok-insert_some.ensures.inserts c.args.procs.now)).1
+returns-in_err-ids-clause-steps g c = stopped c.args.procs.now _ _ _ c.from_residual-in_err-ids.ensures.0 (still c.args.procs.now c.if-branch.false c.in_ok-insert_some.ensures.inserts)
 
 pub returns-in-Some-2-clause-steps : goal.returns-in-Some-2-clause-steps
 returns-in-Some-2-clause-steps g c =
     let sched = sched_of c.insert_some.new.region.state.logs c.insert_some.new.region.state.here in
     let next : IsNextClass sched (Some c.in-Some-2.ids) = subst (IsNextClass sched) c.in-Some-2.is c.in_ok-ids.ensures in
     resolves c.args.procs.now c.args.region.now c.insert_some.new.region
-    (none_inserted c.args.procs.now _ _ _ c.if-branch.false (c.in_ok-insert_some.ensures.inserts c.args.procs.now)).1 _ (subst (CanResolve sched) (sym c.as_slice.ensures) next) c.resolve.result c.resolve.new.self c.resolve.ensures.makes
+    (still c.args.procs.now c.if-branch.false c.in_ok-insert_some.ensures.inserts) _ (subst (CanResolve sched) (sym c.as_slice.ensures) next) c.resolve.result c.resolve.new.self c.resolve.ensures.makes
 
 pub resolve-requires : goal.resolve-requires
-resolve-requires g c = record { stamp = subst HasStamp (sym (none_inserted c.args.procs.now _ _ _ c.if-branch.false (c.in_ok-insert_some.ensures.inserts c.args.procs.now)).1) c.requires.stamp }
+resolve-requires g c = record { stamp = subst HasStamp (sym (still c.args.procs.now c.if-branch.false c.in_ok-insert_some.ensures.inserts)) c.requires.stamp }
 
 pub returns-clause-steps : goal.returns-clause-steps
 returns-clause-steps g c =

@@ -1,5 +1,5 @@
 use Rattle.std.proofs.Common.{ap, Err}
-use Rattle.dt_txn.proofs.ValidBodies.{no_bad}
+use Rattle.dt_eval.proofs.Callers.{no_bad}
 use Rattle.dt_txn.proofs.annotation.call_keys.Goals as goal
 
 pub unreachable-requires : goal.unreachable-requires

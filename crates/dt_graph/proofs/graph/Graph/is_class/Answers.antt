@@ -1,9 +1,10 @@
 use Rattle.std.proofs.Common.{◌≡◌, ◌<◌, ◌^◌, ◌==◌, ap, length, subst, sym, arith}
+use Rattle.std.proofs.lemmas.List.{nil_from_length}
 use Rattle.dt_lists.specs.Lists.{AllIn}
 use Rattle.dt_waits.specs.Among.{IsAmong}
 use Rattle.dt_waits.specs.Graph.{AreVerticesOf, GraphView}
 use Rattle.dt_waits.specs.Steps.{HaveSlots}
-use Rattle.dt_graph.proofs.ClassAnswers.{blocked_not_resolvable, class_told, empty_told, no_items, filled_told, stuck_slots, unstuck_not_resolvable, vertices_few, vertices_once}
+use Rattle.dt_graph.proofs.ClassAnswers.{blocked_not_resolvable, class_told, empty_told, filled_told, stuck_slots, unstuck_not_resolvable, vertices_few, vertices_once}
 use Rattle.dt_graph.proofs.graph.Graph.is_class.Goals as goal
 
 pub returns-in_default : goal.returns-in_default
@@ -46,7 +47,7 @@ returns c view resolved done k is =
     let are : AreVerticesOf g c.args.ids.now list = rw c.as_slice-2.ensures.value (rw c.in-Some.is at c.in_ok-vertices.ensures) in
     let x = c.in_ok-among.among in
     let among : IsAmong g.waiting list x.graph x.blocked.items = subst (λ (g : GraphView). IsAmong g.waiting list x.graph x.blocked.items) c.self.view_is c.in_ok-among.ensures in
-    let free = no_items x.blocked.items (empty_told x.blocked.items _ _ (omega (arith, x.blocked.ok.0)) c.is_empty.ensures c.if-not-is_empty.false) in
+    let free = nil_from_length x.blocked.items (empty_told x.blocked.items _ _ (omega (arith, x.blocked.ok.0)) c.is_empty.ensures c.if-not-is_empty.false) in
     let many : c.len.result ≡ length c.in_ok-class.class.items = omega (arith, c.len.ensures, c.in_ok-class.class.ok.0) in
     class_told view resolved done k g is c.args.ids.now c.requires.ascending list are x.graph x.blocked.items among (omega (arith, c.if-ids-lt2.false)) free c.in_ok-class.class.items c.in_ok-class.ensures _
     (ap (λ n. n == length c.args.ids.now) many)

@@ -28,7 +28,7 @@ use denote.Triple.Walked.{says, Stays, stay_dropped, walk_of, ends_at, walk_Meet
 use Rattle.dt_graph.proofs.NoFields.{none, none_made}
 use Rattle.dt_graph.specs.contracts.seen.Seen as Seen
 use Rattle.dt_graph.specs.contracts.seen.Change as Change
-use Rattle.dt_graph.specs.Seen.{after_change}
+use Rattle.dt_graph.specs.SeenInner.{after_change}
 use Rattle.dt_graph.specs.contracts.seen.Seen.after as F
 use Rattle.dt_graph.specs.contracts.seen.Seen.after.Key.{name as #self}
 use Rattle.dt_graph.proofs.seen.Seen.after.Statement as stated

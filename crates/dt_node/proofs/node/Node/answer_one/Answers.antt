@@ -1,7 +1,7 @@
 use Rattle.std.proofs.Common.{refl, sym, subst}
 use Rattle.dt_session.specs.Sessions.{MayBeAnswered}
-use Rattle.dt_node.proofs.CallAfterCall.{made_nothing}
-use Rattle.dt_node.proofs.PartsOfNode.{call_moves, call_on, call_seats, call_step, no_name_at, opened, same_moves}
+use Rattle.dt_node.proofs.CallAfterCall.{made_nothing, same_moves}
+use Rattle.dt_node.proofs.PartsOfNode.{call_moves, call_on, call_seats, call_step, no_name_at, opened}
 use Rattle.dt_node.proofs.CallConditions.{has_stamp}
 use Rattle.dt_node.proofs.node.Node.answer_one.Goals as goal
 

@@ -1,5 +1,5 @@
-use Rattle.dt_node.proofs.CallAfterCall.{made_nothing}
-use Rattle.dt_node.proofs.PartsOfNode.{all_placed, is_there, it_moves, it_own, may_place_it, same_moves, same_own}
+use Rattle.dt_node.proofs.CallAfterCall.{made_nothing, same_moves}
+use Rattle.dt_node.proofs.PartsOfNode.{all_placed, is_there, it_moves, it_own, may_place_it, same_own}
 use Rattle.dt_node.proofs.SubmissionEvents.{placing_none}
 use Rattle.dt_node.proofs.CallConditions.{has_stamp}
 use Rattle.dt_node.proofs.node.Node.place_next.Goals as goal

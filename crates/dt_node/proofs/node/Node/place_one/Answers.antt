@@ -1,6 +1,6 @@
 use Rattle.std.proofs.Common.{Ok}
 use Rattle.dt_node.proofs.PacketItems.{may_place, place_append, place_count, place_ends}
-use Rattle.dt_node.proofs.PartsOfNode.{same_moves}
+use Rattle.dt_node.proofs.CallAfterCall.{same_moves}
 use Rattle.dt_node.proofs.CallConditions.{has_stamp}
 use Rattle.dt_node.proofs.node.Node.place_one.Goals as goal
 

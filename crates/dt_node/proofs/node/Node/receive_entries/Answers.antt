@@ -1,7 +1,8 @@
 use Rattle.std.proofs.Common.{Ok, subst}
 use Rattle.dt_region.specs.Rules.{MakesDelivery}
 use Rattle.dt_node.proofs.PacketItems.{may_receive, receive_ends, receive_step, receive_taken}
-use Rattle.dt_node.proofs.PartsOfNode.{opened, same_moves}
+use Rattle.dt_node.proofs.CallAfterCall.{same_moves}
+use Rattle.dt_node.proofs.PartsOfNode.{opened}
 use Rattle.dt_node.proofs.CallConditions.{has_stamp}
 use Rattle.dt_node.proofs.node.Node.receive_entries.Goals as goal
 

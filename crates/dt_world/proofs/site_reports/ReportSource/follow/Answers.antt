@@ -1,5 +1,8 @@
-use Rattle.std.proofs.Common.{◌≡◌, ◌+◌, refl, sym, ◌∙◌, inl, inr}
+use Rattle.std.proofs.Common.{◌≡◌, ◌+◌, refl, sym, subst, ◌∙◌, inl, inr}
+use Rattle.dt_lists.specs.Lists.{AllIn}
+use Rattle.dt_lists.proofs.Callers.{all_more}
 use Rattle.dt_events.specs.declared.Event.TheVariants.{Submit, Answer}
+use Rattle.dt_report.specs.Printable.{IsPrintableReply}
 use Rattle.dt_world.specs.SessionReplayInner.{replay_at, replies_at}
 use Rattle.dt_world.proofs.Reports.{follows_answer, follows_reply, follows_submission, event_at, plain_event, session_listed}
 use Rattle.dt_world.proofs.TextByLines.{none_more}
@@ -77,6 +80,12 @@ returns-in-Some-clause-reply g c =
     let follows = follows_submission c.requires.led c.args.at c.in-Submit.region c.in-Submit.session event c.in-Some.place (sym c.find.ensures ∙ c.in-Some.is) c.args.replay.now c.requires.replay in
     none_more follows.replies
 
+pub returns-in-Some-clause-printable : goal.returns-in-Some-clause-printable
+returns-in-Some-clause-printable g c =
+    let event = event_at c.args.self.now c.requires.events c.args.at c.index-events-at.result (Submit c.in-Submit.region c.in-Submit.session) c.requires.at c.index-events-at.is c.in-Submit.is in
+    let follows = follows_submission c.requires.led c.args.at c.in-Submit.region c.in-Submit.session event c.in-Some.place (sym c.find.ensures ∙ c.in-Some.is) c.args.replay.now c.requires.replay in
+    subst (AllIn IsPrintableReply) follows.replies
+
 pub returns-in_ok-reply-in-Answer-clause-replay : goal.returns-in_ok-reply-in-Answer-clause-replay
 returns-in_ok-reply-in-Answer-clause-replay g c =
     let event = event_at c.args.self.now c.requires.events c.args.at c.index-events-at.result (Answer c.in-Answer.region c.in-Answer.session) c.requires.at c.index-events-at.is c.in-Answer.is in
@@ -90,10 +99,18 @@ returns-in_ok-reply-in-Answer-clause-reply g c =
     c.in-Some-waits.id (sym c.waits.ensures ∙ c.in-Some-waits.is) in
     reply.replies c.in_ok-reply-in-Answer.reply c.in_ok-reply-in-Answer.ensures
 
+pub returns-in_ok-reply-in-Answer-clause-printable : goal.returns-in_ok-reply-in-Answer-clause-printable
+returns-in_ok-reply-in-Answer-clause-printable g c all =
+    let event = event_at c.args.self.now c.requires.events c.args.at c.index-events-at.result (Answer c.in-Answer.region c.in-Answer.session) c.requires.at c.index-events-at.is c.in-Answer.is in
+    let reply = follows_reply c.requires.led c.args.at c.in-Answer.region c.in-Answer.session event c.in-Some-find.place (sym c.find-in-Answer.ensures ∙ c.in-Some-find.is) c.args.replay.now c.requires.replay
+    c.in-Some-waits.id (sym c.waits.ensures ∙ c.in-Some-waits.is) in
+    subst (AllIn IsPrintableReply) (sym (reply.replies c.in_ok-reply-in-Answer.reply c.in_ok-reply-in-Answer.ensures))
+    (all_more IsPrintableReply (replies_at c.args.self.now c.args.at) c.in_ok-reply-in-Answer.reply all c.reply_is_printable.ensures)
+
 pub returns-in_default : goal.returns-in_default
 returns-in_default g c =
     let event = event_at c.args.self.now c.requires.events c.args.at c.index-events-at.result c.index-events-at.result c.requires.at c.index-events-at.is refl in
     let plain : (replay_at c.args.self.now c.args.at ≡ replay_at c.args.self.now (c.args.at + 1))
     × (replies_at c.args.self.now c.args.at ≡ replies_at c.args.self.now (c.args.at + 1)) =
     plain_event c.requires.led c.args.at c.index-events-at.result event (λ r n. c.in_default.not-Submit r n) (λ r n. c.in_default.not-Answer r n) in
-    record { replay = c.requires.replay ∙ plain.0; reply = none_more plain.1 }
+    record { replay = c.requires.replay ∙ plain.0; reply = none_more plain.1; printable = subst (AllIn IsPrintableReply) plain.1 }

@@ -1,7 +1,10 @@
-use Rattle.std.proofs.Common.{refl, ap, ◌∙◌}
+use Rattle.std.proofs.Common.{refl, sym, ap, subst, ◌∙◌}
 use Rattle.std.specs.Prelude.{filter_map}
+use Rattle.dt_lists.specs.Lists.{AllIn}
+use Rattle.dt_lists.proofs.Callers.{all_more}
 use Rattle.dt_events.specs.declared.Event.TheVariants.{Execute}
 use Rattle.dt_access.specs.Ids.{is_among}
+use Rattle.dt_report.specs.Printable.{IsPrintableRan}
 use Rattle.dt_world.specs.WorldReport.{ran_of}
 use Rattle.dt_world.proofs.Reports.{absent_of, event_at, not_execution, note_executed, note_region, notes_again, notes_new, present_of, seen_other}
 use Rattle.dt_world.proofs.TextByLines.{none_more}
@@ -11,10 +14,8 @@ pub returns-in_default : goal.returns-in_default
 returns-in_default g c =
     let event = event_at c.args.self.now c.requires.events c.args.at c.index-events-at.result c.index-events-at.result c.requires.at c.index-events-at.is refl in
     let other = seen_other c.requires.led c.args.at c.index-events-at.result event (not_execution c.index-events-at.result c.in_default.not-Execute) in
-    record {
-      seen = c.requires.seen ∙ other;
-      ran = none_more (ap (filter_map (ran_of c.args.self.now.cluster c.args.self.now.workload c.args.self.now.events)) other);
-    }
+    let same = ap (filter_map (ran_of c.args.self.now.cluster c.args.self.now.workload c.args.self.now.events)) other in
+    record { seen = c.requires.seen ∙ other; ran = none_more same; printable = subst (AllIn IsPrintableRan) same }
 
 pub ran-requires-clause-region : goal.ran-requires-clause-region
 ran-requires-clause-region g c =
@@ -31,11 +32,16 @@ returns-then-not-branch g c =
     let event = event_at c.args.self.now c.requires.events c.args.at c.index-events-at.result (Execute c.in-Execute.region c.in-Execute.id) c.requires.at c.index-events-at.is c.in-Execute.is in
     let there = present_of c.in_ok-insert.field-0 (is_among c.args.seen.now.keys c.in-Execute.id) c.if-not-branch.true c.in_ok-insert.ensures.added in
     let notes = notes_again c.requires.led c.args.at c.in-Execute.region c.in-Execute.id event c.args.seen.now.keys c.insert.new.self.keys c.requires.seen c.in_ok-insert.ensures.keys there in
-    record { seen = notes.seen; ran = none_more notes.order }
+    record { seen = notes.seen; ran = none_more notes.order; printable = subst (AllIn IsPrintableRan) notes.order }
 
 pub returns : goal.returns
 returns g c =
     let event = event_at c.args.self.now c.requires.events c.args.at c.index-events-at.result (Execute c.in-Execute.region c.in-Execute.id) c.requires.at c.index-events-at.is c.in-Execute.is in
     let absent = absent_of c.in_ok-insert.field-0 (is_among c.args.seen.now.keys c.in-Execute.id) c.if-not-branch.false c.in_ok-insert.ensures.added in
     let notes = notes_new c.requires.led c.args.at c.in-Execute.region c.in-Execute.id event c.args.seen.now.keys c.insert.new.self.keys c.requires.seen c.in_ok-insert.ensures.keys absent in
-    record { seen = notes.seen; ran = notes.order c.in_ok-ran.field-0 c.in_ok-ran.ensures }
+    let one_more = notes.order c.in_ok-ran.ran c.in_ok-ran.ensures in
+    record {
+      seen = notes.seen;
+      ran = one_more;
+      printable = λ all. subst (AllIn IsPrintableRan) (sym one_more) (all_more IsPrintableRan _ c.in_ok-ran.ran all c.ran_is_printable.ensures);
+    }

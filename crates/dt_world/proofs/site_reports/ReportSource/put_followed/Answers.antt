@@ -1,6 +1,5 @@
 use Rattle.std.proofs.Common.{◌++◌, ap, ◌∙◌}
 use Rattle.std.specs.Prelude.{option_to_list}
-use Rattle.std.proofs.lemmas.Result.{on_ok_weaker}
 use Rattle.dt_report.specs.Report.{reply_line}
 use Rattle.dt_world.specs.SessionReplayInner.{replies_at}
 use Rattle.dt_world.proofs.TextByLines.{no_line, one_line}
@@ -11,6 +10,7 @@ returns-in_default g c =
     let before = replies_at c.args.self.now c.args.at in
     record {
       replay = c.in_ok-reply.ensures.replay;
+      printable = c.in_ok-reply.ensures.printable;
       lines = λ start written. no_line reply_line start before written (c.in_ok-reply.ensures.reply ∙ ap (λ o. before ++ option_to_list o) c.in_default.is);
     }
 
@@ -18,7 +18,8 @@ pub returns : goal.returns
 returns g c =
     let before = replies_at c.args.self.now c.args.at in
     record {
-      replay = on_ok_weaker c.put_reply.result (λ put. c.in_ok-reply.ensures.replay) c.put_reply.ensures;
-      lines = on_ok_weaker c.put_reply.result (λ put start written. one_line reply_line start before written c.in-Some.reply
-          (c.in_ok-reply.ensures.reply ∙ ap (λ o. before ++ option_to_list o) c.in-Some.is) put) c.put_reply.ensures;
+      replay = c.in_ok-reply.ensures.replay;
+      printable = c.in_ok-reply.ensures.printable;
+      lines = λ start written. one_line reply_line start before written c.in-Some.reply
+          (c.in_ok-reply.ensures.reply ∙ ap (λ o. before ++ option_to_list o) c.in-Some.is) c.in_ok-put_reply.ensures;
     }

@@ -16,4 +16,7 @@ text_of_sites-requires g c =
     (sites_after c.self.invariant c.self.view_is c.args.events.now c.requires.legal c.requires.reached few)
 
 pub returns : goal.returns
-returns g c = subst (λ (v : WorldView). c.in_ok-text.text.items ≡ report_text (report_of v.cluster v.workload c.args.events.now)) c.self.view_is c.in_ok-text.ensures
+returns g c = record {
+  text = subst (λ (v : WorldView). c.in_ok-text.text.items ≡ report_text (report_of v.cluster v.workload c.args.events.now)) c.self.view_is c.in_ok-text.ensures.text;
+  told = (c.self.inside.cluster, c.self.inside.workload, c.in_ok-text.ensures.text, c.in_ok-text.ensures.printable);
+}

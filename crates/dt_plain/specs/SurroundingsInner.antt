@@ -1,6 +1,6 @@
 -- What lies around a transaction in a view: the ids that have a part, those behind it (which reach it) and those ahead of
 -- it (which it reaches), and how it is read off these lists whether the transaction may be executed, or its class
--- resolved. A scheduler answers from such lists. Read Decide.antt for what the answers mean, in terms of `Reaches` alone.
+-- resolved. A scheduler answers from such lists. Read Decide.antt of dt_sched for what the answers mean, in terms of `Reaches` alone.
 use Rattle.std.specs.Prelude.{◌≡◌, ◌≢◌, ◌⊎◌, ◌↔◌, ◌≤◌, List, length, true}
 use Rattle.dt_lists.specs.Lists.{AnyIn, AllIn, SomeThen, Has, Distinct}
 use Rattle.dt_access.specs.Clash.{clash}

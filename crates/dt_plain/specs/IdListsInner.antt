@@ -1,6 +1,6 @@
 -- Lists of ids that stand for sets: each id once, in any order or in ascending order, which is how a class is given. A
 -- scheduler builds what reaches an id and what the id reaches as such lists; their common members are the id's class.
--- What reaches what stands in Views.antt. Read next: Surroundings.antt, for what is read off these lists.
+-- What reaches what stands in Views.antt of dt_sched. Read next: SurroundingsInner.antt, for what is read off these lists.
 use Rattle.std.specs.Prelude.{◌≡◌, ◌⊎◌, ◌↔◌, List}
 use Rattle.dt_lists.specs.Lists.{Has, IsFront, Distinct}
 use Rattle.dt_access.specs.Ids.{AreAscending}
