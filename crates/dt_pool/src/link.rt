@@ -1,4 +1,4 @@
-ghost use Rattle.std.specs.Prelude.{◌≡◌, ◌++◌, ◌∷◌, [], Some};
+ghost use Rattle.std.specs.Prelude.{◌≡◌, Some};
 ghost use Rattle.rtrb.specs.Ring.{IsPair, SameConsumer, SameProducer, received, sent};
 ghost use Rattle.dt_pool.specs.Links.{last_item};
 

@@ -17,10 +17,10 @@
 //!
 //! A call keeps its event where it changed something, and where it answers `NoMemory` nothing has changed. The event's stamp
 //! is one above the greatest of the region's last stamp and all stamps that it heard of (`hear`). A region is `drained` where
-//! it has inserted all that it received, and may neither execute nor resolve anything; a round brings it there ([`Rounds`]), of which the calling thread makes
-//! one by itself ([`Alone`]). What makes rounds is generic in that trait, so that a round by many threads makes the same promise. What a call
-//! does is stated in `specs/Rules.antt`, when it may be made in `specs/Conditions.antt`, and what holds of every region in
-//! `specs/Sound.antt`.
+//! it has inserted all that it received, and may neither execute nor resolve anything; a round brings it there ([`Rounds`]),
+//! of which the calling thread makes one by itself ([`Alone`]). What makes rounds is generic in that trait, so that a round
+//! by many threads makes the same promise. What a call does is stated in `specs/Rules.antt`, when it may be made in
+//! `specs/Conditions.antt`, and what holds of every region in `specs/Sound.antt`.
 //!
 //! A region that is alone in its cluster runs a body so, where `S` is a scheduler:
 //!

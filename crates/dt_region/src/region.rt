@@ -39,9 +39,9 @@ const CHANGES: usize = 17;
 /// One region of a cluster. What it may execute and resolve is decided by its scheduler `S`.
 ///
 /// Contracts see its `state`, as `events` the events that it made, in order, each with its stamp, as `heard` the greatest
-/// stamp that it heard of, and as `room` how many executions it can finish before memory is needed. Its type keeps what `IsSoundRegion` says: in each log every id stands once, every part is
-/// that of the transaction which the region holds under its id, all logs together have at most 4,294,967,295 parts, and what
-/// is resolved and done could be resolved and done.
+/// stamp that it heard of, and as `room` how many executions it can finish before memory is needed. Its type keeps what
+/// `IsSoundRegion` says: in each log every id stands once, every part is that of the transaction which the region holds under
+/// its id, all logs together have at most 4,294,967,295 parts, and what is resolved and done could be resolved and done.
 #[derive(Drop)]
 pub struct Region<S: Scheduler> {
     number: u8,

@@ -1,10 +1,8 @@
 ghost use Rattle.std.specs.List.{range_with_len};
-ghost use Rattle.std.specs.Prelude.{◌≡◌, ◌↔◌, ◌<◌, ◌≤◌, length, map, All, IfOk, OnErr, OnOk, IsTrue, IsFalse, false, true};
+ghost use Rattle.std.specs.Prelude.{◌≡◌, ◌↔◌, ◌<◌, ◌≤◌, length, map, IfOk, OnErr, OnOk, IsTrue, false, true};
 ghost use Rattle.dt_lists.specs.Lists.{AllIn};
 ghost use Rattle.dt_region.specs.Sound.{IsSoundRegion};
-ghost use Rattle.dt_region.specs.Rounds.{CanRound, Continues};
 ghost use Rattle.dt_table.specs.Table.{shown};
-ghost use Rattle.dt_txn.specs.Replica.{IsDrained};
 ghost use Rattle.dt_node.specs.NodeView.{opening_node_of};
 ghost use Rattle.dt_cluster.specs.Valid.{IsValidCluster};
 ghost use Rattle.dt_workload.specs.Valid.{IsValidWorkload};

@@ -1,6 +1,7 @@
 //! What bytes are read as: keys, names, texts, numbers, lines and words.
 ghost use Rattle.std.specs.Prelude.{◌<◌, ◌^◌, length};
 
+use crate::calls::repeated;
 use crate::parts::key_of;
 use crate::wrong;
 use dt_text::{
@@ -298,11 +299,7 @@ fn told_of_many(
     times: u32,
     back: &[u8],
 ) -> Result<usize, Fail> {
-    let mut bytes = front.to_vec(alloc)?;
-    for _ in 0..times {
-        bytes.extend_from_slice(piece)?;
-    }
-    bytes.extend_from_slice(back)?;
+    let bytes = repeated(alloc, front, piece, times, back)?;
     Ok(told(alloc, what, bytes.as_slice())?.len())
 }
 

@@ -1,12 +1,12 @@
 //! Calls: which keys they use, and how they end.
 ghost use Rattle.std.specs.Prelude.{◌≡◌, IfOk, map};
 
-use crate::rows::put_option;
+use crate::rows::{put_number, put_option};
 use crate::wrong;
 use dt_access::{Keys, Mode, TryCopy, Writes};
 use dt_eval::{Args, Cause, Finish, Reads, Values, fits, keys_of, run};
 use dt_proc::{Proc, Procs, builtin_procs, read_procs};
-use dt_text::{Key, NoMemory, Str, Value, put_u64, read_i64};
+use dt_text::{Key, NoMemory, Str, Value, read_i64};
 use std::alloc::Global;
 use std::mem::forget;
 use std::test::Fail;
@@ -454,20 +454,9 @@ fn a_call_uses_keys_of_128_bytes_and_no_longer_ones(rt: HostRuntime) -> Result<(
     check_keys(rt.alloc())
 }
 
-/// Adds a few bytes and a number behind them.
-fn put_number(
-    alloc: Global,
-    text: &mut Vec<u8>,
-    before: &[u8],
-    number: u32,
-) -> Result<(), NoMemory> {
-    text.extend_from_slice(before)?;
-    put_u64(alloc, text, u64::from(number))
-}
-
 /// Adds variables up to the one of a number, each greater by one than the one before.
 fn put_variables(alloc: Global, text: &mut Vec<u8>, last: u32) -> Result<(), NoMemory> {
-    for number in 0..last {
+    for number in 0..u64::from(last) {
         put_number(alloc, text, b"let v", number + 1)?;
         put_number(alloc, text, b" = v", number)?;
         text.extend_from_slice(b" + 1; ")?;
@@ -480,7 +469,7 @@ fn counting(alloc: Global, variables: u32) -> Result<Vec<u8>, Fail> {
     let last = variables.saturating_sub(1);
     let mut text = b"proc f(k: text) read a = k; { let v0 = 0; ".to_vec(alloc)?;
     put_variables(alloc, &mut text, last)?;
-    put_number(alloc, &mut text, b"give v", last)?;
+    put_number(alloc, &mut text, b"give v", u64::from(last))?;
     text.extend_from_slice(b"; }")?;
     Ok(text)
 }

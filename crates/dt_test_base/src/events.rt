@@ -1,4 +1,5 @@
 //! Events: what a file of them is read as, and what is printed of it.
+use crate::calls::repeated;
 use crate::wrong;
 use dt_events::{Event, EventsError, Stamped, put_event, read_events};
 use std::alloc::Global;
@@ -102,11 +103,7 @@ fn is_told(
     times: u32,
     back: &[u8],
 ) -> Result<bool, Fail> {
-    let mut file = front.to_vec(alloc)?;
-    for _ in 0..times {
-        file.extend_from_slice(piece)?;
-    }
-    file.extend_from_slice(back)?;
+    let file = repeated(alloc, front, piece, times, back)?;
     Ok(told(alloc, file.as_slice())? == file)
 }
 

@@ -1,6 +1,6 @@
-//! Tests of what stands below a region: texts, ids, parts, logs and events, the language of procedures, rows and transactions, reports, and packets and links.
-//! Each is a table of expected values that were worked out independently, with one loop, which names the first row that is not answered as it says;
-//! there is no other code.
+//! Tests of what stands below a region: texts, ids, parts, logs and events, the language of procedures, rows and
+//! transactions, reports, and packets and links. Each is a table of expected values that were worked out independently, with
+//! one loop, which names the first row that is not answered as it says; there is no other code.
 #![tactic(auto)]
 
 #[cfg(test)]

@@ -1,5 +1,5 @@
 //! Ids, granules, parts and lists of keys: their text, their copies, and which parts clash.
-ghost use Rattle.std.specs.Prelude.{◌<◌, ◌^◌, IsTrue, length};
+ghost use Rattle.std.specs.Prelude.{IsTrue};
 ghost use Rattle.dt_lists.specs.Lists.{AllIn};
 ghost use Rattle.dt_access.specs.Orders.{KeyBefore};
 
@@ -15,8 +15,8 @@ use std::test::Fail;
 
 /// A short key.
 pub(crate) fn key_of(alloc: Global, bytes: &[u8]) -> Result<Key, Fail> {
-    if bytes.len() > 128 {
-        return Err(Fail::from("a test reads few bytes"));
+    if bytes.len() > Key::LONGEST {
+        return Err(Fail::from("a key has few bytes"));
     }
     Ok(Key::read(alloc, bytes)?)
 }

@@ -2,7 +2,7 @@
 use crate::calls::repeated;
 use crate::printed::{put_body, put_fault, put_procs};
 use crate::wrong;
-use dt_proc::{Proc, ProcError, Procs, builtin_procs, read_procs};
+use dt_proc::{ProcError, Procs, builtin_procs, read_procs};
 use dt_text::NoMemory;
 use std::alloc::Global;
 use std::mem::forget;

@@ -265,7 +265,8 @@ fn is_reported(alloc: Global, play: &mut Play, case: &Case) -> Result<bool, Fail
     Ok(play.told(alloc, Asked::Report)? == play.wanted(alloc)?)
 }
 
-/// Fails at the first case that is reported in another way. Plays are left to the end of the process: that they may be dropped would be proved here.
+/// Fails at the first case that is reported in another way. Plays are left to the end of the process: that they may be dropped
+/// would be proved here.
 fn check(alloc: Global) -> Result<(), Fail> {
     for (row, case) in CASES.iter().enumerate() {
         let mut play = Play::new(alloc);

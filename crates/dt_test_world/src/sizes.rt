@@ -50,8 +50,8 @@ fn comes_as_wanted(alloc: Global, play: &mut Play, size: Size) -> Result<bool, F
     Ok(play.told(alloc, Asked::Report)? == play.wanted(alloc)?)
 }
 
-/// Fails at the first of these sizes of whose world something else comes. Plays are left to the end of the process: that they may be dropped would be proved
-/// here.
+/// Fails at the first of these sizes of whose world something else comes. Plays are left to the end of the process: that they
+/// may be dropped would be proved here.
 fn check(alloc: Global, sizes: &[Size]) -> Result<(), Fail> {
     for (row, size) in sizes.iter().enumerate() {
         let mut play = Play::new(alloc);

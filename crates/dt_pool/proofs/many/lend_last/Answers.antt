@@ -1,4 +1,4 @@
-use Rattle.std.proofs.Common.{◌≡◌, ◌∙◌, ◌<◌, ◌+◌, ◌-◌, Some, ap, arith, get_or, length, slice_index_or, slice_set, vec_len}
+use Rattle.std.proofs.Common.{◌≡◌, ◌∙◌, ◌+◌, ◌-◌, Some, ap, arith, get_or, length, slice_index_or, slice_set, vec_len}
 use Rattle.std.proofs.lemmas.List.{get_or-take, length-set}
 use Rattle.dt_pool.proofs.HelperLoops.{lent_before}
 use Rattle.dt_pool.proofs.LastItems.{same_some}

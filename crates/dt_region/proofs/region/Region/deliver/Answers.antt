@@ -1,6 +1,5 @@
-use Rattle.std.proofs.Common.{◌<◌, ◌+◌, List, [], ◌∷◌, ◌++◌, length, map, ap, ◌∙◌, arith}
+use Rattle.std.proofs.Common.{◌<◌, ◌+◌, [], ◌∷◌, ◌++◌, length, ap, ◌∙◌, arith}
 use Rattle.dt_events.specs.declared.Event.TheVariants.{Deliver}
-use Rattle.dt_txn.specs.declared.txn.Entry.{Entry}
 use Rattle.dt_region.specs.Rules.{keep_all}
 use Rattle.dt_region.proofs.Rule3Deliver.{deliver_keeps, deliver_made}
 use Rattle.dt_region.proofs.ViewOfRegion.{seen_as, under}
