@@ -80,15 +80,35 @@ module _ {cluster : Cluster} {workload : Workload} (w z : World) where
           let lh : home < cluster.regions = subst (λ n. home < n) (logs_length w ∙ gw.inv.nodes) lt in
           subst (λ l. slice_index (received_lengths w region) home ≤ length l) (sym (log_is w home)) (received_within cluster workload w gw.order gw.inv region home lr lh)
 
+-- what two worlds say of a region, if its own part is the same in both
+
+module _ (workload : Workload) (w v : World) (region : ℕ) (same : own workload w region ≡ own workload v region) where
+  pub node_same : node_at w region ≡ node_at v region
+  node_same = ap (λ o. o.node) same
+
+  -- its sessions stand at the same places
+  pub session_same : (name : Bytes) → session_at workload.sessions w.places region name ≡ session_at workload.sessions v.places region name
+  session_same name =
+      found_own workload.sessions w.places region name ∙ ap (λ o. session_at (local region workload.sessions) o.places region name) same
+      ∙ sym (found_own workload.sessions v.places region name)
+
+  -- an id that it gave is that of the same attempt
+  pub attempt_same : (id : TxnId) → id.region ≡ region → attempt_of w id ≡ attempt_of v id
+  attempt_same id is = ap (λ n. unwrap_or (option_map (λ s. s.attempt) (find_submission n.submitted id)) 0) (subst (λ r. node_at w r ≡ node_at v r) (sym is) node_same)
+
+module _ {cluster : Cluster} {workload : Workload} (w v z : World) (gw : HasInvariant cluster workload w) (gv : HasInvariant cluster workload v) (gz : HasInvariant cluster workload z)
+    (bw : HaveGrown w z) (bv : HaveGrown v z) (region : ℕ) (lr : region < cluster.regions) where
+  -- it has received the same of all logs, where both worlds are below a third
+  pub logs_same : node_at w region ≡ node_at v region → received_logs w region ≡ received_logs v region
+  logs_same nodes =
+      received_up w z gw gz bw region lr ∙ ap (λ n. fronts (set n.received region (length n.log)) (logs_of z)) nodes ∙ sym (received_up v z gv gz bv region lr)
+
+-- what an event of the region does to that part
+
 module _ {cluster : Cluster} {workload : Workload} (w v z : World) (gw : HasInvariant cluster workload w) (gv : HasInvariant cluster workload v) (gz : HasInvariant cluster workload z)
     (bw : HaveGrown w z) (bv : HaveGrown v z) (region : ℕ) (lr : region < cluster.regions) (same : own workload w region ≡ own workload v region) where
   nodes : node_at w region ≡ node_at v region
-  nodes = ap (λ o. o.node) same
-
-  found : (name : Bytes) → session_at workload.sessions w.places region name ≡ session_at workload.sessions v.places region name
-  found name =
-      found_own workload.sessions w.places region name ∙ ap (λ o. session_at (local region workload.sessions) o.places region name) same
-      ∙ sym (found_own workload.sessions v.places region name)
+  nodes = node_same workload w v region same
 
   one_txn : (id : TxnId) (x y : Txn) → txn_of w id ≡ Some x → txn_of v id ≡ Some y → x ≡ y
   one_txn id x y e f = same_Some _ _ (sym (txn_up w z bw id x e) ∙ txn_up v z bv id y f)
@@ -102,17 +122,17 @@ module _ {cluster : Cluster} {workload : Workload} (w v z : World) (gw : HasInva
       let a : WaitsAt cluster w session place id = waiting_for cluster workload w gw.order gw.inv session place id (subst (λ r. r < cluster.regions) (sym f.2) lr) f.3 h in
       a.region ∙ f.2
 
-  attempt_same : (id : TxnId) → id.region ≡ region → attempt_of w id ≡ attempt_of v id
-  attempt_same id is = ap (λ n. unwrap_or (option_map (λ s. s.attempt) (find_submission n.submitted id)) 0) (subst (λ r. node_at w r ≡ node_at v r) (sym is) nodes)
+  attempted : (id : TxnId) → id.region ≡ region → attempt_of w id ≡ attempt_of v id
+  attempted = attempt_same workload w v region same
 
   awaited_same : (waits : Option TxnId) → ((id : TxnId) → waits ≡ Some id → id.region ≡ region) → awaited_at w region waits ≡ awaited_at v region waits
   awaited_same None here = refl
   awaited_same (Some id) here =
-      awaits (attempt_of w id) (attempt_of v id) (outcome_at w region id) (outcome_at v region id) (attempt_same id (here id refl)) (ap (λ n. outcome_in n.here.done id) nodes)
+      awaits (attempt_of w id) (attempt_of v id) (outcome_at w region id) (outcome_at v region id) (attempted id (here id refl)) (ap (λ n. outcome_in n.here.done id) nodes)
 
   next_same : (waits : Option TxnId) → ((id : TxnId) → waits ≡ Some id → id.region ≡ region) → next_attempt w waits ≡ next_attempt v waits
   next_same None here = refl
-  next_same (Some id) here = ap (λ a. attempt_after (Some a)) (attempt_same id (here id refl))
+  next_same (Some id) here = ap (λ a. attempt_after (Some a)) (attempted id (here id refl))
 
   called_same : (session : Session) (place : Place) → next_attempt w place.waits ≡ next_attempt v place.waits → (o : Option Ranked)
       → own workload (called cluster workload w region session place o) region ≡ own workload (called cluster workload v region session place o) region
@@ -129,7 +149,7 @@ module _ {cluster : Cluster} {workload : Workload} (w v z : World) (gw : HasInva
   submit_local name may =
       subst (λ o. MaySubmit cluster v region o
       × (own workload (submitted cluster workload w region (session_at workload.sessions w.places region name)) region ≡ own workload (submitted cluster workload v region o) region))
-      (found name) (go (session_at workload.sessions w.places region name) refl may)
+      (session_same workload w v region same name) (go (session_at workload.sessions w.places region name) refl may)
     where
       go : (o : Option (Session × Place)) → session_at workload.sessions w.places region name ≡ o → MaySubmit cluster w region o
           → MaySubmit cluster v region o × (own workload (submitted cluster workload w region o) region ≡ own workload (submitted cluster workload v region o) region)
@@ -146,7 +166,7 @@ module _ {cluster : Cluster} {workload : Workload} (w v z : World) (gw : HasInva
   answer_local name may =
       subst (λ o. MayAnswer cluster v region o
       × (own workload (answered workload w region (session_at workload.sessions w.places region name)) region ≡ own workload (answered workload v region o) region))
-      (found name) (go (session_at workload.sessions w.places region name) refl may)
+      (session_same workload w v region same name) (go (session_at workload.sessions w.places region name) refl may)
     where
       go : (o : Option (Session × Place)) → session_at workload.sessions w.places region name ≡ o → MayAnswer cluster w region o
           → MayAnswer cluster v region o × (own workload (answered workload w region o) region ≡ own workload (answered workload v region o) region)
@@ -199,12 +219,8 @@ module _ {cluster : Cluster} {workload : Workload} (w v z : World) (gw : HasInva
 
   -- steps that the region makes by itself
 
-  logs_same : received_logs w region ≡ received_logs v region
-  logs_same =
-      received_up w z gw gz bw region lr ∙ ap (λ n. fronts (set n.received region (length n.log)) (logs_of z)) nodes ∙ sym (received_up v z gv gz bv region lr)
-
   may_same : (event : Event) → MayStep (received_logs w region) (node_at w region).here event → MayStep (received_logs v region) (node_at v region).here event
-  may_same event = subst₂ (λ l n. MayStep l n.here event) logs_same nodes
+  may_same event = subst₂ (λ l n. MayStep l n.here event) (logs_same w v z gw gv gz bw bv region lr nodes) nodes
 
   insert_local : (home : ℕ) → own workload (next cluster workload w (Insert region home)) region ≡ own workload (next cluster workload v (Insert region home)) region
   insert_local home =

@@ -58,7 +58,7 @@ impl<S: Scheduler + Drop> Node<S> {
         for link in 0..links {
             let packet = self.packet(
                 alloc,
-                other_region(me, link as u8),
+                other_region(me as usize, link) as u8,
                 packets.as_slice().last(),
             )?;
             packets.push(packet)?;
@@ -91,9 +91,9 @@ impl<S: Scheduler + Drop> Node<S> {
     }
 }
 
-/// The region at the other end of a link: the links are to all other regions, in ascending order.
-fn other_region(me: u8, link: u8) -> u8
-    requires { link < 255 }
+/// The region at the other end of a region's link of this number: the links are to all other regions, in ascending order.
+pub fn other_region(me: usize, link: usize) -> usize
+    requires { link + 1 < 2 ^ 64 }
     ensures { result ≡ other_at me link }
 {
     if link < me { link } else { link + 1 }

@@ -29,4 +29,5 @@ mod departures;
 mod node;
 mod sessions;
 
+pub use departures::other_region;
 pub use node::Node;

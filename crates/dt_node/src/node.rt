@@ -4,8 +4,6 @@ ghost use Rattle.dt_txn.specs.Replica.{IsDrained};
 ghost use Rattle.dt_region.specs.Rounds.{Continues};
 ghost use Rattle.dt_cluster.specs.Valid.{IsValidCluster};
 ghost use Rattle.dt_workload.specs.Valid.{IsValidWorkload};
-ghost use Rattle.dt_session.specs.World.{opening_table};
-ghost use Rattle.dt_site.specs.Site.{opening_site};
 ghost use Rattle.dt_node.specs.NodeView.{new_items, opening_node_of};
 ghost use Rattle.dt_node.specs.TurnPackets.{HasSent, LeavesNothingOut};
 ghost use Rattle.dt_node.specs.NodeInWorld.{NodeStands};
@@ -19,7 +17,7 @@ use dt_proc::Procs;
 use dt_region::{Region, Rounds};
 use dt_sched::Scheduler;
 use dt_session::Sessions;
-use dt_site::{Site, first_table, opening_of};
+use dt_site::{Site, first_site, opening_of};
 use dt_table::Opening;
 use dt_text::NoMemory;
 use dt_workload::Workload;
@@ -228,23 +226,6 @@ impl<S: Scheduler + Drop> Node<S> {
         let _number = self.site.region.number();
         made
     }
-}
-
-/// The site of the region of this number before anything happens.
-fn first_site<S: Scheduler>(
-    alloc: Global,
-    cluster: &Cluster,
-    first: &Opening,
-    region: u8,
-) -> Result<Site<S>, NoMemory>
-    requires cluster { IsValidCluster cluster.now }
-    requires homes { first.now.homes ≡ cluster.now.homes }
-    requires rows { first.now.rows ≡ cluster.now.rows }
-    requires region { region < cluster.now.regions }
-    ensures { IfOk result (λ site. site ≡ opening_site region cluster.now.regions (opening_table cluster.now)) }
-{
-    let table = first_table(alloc, cluster, first)?;
-    Site::new(alloc, region, cluster.regions, table)
 }
 
 /// A zero for each of n regions, twice: how far each region is known to have come with requests, and with a log.

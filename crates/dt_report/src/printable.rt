@@ -68,8 +68,7 @@ fn event_is_written(event: &Event)
             source,
             number,
         } => {
-            has_8_bits(*home);
-            has_8_bits(*source);
+            have_8_bits(*home, *source);
             has_32_bits(*number);
         }
         Event::Deliver {
@@ -78,15 +77,10 @@ fn event_is_written(event: &Event)
             first,
             last,
         } => {
-            has_8_bits(*region);
-            has_8_bits(*home);
-            has_32_bits(*first);
-            has_32_bits(*last);
+            have_8_bits(*region, *home);
+            have_32_bits(*first, *last);
         }
-        Event::Insert { region, home } => {
-            has_8_bits(*region);
-            has_8_bits(*home);
-        }
+        Event::Insert { region, home } => have_8_bits(*region, *home),
         Event::Resolve { region, ids } => {
             has_8_bits(*region);
             ids_are_small(ids.get().as_slice());
@@ -167,9 +161,25 @@ fn has_8_bits(_number: u8)
     ensures { _number < 2 ^ 8 }
 {}
 
+fn have_8_bits(first: u8, second: u8)
+    ensures first { first < 2 ^ 8 }
+    ensures second { second < 2 ^ 8 }
+{
+    has_8_bits(first);
+    has_8_bits(second);
+}
+
 fn has_32_bits(_number: u32)
     ensures { _number < 2 ^ 32 }
 {}
+
+fn have_32_bits(first: u32, second: u32)
+    ensures first { first < 2 ^ 32 }
+    ensures second { second < 2 ^ 32 }
+{
+    has_32_bits(first);
+    has_32_bits(second);
+}
 
 fn has_64_bits_and_a_sign(_number: i64)
     ensures { FitsSigned w64 _number }

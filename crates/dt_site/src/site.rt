@@ -1,15 +1,20 @@
+//! A site, and that of a region before anything happens.
 ghost use Rattle.std.specs.Prelude.{◌≡◌, ◌<◌, ◌≤◌, ◌-◌, length, get_or, IfOk, OnOk};
 ghost use Rattle.dt_txn.specs.Transaction.{BodyFits};
 ghost use Rattle.dt_region.specs.Region.{HasStamp};
 ghost use Rattle.dt_region.specs.Conditions.{IsTableFor};
 ghost use Rattle.dt_region.specs.Sound.{IsSoundRegion};
+ghost use Rattle.dt_cluster.specs.Valid.{IsValidCluster};
+ghost use Rattle.dt_session.specs.World.{opening_table};
 ghost use Rattle.dt_site.specs.Site.{MakesAttempt, opening_site};
 
+use crate::tables::first_table;
 use dt_access::TxnId;
+use dt_cluster::Cluster;
 use dt_proc::Procs;
 use dt_region::Region;
 use dt_sched::Scheduler;
-use dt_table::Table;
+use dt_table::{Opening, Table};
 use dt_text::{Name, NoMemory};
 use dt_txn::Body;
 use std::alloc::Global;
@@ -94,4 +99,23 @@ impl<S: Scheduler> Site<S> {
             Err(_) => unreachable!(),
         }
     }
+}
+
+/// The site of the region of this number before anything happens. It shares the homes and rows that the cluster lists with
+/// every other site that is made of them. It fails only when out of memory.
+pub fn first_site<S: Scheduler>(
+    alloc: Global,
+    cluster: &Cluster,
+    opening: &Opening,
+    number: u8,
+) -> Result<Site<S>, NoMemory>
+    requires cluster { IsValidCluster cluster.now }
+    requires homes { opening.now.homes ≡ cluster.now.homes }
+    requires rows { opening.now.rows ≡ cluster.now.rows }
+    requires number { number < cluster.now.regions }
+    ensures opening { IfOk result (λ site. site ≡ opening_site number cluster.now.regions (opening_table cluster.now)) }
+    ensures sound { IfOk result (λ site. IsSoundRegion site.region.state) }
+{
+    let table = first_table(alloc, cluster, opening)?;
+    Site::new(alloc, number, cluster.regions, table)
 }

@@ -15,8 +15,6 @@ ghost use Rattle.dt_workload.specs.Valid.{IsValidWorkload};
 ghost use Rattle.dt_workload.specs.declared.Workload.{Workload};
 ghost use Rattle.dt_session.specs.Step.{IsLegal, next, rule_of};
 ghost use Rattle.dt_session.specs.Run.{AreLegal, order_of, world_after};
-ghost use Rattle.dt_session.specs.World.{opening_table};
-ghost use Rattle.dt_site.specs.Site.{opening_site};
 ghost use Rattle.dt_world.specs.WorldInner.{IsNextOf, MayBeTold, opening_sites};
 ghost use Rattle.dt_world.specs.WorldReport.{IsOutcomeOf, IsReplyOf, IsToldBy, TextsTellOneRun, answered_name, report_of};
 ghost use Rattle.dt_world.specs.WorldSessions.{opening_sessions};
@@ -30,8 +28,7 @@ use dt_region::Region;
 use dt_report::Report;
 use dt_sched::Scheduler;
 use dt_session::Sessions;
-use dt_site::{Origin, Site, first_table, last_outcome, opening_of};
-use dt_table::Opening;
+use dt_site::{Origin, Site, first_site, last_outcome, opening_of};
 use dt_text::{Name, NoMemory};
 use dt_txn::{Body, Entry};
 use dt_workload::Workload;
@@ -432,24 +429,6 @@ fn sites<S: Scheduler + Drop>(alloc: Global, cluster: &Cluster) -> Result<Vec<Si
         sites.push(first_site(alloc, cluster, &opening, number)?)?;
     }
     Ok(sites)
-}
-
-/// The site of the region of this number before anything happens.
-fn first_site<S: Scheduler>(
-    alloc: Global,
-    cluster: &Cluster,
-    opening: &Opening,
-    number: u8,
-) -> Result<Site<S>, NoMemory>
-    requires cluster { IsValidCluster cluster.now }
-    requires homes { opening.now.homes ≡ cluster.now.homes }
-    requires rows { opening.now.rows ≡ cluster.now.rows }
-    requires number { number < cluster.now.regions }
-    ensures opening { IfOk result (λ site. site ≡ opening_site number cluster.now.regions (opening_table cluster.now)) }
-    ensures sound { IfOk result (λ site. IsSoundRegion site.region.state) }
-{
-    let table = first_table(alloc, cluster, opening)?;
-    Site::new(alloc, number, cluster.regions, table)
 }
 
 /// Each of some sites, lent.

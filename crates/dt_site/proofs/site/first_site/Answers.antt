@@ -1,6 +1,6 @@
 use Rattle.std.proofs.Common.{◌≡◌, IfOk, subst}
 use Rattle.dt_site.specs.Site.{SiteView, opening_site}
-use Rattle.dt_world.proofs.world.first_site.Goals as goal
+use Rattle.dt_site.proofs.site.first_site.Goals as goal
 
 pub returns-clause-opening : goal.returns-clause-opening
 returns-clause-opening g c =
