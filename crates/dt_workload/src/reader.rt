@@ -17,7 +17,7 @@ use std::alloc::Global;
 ///
 /// Its lines are `session NAME at REGION`, and `call PROC ARG ..` and `move KEY to REGION`, which belong to the session before
 /// them. The first word of a call or a move may end with `/` and a digit, which is its rank; without it the rank is 5. Blank
-/// lines and those that begin with `#` are skipped. The answer is the workload, or the first faulty line with its cause.
+/// lines and those that begin with `#`, maybe after spaces, are skipped. The answer is the workload, or the first faulty line with its cause.
 /// Within a line the causes are tried in this order: `Form`; for a session `Name`, `Twice`, `Region`, `TooMany`; for a
 /// call `NoSession`, `Proc`, `Args`, `Key`, `TooMany`; for a move `NoSession`, `Key`, `Region`, `TooMany`.
 /// That a file is too long is reported by whoever loads it.
