@@ -11,7 +11,7 @@ use Rattle.dt_report.specs.declared.Report.{Report}
 use Rattle.dt_report.specs.Report.{report_text}
 use Rattle.dt_gen.specs.Summary.{big_text, summary_of}
 use Rattle.dt_gen.proofs.Callers.{each_summary}
-use Rattle.dt_world.specs.WorldReport.{report_of}
+use Rattle.dt_world.specs.WorldReport.{report_of, IsToldBy}
 use Rattle.dt_command.specs.Tasks.{Run}
 use Rattle.dt_command.specs.TaskFiles.{Loaded}
 use Rattle.dt_command.specs.Headline.{BigRun, Headline}
@@ -21,9 +21,11 @@ use Rattle.dt_command.proofs.TextOrRefusal.{headline_of}
 module _ (cluster : Cluster) (workload : Workload) (report : Report) (is : IsReportOfRun cluster workload report) where
   -- the text of such a report makes the headline true
   run_headline : (told : _) (word name text : Bytes) → Loaded told (Run word name) cluster workload → IsValidCluster cluster → IsValidWorkload cluster workload
-      → text ≡ report_text report → Headline told (Run word name) (λ lines. text ≡ lines)
-  run_headline told word name text loaded valid fits written =
-      headline_of told (Run word name) (λ lines. text ≡ lines) cluster workload report.events loaded is.run valid fits is.legal (written ∙ ap report_text is.report_is)
+      → text ≡ report_text report → IsToldBy text report.events → Headline told (Run word name) (λ lines. text ≡ lines)
+  run_headline told word name text loaded valid fits written tells =
+      let as_reported : text ≡ report_text (report_of cluster workload report.events) = written ∙ ap report_text is.report_is in
+      headline_of told (Run word name) (λ lines. text ≡ lines) cluster workload report.events loaded is.run valid fits is.legal as_reported
+      (subst (λ lines. IsToldBy lines report.events) as_reported tells)
 
   -- and the summary of one of the load is known
   big_lines : (calls : ℕ) → calls ≤ 20000 → cluster ≡ load_cluster → workload ≡ load_workload calls → (text : Bytes) → text ≡ summary_of calls report
@@ -45,7 +47,7 @@ module _ (cluster : Cluster) (workload : Workload) (report : Report) (is : IsRep
 -- a text of a run makes the headline true
 pub text_headline : {cluster : Cluster} {workload : Workload} {text : Bytes} → IsTextOfRun cluster workload text → (told : _) (word name : Bytes) → Loaded told (Run word name) cluster workload
     → IsValidCluster cluster → IsValidWorkload cluster workload → Headline told (Run word name) (λ lines. text ≡ lines)
-text_headline {cluster} {workload} {text} t told word name loaded valid fits = run_headline cluster workload t.report t.told told word name text loaded valid fits t.text_is
+text_headline {cluster} {workload} {text} t told word name loaded valid fits = run_headline cluster workload t.report t.told told word name text loaded valid fits t.text_is t.tells
 
 -- the summary of a run of the load is what a big run reports
 pub big_told : {A E : Type 0} {cluster : Cluster} {workload : Workload} (calls : ℕ) → calls ≤ 20000 → cluster ≡ load_cluster → workload ≡ load_workload calls → (r : Result (Vec ℕ A) E)

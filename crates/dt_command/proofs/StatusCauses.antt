@@ -19,7 +19,7 @@ headline_more told task P Q more headline = record {
   loaded = headline.loaded;
   events = headline.events;
   given = headline.given;
-  reported = record { legal = headline.reported.legal; agree = headline.reported.agree; report = more _ headline.reported.report };
+  reported = record { legal = headline.reported.legal; agree = headline.reported.agree; report = more _ headline.reported.report; tells = headline.reported.tells };
 }
 
 done_more : (told : _) (task : Task) (P Q : Bytes → Type 0) → ((text : Bytes) → P text → Q text) → IsDone told task P → IsDone told task Q

@@ -9,7 +9,7 @@ use Rattle.dt_workload.specs.declared.Workload.{Workload}
 use Rattle.dt_workload.specs.Valid.{IsValidWorkload}
 use Rattle.dt_session.specs.Run.{AreLegal}
 use Rattle.dt_report.specs.Report.{report_text}
-use Rattle.dt_world.specs.WorldReport.{report_of}
+use Rattle.dt_world.specs.WorldReport.{report_of, IsToldBy}
 use Rattle.dt_agreement.specs.LegalRun.{IsLegalRun}
 use Rattle.dt_agreement.proofs.Callers.{legal_agree}
 use Rattle.dt_command.specs.declared.status.Status.{Status}
@@ -112,14 +112,14 @@ module _ {F A : Type 0} (seen : F → FolderView) (files files_after : F) (task 
 -- the headline of legal events: all regions agree on them
 pub headline_of : (told : Option Files) (task : Task) (Written : Bytes → Type 0) (cluster : Cluster) (workload : Workload) (events : List Event) → Loaded told task cluster workload
     → HasGiven told task cluster workload events → IsValidCluster cluster → IsValidWorkload cluster workload → AreLegal cluster workload events
-    → Written (report_text (report_of cluster workload events)) → Headline told task Written
-headline_of told task Written cluster workload events loaded given valid fits legal written = record {
+    → Written (report_text (report_of cluster workload events)) → IsToldBy (report_text (report_of cluster workload events)) events → Headline told task Written
+headline_of told task Written cluster workload events loaded given valid fits legal written tells = record {
   cluster = cluster;
   workload = workload;
   loaded = loaded;
   events = events;
   given = given;
-  reported = record { legal = legal; agree = legal_agree run; report = written };
+  reported = record { legal = legal; agree = legal_agree run; report = written; tells = tells };
 }
   where
     run : IsLegalRun cluster workload events
@@ -173,11 +173,13 @@ module _ {F A : Type 0} (seen : F → FolderView) (files files_after : F) (told 
   pub replayed_text : (r : Result (Vec ℕ A) Status) → IsValidCluster cluster → IsValidWorkload cluster workload
       → IfOk r (λ _. AreLegal cluster workload (unnumbered events))
       → IfOk r (λ text. text.items ≡ report_text (report_of cluster workload (unnumbered events)))
+      → IfOk r (λ text. IsToldBy text.items (unnumbered events))
       → ((status : Status) → r ≡ Err status → IsStepRefusal cluster workload events status)
       → IsTextOf seen files files_after r (Replay word name list)
-  replayed_text (Ok text) valid fits legal written refused =
+  replayed_text (Ok text) valid fits legal written tells refused =
       made_text seen files files_after (Replay word name list) (no_size word name list) told (Ok text) text refl
-      (headline_of (seen files).told (Replay word name list) (λ report. text.items ≡ report) cluster workload (unnumbered events) loaded (events, all, refl) valid fits legal written)
+      (headline_of (seen files).told (Replay word name list) (λ report. text.items ≡ report) cluster workload (unnumbered events) loaded (events, all, refl) valid fits legal written
+      (subst (λ lines. IsToldBy lines (unnumbered events)) written tells))
       (record {
         cluster = cluster;
         workload = workload;
@@ -186,6 +188,6 @@ module _ {F A : Type 0} (seen : F → FolderView) (files files_after : F) (told 
         events_file = all;
         legal = legal;
       })
-  replayed_text (Err status) valid fits legal written refused =
+  replayed_text (Err status) valid fits legal written tells refused =
       refused_text seen files files_after (Replay word name list) (no_size word name list) told (Err status) status refl
       (not_legal (seen files) word name list cluster workload loaded events all (seen files_after) status (refused status refl))

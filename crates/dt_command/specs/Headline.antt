@@ -18,16 +18,18 @@ use Rattle.dt_session.specs.Agreement.{Agree}
 use Rattle.dt_gen.specs.Load.{load_cluster, load_workload}
 use Rattle.dt_report.specs.Report.{report_text}
 use Rattle.dt_gen.specs.Summary.{big_text, summary_of}
-use Rattle.dt_world.specs.WorldReport.{report_of}
+use Rattle.dt_world.specs.WorldReport.{report_of, IsToldBy}
 use Rattle.dt_command.specs.Tasks.{Task, Replay, Run, Big}
 use Rattle.dt_command.specs.TaskFiles.{Loaded, HasEvents, unnumbered}
 
 -- what is reported: each event is legal after those before it; all regions agree on outcomes, tables, the order of an attempt
--- that was answered before another was submitted, and causes; and the report of these events was written
+-- that was answered before another was submitted, and causes; the report of these events was written; and its text tells of no
+-- other events
 pub record Reported (cluster : Cluster) (workload : Workload) (events : List Event) (Written : Bytes → Type 0) : Type 0 where
   pub legal : AreLegal cluster workload events
   pub agree : Agree cluster workload events
   pub report : Written (report_text (report_of cluster workload events))
+  pub tells : IsToldBy (report_text (report_of cluster workload events)) events
 
 -- what a run makes: after these events every call is answered and every attempt executed everywhere; each of them changed
 -- something, and every region began by submitting the first call of each of its sessions

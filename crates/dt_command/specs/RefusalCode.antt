@@ -20,7 +20,7 @@ use Rattle.dt_session.specs.Run.{AreLegal}
 use Rattle.dt_report.specs.declared.Report.{Report}
 use Rattle.dt_report.specs.Report.{report_text}
 use Rattle.dt_gen.specs.Summary.{summary_of}
-use Rattle.dt_world.specs.WorldReport.{report_of}
+use Rattle.dt_world.specs.WorldReport.{report_of, IsToldBy}
 use Rattle.dt_world.specs.declared.StepError.{StepError}
 use Rattle.dt_world.specs.declared.StepError.TheVariants.{Illegal}
 use Rattle.dt_world.specs.declared.StepError.TheVariants as step
@@ -91,11 +91,12 @@ pub record IsReportOfRun (cluster : Cluster) (workload : Workload) (report : Rep
   pub run : AreOfARun cluster workload report.events
   pub report_is : report ≡ report_of cluster workload report.events
 
--- the text of such a report
+-- the text of such a report, which tells of no other events than those of this report
 pub record IsTextOfRun (cluster : Cluster) (workload : Workload) (text : Bytes) : Type 0 where
   pub report : Report
   pub told : IsReportOfRun cluster workload report
   pub text_is : text ≡ report_text report
+  pub tells : IsToldBy text report.events
 
 -- the summary of such a report, for a workload of n calls
 pub record IsSummaryOfRun (cluster : Cluster) (workload : Workload) (calls : ℕ) (text : Bytes) : Type 0 where

@@ -4,7 +4,7 @@ ghost use Rattle.dt_cluster.specs.Valid.{IsValidCluster};
 ghost use Rattle.dt_workload.specs.Valid.{IsValidWorkload};
 ghost use Rattle.dt_session.specs.Run.{AreLegal, world_after};
 ghost use Rattle.dt_report.specs.Report.{report_text};
-ghost use Rattle.dt_world.specs.WorldReport.{report_of};
+ghost use Rattle.dt_world.specs.WorldReport.{report_of, IsToldBy};
 ghost use Rattle.dt_command.specs.TaskCode.{IsRight, asked_for};
 ghost use Rattle.dt_command.specs.TaskFiles.{file_limit, unnumbered};
 ghost use Rattle.dt_command.specs.RefusalCode.{IsStepRefusal, IsTextOf, refusal_of};
@@ -48,6 +48,7 @@ fn report_of(
     requires few { length events.items ≤ file_limit }
     ensures legal { IfOk result (λ _. AreLegal cluster workload (unnumbered events.items)) }
     ensures report { IfOk result (λ text. text.items ≡ report_text (report_of cluster workload (unnumbered events.items))) }
+    ensures told { IfOk result (λ text. IsToldBy text.items (unnumbered events.items)) }
     ensures refused { (status : _) → result ≡ Err status → IsStepRefusal cluster workload events.items status }
 {
     let (lines, events) = apart(alloc, events)?;

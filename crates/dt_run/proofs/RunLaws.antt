@@ -19,6 +19,7 @@ use Rattle.dt_session.specs.Run.{AreLegal, world_after}
 use Rattle.dt_session.specs.World.{World, Node, Place, node_at, opening_table, opening_world, session_at}
 use Rattle.dt_report.specs.declared.Report.{Report}
 use Rattle.dt_report.specs.Report.{report_text}
+use Rattle.dt_report.specs.Printable.{IsPrintable}
 use Rattle.dt_agreement.proofs.Callers.{each_found, places_parallel}
 use Rattle.dt_merge.specs.Merge.{region_at, those_at}
 use Rattle.dt_merge.specs.WorldRegions.{HasInvariant}
@@ -143,6 +144,7 @@ module _ {v : NodesView} (n : AreNodes v) (sound : v.broken ≡ false) (some : 1
 
   -- and so is its text
   pub text_told : {A : Type 0} (answer : Result (Vec ℕ A) NoMemory) → IfOk answer (λ text. text.items ≡ report_text (report_of v.cluster v.workload events))
-      → IfOk answer (λ text. IsRunText v text.items)
-  text_told (Ok text) is = record { report = report_of v.cluster v.workload events; told = run_report _ refl; text_is = is }
-  text_told (Err e) is = tt
+      → IfOk answer (λ text. IsPrintable (report_of v.cluster v.workload events)) → IfOk answer (λ text. IsRunText v text.items)
+  text_told (Ok text) is printable =
+      record { report = report_of v.cluster v.workload events; told = run_report _ refl; text_is = is; tells = (v.cluster, v.workload, is, printable) }
+  text_told (Err e) is printable = tt

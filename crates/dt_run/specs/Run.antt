@@ -11,7 +11,7 @@ use Rattle.dt_session.specs.Run.{AreLegal}
 use Rattle.dt_text.specs.Texts.{Bytes}
 use Rattle.dt_report.specs.declared.Report.{Report}
 use Rattle.dt_report.specs.Report.{report_text}
-use Rattle.dt_world.specs.WorldReport.{report_of}
+use Rattle.dt_world.specs.WorldReport.{report_of, IsToldBy}
 use Rattle.dt_gen.specs.Summary.{summary_of}
 use Rattle.dt_run.specs.NodesView.{NodesView, kept_by}
 
@@ -33,11 +33,12 @@ pub record IsRunReport (v : NodesView) (report : Report) : Type 0 where
   pub run : IsRun v report.events
   pub report_is : report ≡ report_of v.cluster v.workload report.events
 
--- the text is that of such a report
+-- the text is that of such a report, and tells of no other events than those of this report
 pub record IsRunText (v : NodesView) (text : Bytes) : Type 0 where
   pub report : Report
   pub told : IsRunReport v report
   pub text_is : text ≡ report_text report
+  pub tells : IsToldBy text report.events
 
 -- the text is the summary of such a report, for a workload of n calls
 pub record IsRunSummary (v : NodesView) (calls : ℕ) (text : Bytes) : Type 0 where

@@ -21,4 +21,4 @@ returns g c =
     (text_told c.self.invariant.seated.nodes (subst (λ (v : NodesView). v.broken ≡ false) (sym c.self.view_is) c.requires.sound)
     (subst (λ (v : NodesView). 1 ≤ length (marks_at v 0)) (sym c.self.view_is) c.requires.phases) (subst IsAllDone (sym c.self.view_is) c.requires.done)
     (subst (λ (v : NodesView). AreMerged (kept_by v.nodes) c.as_slice-3.result.now) (sym c.self.view_is) (subst (AreMerged _) (sym c.as_slice-3.ensures.value) c.in_ok-merged.ensures))
-    c.text_of_sites.result c.text_of_sites.ensures.text)
+    c.text_of_sites.result c.text_of_sites.ensures.text c.text_of_sites.ensures.printable)
