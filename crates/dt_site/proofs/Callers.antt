@@ -10,4 +10,5 @@ pub use Rattle.dt_site.proofs.Rule2Append.{append_legal, append_made, append_sti
 pub use Rattle.dt_site.proofs.Rule3Deliver.{apart, can_deliver, deliver_legal, deliver_made, deliver_still, has_received, joins, joins_from, joins_to}
 pub use Rattle.dt_site.proofs.OwnSteps.{insert_made, insert_refused, resolve_made, resolve_refused, execute_made, execute_refused}
 pub use Rattle.dt_site.proofs.Rule7Answer.{Answers, answer_elsewhere, answer_legal, answer_made}
-pub use Rattle.dt_site.proofs.SessionsStand.{StandsElsewhere, last_in, may_answer, may_be_answered, may_go, may_submit, numbers_are, kept_here, opening_sessions_stand, others_sessions, places_are, seat_alike, seat_changed, sessions_changed, sessions_stay}
+pub use Rattle.dt_site.proofs.SessionsStand.{last_in, may_answer, may_be_answered, may_go, may_submit, numbers_are, kept_here, opening_sessions_stand, places_are}
+pub use Rattle.dt_site.proofs.SessionsStand.{StandsElsewhere, others_sessions, seat_alike, seat_changed, sessions_changed, sessions_stay}

@@ -19,7 +19,7 @@ use Rattle.dt_site.proofs.Callers.{AsksFor, append_legal, append_made, append_st
 use Rattle.dt_world.specs.WorldSessions.{WorldSessions, places_in}
 use Rattle.dt_world.specs.WorldInner.{IsLawful, site_at, world_of}
 use Rattle.dt_world.proofs.OneSite.{same_sites}
-use Rattle.dt_world.proofs.WorldLaws.{IsBehind, IsMade, node_is, short, step_made, still_made}
+use Rattle.dt_world.proofs.WorldLaws.{HoldsSite, IsBehind, IsMade, node_is, short, step_made, still_made}
 
 -- what the call has in hand: an id that the source asked the home to place as this request, and its transaction, which the
 -- source holds
@@ -49,30 +49,38 @@ module _ {sites : List SiteView} {source : ℕ} {r : RegionView} {origins : List
     found = sym (ap (λ (x : RegionView). held x.state (id_in list number)) b.region_is) ∙ sym found ∙ ap Some (sym same);
   }
 
-module _ {cluster : Cluster} {sessions : WorldSessions} {sites : List SiteView} {steps : ℕ} (k : IsLawful cluster sessions sites steps) {home source : ℕ} (lh : home < cluster.regions) (ls : source < cluster.regions)
-    {number : ℕ} {txn : Txn} (request : HoldsRequest sites home source number txn) where
+module _ {cluster : Cluster} {sessions : WorldSessions} {sites : List SiteView} {steps home : ℕ} {r : RegionView} {origins : List Origin} (at : HoldsSite cluster sessions sites steps home r origins)
+    {source : ℕ} (ls : source < cluster.regions) {number : ℕ} {txn : Txn} (request : HoldsRequest sites home source number txn) where
+  abbrev k : IsLawful cluster sessions sites steps
+  k = at.lawful
+
+  abbrev lh : home < cluster.regions
+  lh = at.there
+
+  abbrev b : IsBehind sites home r origins
+  b = at.site
+
   asked_for : AsksFor (world_of sites (places_in sessions)) source home number txn
   asked_for = asks_for k.reached lh ls (k.stands source ls) number request.wants request.found
 
-  module _ {r : RegionView} {origins : List Origin} (b : IsBehind sites home r origins) where
-    pub can_place : steps + 1 < 4294967296 → CanAppend r.state source number txn
-    can_place few = subst (λ x. CanAppend x.state source number txn) (sym b.region_is)
-        (can_append k.reached lh (k.stands home lh) ls asked_for (omega (arith, (short k).parts, few)))
+  pub can_place : steps + 1 < 4294967296 → CanAppend r.state source number txn
+  can_place few = subst (λ x. CanAppend x.state source number txn) (sym b.region_is)
+      (can_append k.reached lh (k.stands home lh) ls asked_for (omega (arith, (short k).parts, few)))
 
-    pub append_done : (later : RegionView) (on : Bool) → MakesAppend r source number txn (Ok on) later → IsSoundRegion later.state
-        → IsMade cluster sessions sites steps (Append home source number) sessions (set sites home (record { region = later; origins = origins }))
-    append_done later true m sound =
-        let m' = subst (λ x. MakesAppend x source number txn (Ok true) later) b.region_is m in
-        subst (λ q. IsMade cluster sessions sites steps (Append home source number) sessions (set sites home q)) (sym (b.site_is later))
-        (step_made k (Append home source number) lh (append_made k.reached lh (k.stands home lh) ls asked_for later m' sound) refl
-        (is_turn k.reached lh (k.stands home lh) ls asked_for m'.0))
-    append_done later false m sound =
-        let m' = subst (λ x. MakesAppend x source number txn (Ok false) later) b.region_is m in
-        let other : eqb number (taken_of (world_of sites (places_in sessions)) home source) ≡ false =
-        false_from_ne_true (eqb number (taken_of (world_of sites (places_in sessions)) home source))
-        (λ t. m'.0 (eqb-true number (taken_of (world_of sites (places_in sessions)) home source) t ∙ ap (λ n. taken_from n.here source) (node_is k home))) in
-        subst (λ l. IsMade cluster sessions sites steps (Append home source number) sessions l) (sym (same_sites k lh b later (m'.1 ∙ sym b.region_is)))
-        (still_made k (Append home source number) (append_legal k.reached lh (k.stands home lh) ls asked_for) (append_still k.reached lh (k.stands home lh) ls asked_for m'.0) other)
+  pub append_done : (later : RegionView) (on : Bool) → MakesAppend r source number txn (Ok on) later → IsSoundRegion later.state
+      → IsMade cluster sessions sites steps (Append home source number) sessions (set sites home (record { region = later; origins = origins }))
+  append_done later true m sound =
+      let m' = subst (λ x. MakesAppend x source number txn (Ok true) later) b.region_is m in
+      subst (λ q. IsMade cluster sessions sites steps (Append home source number) sessions (set sites home q)) (sym (b.site_is later))
+      (step_made k (Append home source number) lh (append_made k.reached lh (k.stands home lh) ls asked_for later m' sound) refl
+      (is_turn k.reached lh (k.stands home lh) ls asked_for m'.0))
+  append_done later false m sound =
+      let m' = subst (λ x. MakesAppend x source number txn (Ok false) later) b.region_is m in
+      let other : eqb number (taken_of (world_of sites (places_in sessions)) home source) ≡ false =
+      false_from_ne_true (eqb number (taken_of (world_of sites (places_in sessions)) home source))
+      (λ t. m'.0 (eqb-true number (taken_of (world_of sites (places_in sessions)) home source) t ∙ ap (λ n. taken_from n.here source) (node_is k home))) in
+      subst (λ l. IsMade cluster sessions sites steps (Append home source number) sessions l) (sym (same_sites at later (m'.1 ∙ sym b.region_is)))
+      (still_made k (Append home source number) (append_legal k.reached lh (k.stands home lh) ls asked_for) (append_still k.reached lh (k.stands home lh) ls asked_for m'.0) other)
 
 -- what was not asked for cannot be placed
 pub append_not : {cluster : Cluster} {sessions : WorldSessions} {sites : List SiteView} {steps : ℕ} → IsLawful cluster sessions sites steps → (home source number : ℕ)

@@ -22,7 +22,7 @@ use Rattle.dt_site.proofs.Callers.{Answers, StandsElsewhere, answer_elsewhere, a
 use Rattle.dt_world.specs.WorldInner.{IsLawful, MayBeTold, sessions_of, site_at, view_in, world_of}
 use Rattle.dt_world.specs.WorldSessions.{WorldSessions, places_in}
 use Rattle.dt_world.proofs.WorldFacts.{end_told, sessions_at_place}
-use Rattle.dt_world.proofs.WorldLaws.{IsBehind, IsMade, a_site, behind, sessions_made}
+use Rattle.dt_world.proofs.WorldLaws.{HoldsSite, IsBehind, IsMade, a_site, behind, sessions_made}
 
 module _ {cluster : Cluster} {sessions : WorldSessions} {sites : List SiteView} {steps : ℕ} (k : IsLawful cluster sessions sites steps) {region : ℕ} (lr : region < cluster.regions) (name : Bytes) where
   abbrev w : World
@@ -74,9 +74,18 @@ module _ {cluster : Cluster} {sessions : WorldSessions} {sites : List SiteView} 
       go (Some (session, place)) e x = let answers : Answers cluster sessions.workload w region name session place = record { found = e; may = x } in done_here answers b after m
 
 -- the region's site kept the event, and the sessions of the region are those at its place
-module _ {cluster : Cluster} {sessions : WorldSessions} {sites : List SiteView} {steps : ℕ} (k : IsLawful cluster sessions sites steps) {region : ℕ} (lr : region < cluster.regions)
-    (name : Bytes) (may : MayBeTold (view_in cluster sessions sites steps) region name) {r : RegionView} {origins : List Origin} (b : IsBehind sites region r origins)
-    (after : RegionView) (m : MakesAnswer r name (Ok tt) after) (s : SessionsView) (s_at : s ≡ get_or sessions.by_region region s) where
+module _ {cluster : Cluster} {sessions : WorldSessions} {sites : List SiteView} {steps region : ℕ} {r : RegionView} {origins : List Origin} (at : HoldsSite cluster sessions sites steps region r origins)
+    (name : Bytes) (may : MayBeTold (view_in cluster sessions sites steps) region name) (after : RegionView) (m : MakesAnswer r name (Ok tt) after)
+    (s : SessionsView) (s_at : s ≡ get_or sessions.by_region region s) where
+  abbrev k : IsLawful cluster sessions sites steps
+  k = at.lawful
+
+  abbrev lr : region < cluster.regions
+  lr = at.there
+
+  abbrev b : IsBehind sites region r origins
+  b = at.site
+
   abbrev q : SiteView
   q = record { region = after; origins = origins }
 
