@@ -1,8 +1,6 @@
 -- The node places what it asked of its own region: it holds what it asked, and each request that it places leaves one less.
 use Rattle.std.proofs.Common.{◌≡◌, ◌≤◌, ℕ, Bool, true, false, List, [], length, get_or, slice_get, Result, Ok, Err, Some, refl, sym, subst, arith}
 use Rattle.dt_text.specs.declared.NoMemory.{NoMemory}
-use Rattle.dt_lists.specs.Lists.{Has}
-use Rattle.dt_lists.proofs.Callers.{has_place}
 use Rattle.dt_access.specs.declared.TxnId.{TxnId}
 use Rattle.dt_events.specs.declared.Event.{Event}
 use Rattle.dt_proc.specs.Tree.{ProcTree}
@@ -14,11 +12,10 @@ use Rattle.dt_region.specs.Rules.{MakesAppend}
 use Rattle.dt_region.specs.Sound.{IsSoundRegion}
 use Rattle.dt_cluster.specs.declared.Cluster.{Cluster}
 use Rattle.dt_workload.specs.declared.Workload.{Workload}
-use Rattle.dt_session.specs.World.{World, Node, asked_of, txn_of}
+use Rattle.dt_session.specs.World.{Node}
 use Rattle.dt_session.specs.Run.{world_after}
-use Rattle.dt_agreement.proofs.Callers.{IsRequest, request_is, txn_id}
 use Rattle.dt_site.specs.Site.{in_region}
-use Rattle.dt_site.proofs.Callers.{attempts_have, find_some, inv, order}
+use Rattle.dt_site.proofs.Callers.{AsksFor, asked_held, asks_for, inv}
 use Rattle.dt_node.specs.NodeView.{NodeView, number_of}
 use Rattle.dt_node.specs.NodeInWorld.{NodeFits}
 use Rattle.dt_node.specs.Turn.{HasPlacedOwn}
@@ -43,42 +40,25 @@ own_placed {a} c number is le = let within = own_within c.can.fits in omega (ari
 -- the request of this number
 module _ {cluster : Cluster} {workload : Workload} {events : List Event} {a : NodeView} (f : NodeFits cluster workload events a) (number : ℕ) (id : TxnId)
     (wanted : slice_get (get_or a.site.region.state.here.asked (number_of a) []) number ≡ Some id) where
-  abbrev w : World
-  w = world_after cluster workload events
-
-  wants : slice_get (asked_of w (number_of a) (number_of a)) number ≡ Some id
-  wants = subst (λ (n : Node). slice_get (get_or n.here.asked (number_of a) []) number ≡ Some id) f.site.node wanted
-
-  request : IsRequest w (number_of a) (number_of a) id
-  request = request_is cluster workload w (order (reached f)) (number_of a) (number_of a) f.number f.number (inv (reached f)) id (has_place (asked_of w (number_of a) (number_of a)) number id wants)
-
   -- its transaction is held, where it was submitted
   pub own_held : (txn : Txn) × (held a.site.region.state id ≡ Some txn)
-  own_held = subst (λ x. (txn : Txn) × (held a.site.region.state x ≡ Some txn)) request.same
-      (find_some a.site.region.state.submitted a.site.region.state.foreign request.submission.txn
-      (attempts_have a.site.region.state.submitted a.site.origins request.submission (subst (λ (n : Node). Has n.submitted request.submission) (sym f.site.node) request.there)))
+  own_held = asked_held (reached f) f.number f.number f.site number wanted
 
-  module _ (txn : Txn) (is_held : held a.site.region.state id ≡ Some txn) where
-    its_id : txn.id ≡ id
-    its_id = txn_id w id txn (f.site.known id txn is_held)
-
-    pub own_wants : slice_get (asked_of w (number_of a) (number_of a)) number ≡ Some txn.id
-    own_wants = subst (λ x. slice_get (asked_of w (number_of a) (number_of a)) number ≡ Some x) (sym its_id) wants
-
-    pub own_found : txn_of w txn.id ≡ Some txn
-    own_found = subst (λ x. txn_of w x ≡ Some txn) (sym its_id) (f.site.known id txn is_held)
+  -- and it asks for the one that is held
+  own_asks : {txn : Txn} → held a.site.region.state id ≡ Some txn → AsksFor (world_after cluster workload events) (number_of a) (number_of a) number txn
+  own_asks is_held = asks_for (reached f) f.number f.number f.site number wanted is_held
 
 module _ {a : NodeView} (c : CanTake [] a) (number : ℕ) (id : TxnId) (wanted : slice_get (get_or a.site.region.state.here.asked (number_of a) []) number ≡ Some id) (txn : Txn)
     (is_held : held a.site.region.state id ≡ Some txn) where
   -- it may be placed
   pub may_place_own : CanAppend a.site.region.state (number_of a) number txn
-  may_place_own = can_place c.can.fits c.can.fits.number number txn (own_wants c.can.fits number id wanted txn is_held) (own_found c.can.fits number id wanted txn is_held) (one_more c.can)
+  may_place_own = can_place c.can.fits c.can.fits.number (own_asks c.can.fits number id wanted is_held) (one_more c.can)
 
   -- and how that ends
 
   pub own_ends : {procs : List ProcTree} (result : Result Bool NoMemory) (r : RegionView) → MakesAppend a.site.region (number_of a) number txn result r → IsSoundRegion r.state
       → MovesOn procs [] a (record a { site = in_region a.site r })
   own_ends (Ok true) r m sound = place_moves (number_of a) number txn r m []
-      (λ cluster workload events p f t. place_goes f f.number number txn (own_wants f number id wanted txn is_held) (own_found f number id wanted txn is_held) r m sound) (λ apart. absurd (apart refl))
+      (λ cluster workload events p f t. place_goes f f.number (own_asks f number id wanted is_held) r m sound) (λ apart. absurd (apart refl))
   own_ends {procs} (Ok false) r m sound = subst (λ (x : RegionView). MovesOn procs [] a (record a { site = in_region a.site x })) (sym m.1) (made_nothing a)
   own_ends {procs} (Err e) r m sound = subst (λ (x : RegionView). MovesOn procs [] a (record a { site = in_region a.site x })) (sym m) (made_nothing a)

@@ -1,6 +1,6 @@
 -- A request that a packet brought is placed, and entries that it brought are received: what the calls ask for, and how they end.
 use Rattle.std.proofs.Common.{◌≡◌, ◌<◌, ◌≤◌, ◌+◌, ◌-◌, ℕ, Bool, true, false, List, [], ◌∷◌, length, map}
-use Rattle.std.proofs.Common.{slice_get, Result, Ok, Err, Some, refl, sym, ap, subst, ◌∙◌, inl, arith}
+use Rattle.std.proofs.Common.{Result, Ok, Err, refl, sym, ap, subst, ◌∙◌, inl, arith}
 use Rattle.std.proofs.lemmas.Bool.Decides.{nat_tests}
 use Rattle.std.proofs.lemmas.List.{get_or-set_same, length-map, length-append, length-drop}
 use Rattle.dt_text.specs.declared.NoMemory.{NoMemory}
@@ -22,6 +22,7 @@ use Rattle.dt_workload.specs.declared.Workload.{Workload}
 use Rattle.dt_session.specs.World.{asked_of}
 use Rattle.dt_session.specs.Run.{world_after}
 use Rattle.dt_site.specs.Site.{in_region}
+use Rattle.dt_site.proofs.Callers.{AsksFor}
 use Rattle.dt_node.specs.NodeView.{NodeView, number_of}
 use Rattle.dt_node.specs.NodeInWorld.{AreTold}
 use Rattle.dt_node.specs.Steps.{receipt}
@@ -35,10 +36,12 @@ use Rattle.dt_node.proofs.Rule2Append.{can_place, first_of_rest, place_goes}
 use Rattle.dt_node.proofs.CallConditions.{one_more}
 
 -- the request that such a packet asks for
-wanted : {cluster : Cluster} {workload : Workload} {events : List Event} {a : NodeView} (source number : ℕ) (txn : Txn) → AreTold cluster workload events (asking_packet a source number (txn ∷ []) ∷ []) a
-    → slice_get (asked_of (world_after cluster workload events) source (number_of a)) number ≡ Some txn.id
-wanted {cluster} {workload} {events} {a} source number txn t =
-    (first_of_rest number (number + 1) (asked_of (world_after cluster workload events) source (number_of a)) txn.id [] (sym t.told.0.asked)).0
+asked : {cluster : Cluster} {workload : Workload} {events : List Event} {a : NodeView} (source number : ℕ) (txn : Txn) → AreTold cluster workload events (asking_packet a source number (txn ∷ []) ∷ []) a
+    → AsksFor (world_after cluster workload events) source (number_of a) number txn
+asked {cluster} {workload} {events} {a} source number txn t = record {
+  wants = (first_of_rest number (number + 1) (asked_of (world_after cluster workload events) source (number_of a)) txn.id [] (sym t.told.0.asked)).0;
+  found = t.told.0.asked_txns.0;
+}
 
 module _ {a : NodeView} (source number : ℕ) (txn : Txn) (c : CanTake (asking_packet a source number (txn ∷ []) ∷ []) a) where
   -- what the call asks for
@@ -47,14 +50,14 @@ module _ {a : NodeView} (source number : ℕ) (txn : Txn) (c : CanTake (asking_p
   source_there = subst (λ n. source < n) (sym c.can.fits.site.many) c.can.told.addressed.0.source
 
   pub may_place : CanAppend a.site.region.state source number txn
-  may_place = can_place c.can.fits c.can.told.addressed.0.source number txn (wanted {a = a} source number txn c.can.told) c.can.told.told.0.asked_txns.0 (one_more c.can)
+  may_place = can_place c.can.fits c.can.told.addressed.0.source (asked {a = a} source number txn c.can.told) (one_more c.can)
 
   -- and how it ends
 
   pub place_ends : {procs : List ProcTree} (result : Result Bool NoMemory) (r : RegionView) → MakesAppend a.site.region source number txn result r → IsSoundRegion r.state
       → MovesOn procs (asking_packet a source number (txn ∷ []) ∷ []) a (record a { site = in_region a.site r })
   place_ends (Ok true) r m sound = place_moves source number txn r m (asking_packet a source number (txn ∷ []) ∷ [])
-      (λ cluster workload events p f t. place_goes f t.addressed.0.source number txn (wanted {a = a} source number txn t) t.told.0.asked_txns.0 r m sound)
+      (λ cluster workload events p f t. place_goes f t.addressed.0.source (asked {a = a} source number txn t) r m sound)
       (λ apart. inl (record {
         to_home = refl;
         from_source = refl;

@@ -1,6 +1,6 @@
 -- A session submits its next attempt, as the node's sessions allow it, and waits for it.
-use Rattle.std.proofs.Common.{◌≡◌, ◌≢◌, ◌<◌, ◌≤◌, ◌+◌, ◌-◌, ℕ, List, [], ◌∷◌, ◌++◌, length, slice_get, Ok, Some, None, refl, sym, ap, subst, ◌∙◌, arith}
-use Rattle.std.specs.Prelude.{Option, IsSome, option_and_then, option_map}
+use Rattle.std.proofs.Common.{◌≡◌, ◌≢◌, ◌<◌, ◌≤◌, ◌+◌, ◌-◌, ℕ, List, [], ◌∷◌, ◌++◌, length, slice_get, Ok, Some, refl, sym, ap, subst, ◌∙◌, arith}
+use Rattle.std.specs.Prelude.{IsSome, option_and_then, option_map}
 use Rattle.std.proofs.lemmas.List.{length_push}
 use Rattle.std.proofs.lemmas.Option.{same_Some}
 use Rattle.dt_lists.proofs.Callers.{all_get, has_place}
@@ -15,8 +15,8 @@ use Rattle.dt_cluster.specs.declared.Cluster.{Cluster}
 use Rattle.dt_workload.specs.declared.Workload.{Workload}
 use Rattle.dt_workload.specs.Valid.{IsValidSession, RankedFits}
 use Rattle.dt_session.specs.declared.sessions.Seat.{Seat}
-use Rattle.dt_session.specs.Sessions.{MayGo, after_wait, attempt_next, numbers_next, seat_of, waiting, wanted_of}
-use Rattle.dt_session.specs.World.{World, Place, node_at, with_place}
+use Rattle.dt_session.specs.Sessions.{MayGo, after_wait, numbers_next, seat_of, waiting, wanted_of}
+use Rattle.dt_session.specs.World.{World, node_at, with_place}
 use Rattle.dt_session.specs.Step.{IsLegal, MaySubmit, MayTry, awaited_at, body_of, next, next_attempt, ranked_body, upcoming_id}
 use Rattle.dt_session.specs.Run.{world_after}
 use Rattle.dt_agreement.proofs.Callers as agreed
@@ -25,7 +25,7 @@ use Rattle.dt_site.specs.SessionsStandIn.{SessionsStandIn, seat_in}
 use Rattle.dt_site.specs.Site.{SiteView, MakesAttempt}
 use Rattle.dt_site.specs.StandsIn.{IsReached}
 use Rattle.dt_site.proofs.Callers.{HasShortLists, Steps, Submits, after_more, fits_region, ids, inv, kept_here, legal_short}
-use Rattle.dt_site.proofs.Callers.{many_here, numbers_are, order, origin_for, places_then, run_more, sessions_changed, submit_legal, submit_made, waits_next}
+use Rattle.dt_site.proofs.Callers.{many_here, numbers_are, order, origin_for, run_more, sessions_changed, submit_elsewhere, submit_legal, submit_made, waits_as}
 use Rattle.dt_node.specs.NodeView.{NodeView, number_of}
 use Rattle.dt_node.specs.NodeInWorld.{NodeFits}
 use Rattle.dt_node.specs.Turn.{GoesAfter, last_at}
@@ -138,25 +138,10 @@ module _ {cluster : Cluster} {workload : Workload} {events : List Event} {a : No
       id_is : id ≡ upcoming_id w (number_of a)
       id_is = of_call.0 ∙ ids k f.number f.site submits_it
 
-      abbrev now : Place
-      now = record on.place { waits = Some (upcoming_id w (number_of a)) }
-
-      moved : (next cluster workload w (Submit (number_of a) name)).places ≡ with_place workload.sessions w.places (number_of a) name now
-      moved = places_then k f.number f.site submits_it ∙ ap (λ n. with_place workload.sessions w.places (number_of a) n now) on.named
-
-      waits_as : waiting (seat_in w (on.session, on.place)) (upcoming_id w (number_of a)) ≡ seat_in (next cluster workload w (Submit (number_of a) name)) (on.session, now)
-      waits_as =
-          let number : attempt_next (seat_in w (on.session, on.place)) ≡ next_attempt w on.place.waits = go on.place.waits in
-          let same = number ∙ sym (waits_next k f.number f.site submits_it) in
-          λ j. record { calls = on.session.calls; answered = on.place.answered; waits = Some (record { id = upcoming_id w (number_of a); attempt = same j }) }
-        where
-          go : (waits : Option TxnId) → attempt_next (seat_in w (on.session, record { answered = on.place.answered; waits = waits })) ≡ next_attempt w waits
-          go None = refl
-          go (Some x) = refl
-
       standing : SessionsStandIn cluster workload (next cluster workload w (Submit (number_of a) name)) (number_of a) (after_wait a.sessions name id)
       standing = subst (λ x. SessionsStandIn cluster workload (next cluster workload w (Submit (number_of a) name)) (number_of a) (after_wait a.sessions name x)) (sym id_is)
-          (sessions_changed k (Submit (number_of a) name) legal f.number name now on.found moved (λ seat. waiting seat (upcoming_id w (number_of a))) f.sessions waits_as)
+          (sessions_changed k (Submit (number_of a) name) legal f.number (submit_elsewhere k f.number f.site submits_it) (λ seat. waiting seat (upcoming_id w (number_of a))) f.sessions
+          (waits_as k f.number f.site submits_it))
 
       -- one attempt more stands among those that the region submitted, so the world is another one
       changed : next cluster workload w (Submit (number_of a) name) ≢ w

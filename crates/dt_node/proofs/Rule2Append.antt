@@ -11,11 +11,11 @@ use Rattle.dt_region.specs.Rules.{MakesAppend}
 use Rattle.dt_region.specs.Sound.{IsSoundRegion}
 use Rattle.dt_cluster.specs.declared.Cluster.{Cluster}
 use Rattle.dt_workload.specs.declared.Workload.{Workload}
-use Rattle.dt_session.specs.World.{asked_of, node_at, txn_of}
+use Rattle.dt_session.specs.World.{node_at}
 use Rattle.dt_session.specs.Step.{next}
 use Rattle.dt_session.specs.Run.{world_after}
 use Rattle.dt_site.specs.Site.{in_region}
-use Rattle.dt_site.proofs.Callers.{HasShortLists, Steps, append_made, can_append, legal_short, sessions_stay}
+use Rattle.dt_site.proofs.Callers.{AsksFor, HasShortLists, Steps, append_made, can_append, legal_short, sessions_stay}
 use Rattle.dt_node.specs.NodeView.{NodeView, number_of}
 use Rattle.dt_node.specs.NodeInWorld.{NodeFits}
 use Rattle.dt_node.specs.Turn.{GoesAfter}
@@ -38,18 +38,18 @@ pub first_of_rest : {A : Type 0} (n end : ℕ) (xs : List A) (y : A) (ys : List 
 first_of_rest n end xs y ys e =
     let r = first_and_rest n end xs y ys e in let next : suc n ≡ n + 1 = omega arith in (r.0, subst (λ m. drop m (take end xs) ≡ ys) next r.1)
 
-module _ {cluster : Cluster} {workload : Workload} {events : List Event} {a : NodeView} (f : NodeFits cluster workload events a) {source : ℕ} (ls : source < cluster.regions) (number : ℕ) (txn : Txn)
-    (wants : slice_get (asked_of (world_after cluster workload events) source (number_of a)) number ≡ Some txn.id) (found : txn_of (world_after cluster workload events) txn.id ≡ Some txn) where
+module _ {cluster : Cluster} {workload : Workload} {events : List Event} {a : NodeView} (f : NodeFits cluster workload events a) {source : ℕ} (ls : source < cluster.regions)
+    {number : ℕ} {txn : Txn} (asks : AsksFor (world_after cluster workload events) source (number_of a) number txn) where
   -- it may be given the request
   pub can_place : length events + 1 < 4294967296 → CanAppend a.site.region.state source number txn
   can_place few =
       let short : HasShortLists (world_after cluster workload events) (length events) = legal_short cluster f.run.sound workload f.run.fits events f.run.legal in
-      can_append (reached f) f.number f.site ls number txn wants found (omega (arith, short.parts, few))
+      can_append (reached f) f.number f.site ls asks (omega (arith, short.parts, few))
 
   -- it placed it
   module _ (r : RegionView) (made : MakesAppend a.site.region source number txn (Ok true) r) (sound : IsSoundRegion r.state) where
     steps : Steps cluster workload (world_after cluster workload events) (Append (number_of a) source number) (number_of a) a.site (in_region a.site r) (world_after cluster workload events).places
-    steps = append_made (reached f) f.number f.site ls number txn wants found r made sound
+    steps = append_made (reached f) f.number f.site ls asks r made sound
 
     -- one request more is taken, so the world is another one
     changed : next cluster workload (world_after cluster workload events) (Append (number_of a) source number) ≢ world_after cluster workload events

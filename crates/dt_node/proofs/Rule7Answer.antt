@@ -14,14 +14,12 @@ use Rattle.dt_workload.specs.declared.Session.{Session}
 use Rattle.dt_workload.specs.declared.Workload.{Workload}
 use Rattle.dt_session.specs.declared.sessions.Seat.{Seat}
 use Rattle.dt_session.specs.Sessions.{MayBeAnswered, MayGo, SessionsView, after_answer, is_named, answered_seat, seat_of, waits_of, with_changed}
-use Rattle.dt_session.specs.World.{World, Place, session_at, with_place}
-use Rattle.dt_session.specs.Step.{IsLegal, MayAnswer, MayEnd, MaySubmit, awaited_at, next}
+use Rattle.dt_session.specs.World.{World, Place, session_at}
+use Rattle.dt_session.specs.Step.{IsLegal, MayAnswer, MaySubmit, next}
 use Rattle.dt_session.specs.Run.{world_after}
-use Rattle.dt_agreement.proofs.Callers.{session_found}
-use Rattle.dt_agreement.specs.Invariant.{IsPlaceOf}
 use Rattle.dt_site.specs.SessionsStandIn.{SessionsStandIn, seat_in}
 use Rattle.dt_site.specs.Site.{in_region}
-use Rattle.dt_site.proofs.Callers.{answer_legal, answer_made, answered_places, inv, kept_here, last_in, may_answer, may_submit, outcome_here, seat_changed, sessions_changed}
+use Rattle.dt_site.proofs.Callers.{Answers, answer_elsewhere, answer_legal, answer_made, kept_here, last_in, may_answer, may_submit, outcome_here, seat_changed, sessions_changed}
 use Rattle.dt_node.specs.NodeView.{NodeView, number_of}
 use Rattle.dt_node.specs.NodeInWorld.{NodeFits}
 use Rattle.dt_node.specs.Turn.{GoesAfter, last_at}
@@ -60,28 +58,19 @@ module _ {cluster : Cluster} {workload : Workload} {events : List Event} {a : No
     abbrev b : NodeView
     b = record a { site = in_region a.site r; sessions = after_answer a.sessions name }
 
-    module _ (session : Session) (place : Place) (found : here ≡ Some (session, place)) (may : MayEnd cluster.tries (awaited_at w (number_of a) place.waits)) where
-      named : session.name ≡ name
-      named = (session_found (IsPlaceOf cluster.tries w) workload.sessions w.places (number_of a) name session place (inv (reached f)).sessions.places found).1
-
+    module _ {session : Session} {place : Place} (answers : Answers cluster workload w (number_of a) name session place) where
       legal : IsLegal cluster workload w (Answer (number_of a) name)
-      legal = answer_legal (reached f) f.number f.site name session place found may
-
-      abbrev now : Place
-      now = record { answered = place.answered + 1; waits = None }
-
-      moved : (next cluster workload w (Answer (number_of a) name)).places ≡ with_place workload.sessions w.places (number_of a) name now
-      moved = answered_places (reached f) f.number f.site name session place found may ∙ ap (λ n. with_place workload.sessions w.places (number_of a) n now) named
+      legal = answer_legal (reached f) f.number f.site answers
 
       standing : SessionsStandIn cluster workload (next cluster workload w (Answer (number_of a) name)) (number_of a) (after_answer a.sessions name)
-      standing = sessions_changed (reached f) (Answer (number_of a) name) legal f.number name now found moved answered_seat f.sessions refl
+      standing = sessions_changed (reached f) (Answer (number_of a) name) legal f.number (answer_elsewhere (reached f) f.number f.site answers) answered_seat f.sessions refl
 
       -- one more of its calls is answered, so the world is another one
       changed : next cluster workload w (Answer (number_of a) name) ≢ w
       changed same =
           let seat : Seat = seat_in w (session, place) in
-          let before : seat_of a.sessions name ≡ Some seat = kept_here f.sessions name found in
-          let again : seat_of (after_answer a.sessions name) name ≡ Some seat = (standing_in same).seats name ∙ ap (option_map (seat_in w)) found in
+          let before : seat_of a.sessions name ≡ Some seat = kept_here f.sessions name answers.found in
+          let again : seat_of (after_answer a.sessions name) name ≡ Some seat = (standing_in same).seats name ∙ ap (option_map (seat_in w)) answers.found in
           let now_at : seat_of (after_answer a.sessions name) name ≡ Some (answered_seat seat) = after_is seat before in
           let more : Some seat ≡ Some (answered_seat seat) = sym again ∙ now_at in
           let counts : place.answered ≡ place.answered + 1 = answered_same seat (answered_seat seat) more in
@@ -98,7 +87,7 @@ module _ {cluster : Cluster} {workload : Workload} {events : List Event} {a : No
               (seat_changed answered_seat a.sessions name seat e name ∙ ap (λ t. cond t (Some (answered_seat seat)) (seat_of a.sessions name)) (sym (texts_ties name name) ∙ (bytes_decides name name).1 refl))
 
       answer_here : GoesAfter cluster workload events (Answer (number_of a) name ∷ []) b
-      answer_here = one_goes f (Answer (number_of a) name) (answer_made (reached f) f.number f.site name session place found may r is) changed standing
+      answer_here = one_goes f (Answer (number_of a) name) (answer_made (reached f) f.number f.site answers r is) changed standing
           (ap (λ x. x.state.number) is) (seats_kept answered_seat a.sessions name (seat_of a.sessions name)) refl refl
 
     pub answer_goes : MayBeAnswered a.sessions name (last_at a name) → GoesAfter cluster workload events (Answer (number_of a) name ∷ []) b
@@ -106,4 +95,4 @@ module _ {cluster : Cluster} {workload : Workload} {events : List Event} {a : No
       where
         go : (o : Option (Session × Place)) → here ≡ o → MayAnswer cluster w (number_of a) o → GoesAfter cluster workload events (Answer (number_of a) name ∷ []) b
         go None e x = absurd x
-        go (Some (session, place)) e x = answer_here session place e x
+        go (Some (session, place)) e x = let answers : Answers cluster workload w (number_of a) name session place = record { found = e; may = x } in answer_here answers

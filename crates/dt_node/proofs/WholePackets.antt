@@ -17,8 +17,7 @@ use Rattle.dt_cluster.specs.declared.Cluster.{Cluster}
 use Rattle.dt_workload.specs.declared.Workload.{Workload}
 use Rattle.dt_session.specs.World.{World, Node, asked_of}
 use Rattle.dt_session.specs.Run.{world_after}
-use Rattle.dt_agreement.proofs.Callers.{IsRequest, request_is}
-use Rattle.dt_site.proofs.Callers.{attempts_have, find_some, inv, order}
+use Rattle.dt_site.proofs.Callers.{request_held}
 use Rattle.dt_node.specs.NodeView.{NodeView, entry_held, most_items, number_of, stretch_from}
 use Rattle.dt_node.specs.TurnPackets.{LeavesNothingOut}
 use Rattle.dt_node.specs.NodeInWorld.{NodeFits}
@@ -51,10 +50,7 @@ module _ {cluster : Cluster} {workload : Workload} {events : List Event} {n : No
   s = n.site.region.state
 
   one_held : (id : TxnId) → Has (asked_of w (number_of n) target) id → IsHeld s id
-  one_held id h =
-      let r : IsRequest w target (number_of n) id = request_is cluster workload w (order (reached f)) target (number_of n) there f.number (inv (reached f)) id h in
-      subst (IsHeld s) r.same (find_some s.submitted s.foreign r.submission.txn
-      (attempts_have s.submitted n.site.origins r.submission (subst (λ (x : Node). Has x.submitted r.submission) (sym f.site.node) r.there)))
+  one_held id h = request_held (reached f) there f.number f.site id h
 
   asked_held : AllIn (IsHeld s) (get_or s.here.asked target [])
   asked_held = subst (λ (x : Node). AllIn (IsHeld s) (get_or x.here.asked target [])) (sym f.site.node) (all_put (IsHeld s) (asked_of w (number_of n) target) one_held)

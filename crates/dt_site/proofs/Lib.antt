@@ -1,6 +1,7 @@
 pub mod Lists
 pub mod ListLengths
 pub mod SitesInWorlds
+pub mod AskedRequests
 pub mod Moves
 pub mod Opening
 pub mod Rule1Submit

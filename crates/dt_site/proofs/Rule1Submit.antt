@@ -1,6 +1,6 @@
 -- Rule 1: a session of the region submits its next call, or tries it again.
-use Rattle.std.specs.Prelude.{option_map, unwrap_or}
-use Rattle.std.proofs.Common.{◌≡◌, ◌<◌, ◌+◌, ℕ, List, [], ◌∷◌, ◌++◌, length, set, slice_get, Ok, Some, refl, sym, ap, ap₂, subst, ◌∙◌, inl, inr, append_assoc}
+use Rattle.std.specs.Prelude.{Option, option_map, unwrap_or}
+use Rattle.std.proofs.Common.{◌≡◌, ◌<◌, ◌+◌, ℕ, List, [], ◌∷◌, ◌++◌, length, set, slice_get, Ok, Some, None, refl, sym, ap, ap₂, subst, ◌∙◌, inl, inr, append_assoc}
 use Rattle.std.proofs.lemmas.List.{length_push, get_or-set_same}
 use Rattle.dt_lists.specs.Lists.{Has}
 use Rattle.dt_lists.proofs.Callers.{has_last}
@@ -18,13 +18,16 @@ use Rattle.dt_cluster.specs.declared.Cluster.{Cluster}
 use Rattle.dt_workload.specs.declared.Session.{Session}
 use Rattle.dt_workload.specs.declared.Ranked.{Ranked}
 use Rattle.dt_workload.specs.declared.Workload.{Workload}
+use Rattle.dt_session.specs.Sessions.{attempt_next, waiting}
 use Rattle.dt_session.specs.World.{World, Place, Submission, no_node, node_at, attempt_of, received_logs, session_at, submission_of, txn_of, with_place}
 use Rattle.dt_session.specs.Step.{IsLegal, MaySubmit, MayTry, attempt_for, awaited_at, body_of, called, next, next_attempt, node_submitted, submitted, upcoming_id, world_submitted}
 use Rattle.dt_agreement.proofs.Callers.{from_region, next_keeps, submission_is_found}
 use Rattle.dt_site.specs.declared.site.Origin.{Origin}
+use Rattle.dt_site.specs.SessionsStandIn.{seat_in}
 use Rattle.dt_site.specs.Site.{SiteView, MakesAttempt, after_attempt, attempt, node_of}
 use Rattle.dt_site.specs.StandsIn.{IsReached, StandsIn}
 use Rattle.dt_site.proofs.Lists.{attempts_more, find_more}
+use Rattle.dt_site.proofs.SessionsStand.{StandsElsewhere}
 use Rattle.dt_site.proofs.SitesInWorlds.{Steps, here_is, inv, many_here, node_then, order, received_stay, txns_stay}
 
 -- what a submission needs: the session, where it stands, and its call
@@ -96,11 +99,28 @@ module _ {cluster : Cluster} {workload : Workload} {w : World} (k : IsReached cl
   new_found = ap (option_map (λ s. s.txn)) new_attempt
 
   -- so the session waits for the attempt of that number
-  pub waits_next : attempt_of (next cluster workload w (Submit region name)) (upcoming_id w region) ≡ next_attempt w place.waits
+  waits_next : attempt_of (next cluster workload w (Submit region name)) (upcoming_id w region) ≡ next_attempt w place.waits
   waits_next = ap (λ o. unwrap_or (option_map (λ s. s.attempt) o) 0) new_attempt
 
-  pub places_then : (next cluster workload w (Submit region name)).places ≡ places
+  abbrev now : Place
+  now = record place { waits = Some (upcoming_id w region) }
+
+  -- and so its region keeps it
+  pub waits_as : waiting (seat_in w (session, place)) (upcoming_id w region) ≡ seat_in (next cluster workload w (Submit region name)) (session, now)
+  waits_as =
+      let number : attempt_next (seat_in w (session, place)) ≡ next_attempt w place.waits = go place.waits in
+      let same = number ∙ sym waits_next in
+      λ j. record { calls = session.calls; answered = place.answered; waits = Some (record { id = upcoming_id w region; attempt = same j }) }
+    where
+      go : (waits : Option TxnId) → attempt_next (seat_in w (session, record { answered = place.answered; waits = waits })) ≡ next_attempt w waits
+      go None = refl
+      go (Some id) = refl
+
+  places_then : (next cluster workload w (Submit region name)).places ≡ places
   places_then = ap (λ v. v.places) next_is
+
+  pub submit_elsewhere : StandsElsewhere workload w (next cluster workload w (Submit region name)) region name session place now
+  submit_elsewhere = record { found = submits.found; moved = places_then ∙ ap (λ n. with_place workload.sessions w.places region n now) submits.named }
 
   known_now : (x : TxnId) (u : Txn) → held q.region.state x ≡ Some u → txn_of (next cluster workload w (Submit region name)) x ≡ Some u
   unfolding q

@@ -32,28 +32,29 @@ use Rattle.dt_txn.proofs.Callers.{fronts_grown}
 use Rattle.dt_agreement.proofs.Callers.{IsRequest, request_is, logs_placed, placed_well_formed, received_within, log_is, logs_length}
 use Rattle.dt_site.specs.Site.{SiteView, in_region, node_of}
 use Rattle.dt_site.specs.StandsIn.{IsReached, StandsIn}
+use Rattle.dt_site.proofs.AskedRequests.{AsksFor}
 use Rattle.dt_site.proofs.Lists.{fronts_set, held_more, parts_set}
 use Rattle.dt_site.proofs.SitesInWorlds.{Steps, inv, node_then, order, own_log, own_of, txns_stay, valid_txn}
 
 module _ {cluster : Cluster} {workload : Workload} {w : World} (k : IsReached cluster workload w) {home : ℕ} (lh : home < cluster.regions) {p : SiteView} (s : StandsIn cluster.regions w home p)
-    {source : ℕ} (ls : source < cluster.regions) (number : ℕ) (txn : Txn) (wants : slice_get (asked_of w source home) number ≡ Some txn.id) (found : txn_of w txn.id ≡ Some txn) where
+    {source : ℕ} (ls : source < cluster.regions) {number : ℕ} {txn : Txn} (asks : AsksFor w source home number txn) where
   pub append_legal : IsLegal cluster workload w (Append home source number)
-  append_legal = record { regions = (lh, ls); allowed = slice_get_within (asked_of w source home) number txn.id wants }
+  append_legal = record { regions = (lh, ls); allowed = slice_get_within (asked_of w source home) number txn.id asks.wants }
 
   request : IsRequest w home source txn.id
-  request = request_is cluster workload w (order k) home source lh ls (inv k) txn.id (has_place (asked_of w source home) number txn.id wants)
+  request = request_is cluster workload w (order k) home source lh ls (inv k) txn.id (has_place (asked_of w source home) number txn.id asks.wants)
 
   taken_is : taken_of w home source ≡ taken_from p.region.state.here source
   taken_is = ap (λ n. taken_from n.here source) (sym s.node)
 
   same_txn : request.submission.txn ≡ txn
-  same_txn = let both : Some request.submission.txn ≡ Some txn = sym request.found ∙ found in cc
+  same_txn = let both : Some request.submission.txn ≡ Some txn = sym request.found ∙ asks.found in cc
 
   home_in : Has (homes_of txn) home
   home_in = subst (λ t. Has (homes_of t) home) same_txn request.home_in
 
   valid : IsValid cluster.procs cluster.version cluster.regions txn
-  valid = valid_txn k txn.id txn found
+  valid = valid_txn k txn.id txn asks.found
 
   -- the world after the append, by whether it is the request's turn
   abbrev placed_if : Bool → World
@@ -70,14 +71,14 @@ module _ {cluster : Cluster} {workload : Workload} {w : World} (k : IsReached cl
 
   module _ (turn : number ≡ taken_from p.region.state.here source) where
     next_one : slice_get (asked_of w source home) (taken_of w home source) ≡ Some txn.id
-    next_one = subst (λ n. slice_get (asked_of w source home) n ≡ Some txn.id) (turn ∙ sym taken_is) wants
+    next_one = subst (λ n. slice_get (asked_of w source home) n ≡ Some txn.id) (turn ∙ sym taken_is) asks.wants
 
     pub is_turn : eqb number (taken_of w home source) ≡ true
     is_turn = eq-eqb number (taken_of w home source) (turn ∙ sym taken_is)
 
     placed_is : next cluster workload w (Append home source number) ≡ placed w home source (Some txn)
     placed_is =
-        let one : option_and_then (txn_of w) (slice_get (asked_of w source home) number) ≡ Some txn = ap (option_and_then (txn_of w)) wants ∙ found in
+        let one : option_and_then (txn_of w) (slice_get (asked_of w source home) number) ≡ Some txn = ap (option_and_then (txn_of w)) asks.wants ∙ asks.found in
         ap placed_if is_turn ∙ ap (placed w home source) one
 
     -- the home's log then, and all logs
@@ -89,7 +90,7 @@ module _ {cluster : Cluster} {workload : Workload} {w : World} (k : IsReached cl
     node_now = record (node_at w home) { log = log_of w home ++ part_of txn home ∷ []; here = after_taking (node_at w home).here source }
 
     logs_now : logs_of (placed w home source (Some txn)) ≡ set (logs_of w) home log_then
-    logs_now = logs_placed cluster workload w (order k) home source lh ls (inv k) txn next_one request found
+    logs_now = logs_placed cluster workload w (order k) home source lh ls (inv k) txn next_one request asks.found
 
     own : log_at p.region.state.logs home ≡ log_at (logs_of w) home
     own = own_log k s ∙ sym (log_is w home)
@@ -134,7 +135,7 @@ module _ {cluster : Cluster} {workload : Workload} {w : World} (k : IsReached cl
     -- the id is not in the log yet
     fresh : ¬ (HasPart (log_at p.region.state.logs p.region.state.number) txn.id)
     fresh h =
-        let formed : IsWellFormed (logs_of (placed w home source (Some txn))) = placed_well_formed cluster workload w (order k) home source lh ls (inv k) txn next_one request found in
+        let formed : IsWellFormed (logs_of (placed w home source (Some txn))) = placed_well_formed cluster workload w (order k) home source lh ls (inv k) txn next_one request asks.found in
         let fits : home < length (logs_of w) = subst (λ n. home < n) (sym (logs_length w ∙ (inv k).nodes)) lh in
         let log_there : log_at (logs_of (placed w home source (Some txn))) home ≡ log_then = ap (λ l. log_at l home) logs_now ∙ get_or-set_same (logs_of w) home log_then [] fits in
         let once : Distinct (ids_of (log_at (logs_of w) home) ++ txn.id ∷ []) =
@@ -175,7 +176,7 @@ module _ {cluster : Cluster} {workload : Workload} {w : World} (k : IsReached cl
       known_now : (x : TxnId) (u : Txn) → held r.state x ≡ Some u → txn_of w x ≡ Some u
       known_now x u h = elim (held_more p.region.state.submitted p.region.state.foreign txn x u (subst (λ v. held v.state x ≡ Some u) is h)) [
         | inl o ↦ s.known x u o
-        | inr e ↦ subst (λ y. txn_of w y ≡ Some u) e.1 (subst (λ t. txn_of w txn.id ≡ Some t) e.0 found)
+        | inr e ↦ subst (λ y. txn_of w y ≡ Some u) e.1 (subst (λ t. txn_of w txn.id ≡ Some t) e.0 asks.found)
       ]
 
       append_steps : Steps cluster workload w (Append home source number) home p (in_region p r) w.places
@@ -204,8 +205,8 @@ module _ {cluster : Cluster} {workload : Workload} {w : World} (k : IsReached cl
     home = subst (Has (homes_of txn)) (sym s.number) home_in;
     agrees = record {
       homes = subst (λ n. AllIn (λ h. h < n) (homes_of txn)) (sym s.many) valid.homes;
-      same = λ other h. let both : Some other ≡ Some txn = sym (s.known txn.id other h) ∙ found in cc;
-      own = λ e. own_of k s txn found e;
+      same = λ other h. let both : Some other ≡ Some txn = sym (s.known txn.id other h) ∙ asks.found in cc;
+      own = λ e. own_of k s txn asks.found e;
     };
     fresh = λ turn. fresh turn;
     few = λ turn. let a : parts_in (with_part p.region.state.logs (part_of txn p.region.state.number)) ≤ parts_in (logs_of w) + 1 = few turn in omega arith;

@@ -3,7 +3,7 @@ use Rattle.std.proofs.Common.{◌≡◌, ◌<◌, ◌+◌, ℕ, List, [], ◌∷
 use Rattle.std.proofs.lemmas.List.{set-get_or}
 use Rattle.dt_access.specs.Clash.{Bytes}
 use Rattle.dt_events.specs.declared.Event.TheVariants.{Answer}
-use Rattle.dt_region.specs.Region.{RegionView, latest_stamp}
+use Rattle.dt_region.specs.Region.{RegionView, held, latest_stamp}
 use Rattle.dt_region.specs.Rules.{with_event}
 use Rattle.dt_region.specs.Sound.{IsSoundRegion}
 use Rattle.dt_region.proofs.Callers.{kept_more, latest_more}
@@ -13,30 +13,47 @@ use Rattle.dt_workload.specs.declared.Session.{Session}
 use Rattle.dt_workload.specs.declared.Workload.{Workload}
 use Rattle.dt_session.specs.World.{World, Place, no_node, node_at, received_logs, session_at, with_place}
 use Rattle.dt_session.specs.Step.{IsLegal, MayAnswer, MayEnd, answered, awaited_at, next}
-use Rattle.dt_region.specs.Region.{held}
+use Rattle.dt_agreement.specs.Invariant.{IsPlaceOf}
+use Rattle.dt_agreement.proofs.Callers.{session_found}
 use Rattle.dt_site.specs.Site.{SiteView, in_region, node_of}
 use Rattle.dt_site.specs.StandsIn.{IsReached, StandsIn}
-use Rattle.dt_site.proofs.SitesInWorlds.{Steps, node_then, txns_stay}
+use Rattle.dt_site.proofs.SessionsStand.{StandsElsewhere}
+use Rattle.dt_site.proofs.SitesInWorlds.{Steps, inv, node_then, txns_stay}
+
+-- what an answer needs: the session, where it stands, and that its attempt has ended
+pub record Answers (cluster : Cluster) (workload : Workload) (w : World) (region : ℕ) (name : Bytes) (session : Session) (place : Place) : Type 0 where
+  pub found : session_at workload.sessions w.places region name ≡ Some (session, place)
+  pub may : MayEnd cluster.tries (awaited_at w region place.waits)
 
 -- the places after a session was answered
 abbrev pub places_answered : Workload → World → ℕ → Session → Place → List Place
 places_answered workload w region session place = with_place workload.sessions w.places region session.name (record { answered = place.answered + 1; waits = None })
 
 module _ {cluster : Cluster} {workload : Workload} {w : World} (k : IsReached cluster workload w) {region : ℕ} (lr : region < cluster.regions) {p : SiteView} (s : StandsIn cluster.regions w region p)
-    (name : Bytes) (session : Session) (place : Place) (found : session_at workload.sessions w.places region name ≡ Some (session, place)) (may : MayEnd cluster.tries (awaited_at w region place.waits)) where
+    {name : Bytes} {session : Session} {place : Place} (answers : Answers cluster workload w region name session place) where
   pub answer_legal : IsLegal cluster workload w (Answer region name)
-  answer_legal = record { regions = lr; allowed = subst (MayAnswer cluster w region) (sym found) may }
+  answer_legal = record { regions = lr; allowed = subst (MayAnswer cluster w region) (sym answers.found) answers.may }
 
   -- where the sessions stand then
-  pub answered_places : (next cluster workload w (Answer region name)).places ≡ places_answered workload w region session place
-  answered_places = ap (λ o. (answered workload w region o).places) found
+
+  named : session.name ≡ name
+  named = (session_found (IsPlaceOf cluster.tries w) workload.sessions w.places region name session place (inv k).sessions.places answers.found).1
+
+  answered_places : (next cluster workload w (Answer region name)).places ≡ places_answered workload w region session place
+  answered_places = ap (λ o. (answered workload w region o).places) answers.found
+
+  abbrev now : Place
+  now = record { answered = place.answered + 1; waits = None }
+
+  pub answer_elsewhere : StandsElsewhere workload w (next cluster workload w (Answer region name)) region name session place now
+  answer_elsewhere = record { found = answers.found; moved = answered_places ∙ ap (λ n. with_place workload.sessions w.places region n now) named }
 
   module _ (r : RegionView) (is : r ≡ with_event p.region p.region.state (Answer p.region.state.number name)) where
     node_made : node_of (in_region p r) ≡ node_at w region
     node_made = ap (λ x. node_of (in_region p x)) is ∙ s.node
 
     answered_is : next cluster workload w (Answer region name) ≡ record { nodes = w.nodes; places = places_answered workload w region session place }
-    answered_is = ap (answered workload w region) found
+    answered_is = ap (answered workload w region) answers.found
 
     next_is : next cluster workload w (Answer region name) ≡ record { nodes = set w.nodes region (node_of (in_region p r)); places = places_answered workload w region session place }
     next_is =

@@ -193,6 +193,11 @@ seat_alike {cluster} {workload} {w} {order} i v {region} lr attempts name (Some 
         let stays : attempt_of w id ≡ attempt_of v id = attempts id wait.submission wait.found (wait.region ∙ r.2) in
         λ i. Some (record { calls = session.calls; answered = place.answered; waits = Some (record { id = id; attempt = stays i }) })
 
+-- a session of a region stands at another place in the next world, and no other session does
+pub record StandsElsewhere (workload : Workload) (w later : World) (region : ℕ) (name : Bytes) (session : Session) (place now : Place) : Type 0 where
+  pub found : session_at workload.sessions w.places region name ≡ Some (session, place)
+  pub moved : later.places ≡ with_place workload.sessions w.places region name now
+
 -- after a legal event
 
 module _ {cluster : Cluster} {workload : Workload} {w : World} (k : IsReached cluster workload w) (event : Event) (legal : IsLegal cluster workload w event) where
@@ -218,13 +223,12 @@ module _ {cluster : Cluster} {workload : Workload} {w : World} (k : IsReached cl
 
   -- where one session of a region stands elsewhere, and its region keeps it so, those of each region stand in the next world
 
-  module _ {region : ℕ} (lr : region < cluster.regions) (name : Bytes) {session : Session} {place : Place} (now : Place) (found : session_at workload.sessions w.places region name ≡ Some (session, place))
-      (moved : later.places ≡ with_place workload.sessions w.places region name now) where
+  module _ {region : ℕ} (lr : region < cluster.regions) {name : Bytes} {session : Session} {place now : Place} (goes : StandsElsewhere workload w later region name session place now) where
     pub others_sessions : {other : ℕ} → other < cluster.regions → other ≢ region → {s : SessionsView} → SessionsStandIn cluster workload w other s → SessionsStandIn cluster workload later other s
     others_sessions {other} lo n s = record {
       tries = s.tries;
       seats = λ called. s.seats called ∙ seat_stays other lo called (session_at workload.sessions w.places other called) refl
-          ∙ ap (option_map (seat_in later)) (sym (ap (λ p. session_at workload.sessions p other called) moved ∙ at_others region name now workload.sessions w.places other called (λ e _. n e)));
+          ∙ ap (option_map (seat_in later)) (sym (ap (λ p. session_at workload.sessions p other called) goes.moved ∙ at_others region name now workload.sessions w.places other called (λ e _. n e)));
     }
 
     pub sessions_changed : (change : Seat → Seat) {s : SessionsView} → SessionsStandIn cluster workload w region s → change (seat_in w (session, place)) ≡ seat_in later (session, now)
@@ -232,17 +236,17 @@ module _ {cluster : Cluster} {workload : Workload} {w : World} (k : IsReached cl
     sessions_changed change {s} k' is = subst (λ o. SessionsStandIn cluster workload later region (with_changed change s name o)) (sym kept) (record { tries = k'.tries; seats = λ called. at called (cases_Bool (is_named name called)) })
       where
         kept : seat_of s name ≡ Some (seat_in w (session, place))
-        kept = kept_here k' name found
+        kept = kept_here k' name goes.found
 
         at : (called : Bytes) → (is_named name called ≡ true) ⊎ (is_named name called ≡ false)
             → seat_of (with_changed change s name (Some (seat_in w (session, place)))) called ≡ option_map (seat_in later) (session_at workload.sessions later.places region called)
         at called (inl y) =
             seat_changed change s name (seat_in w (session, place)) kept called ∙ ap (λ b. cond b (Some (change (seat_in w (session, place)))) (seat_of s called)) y ∙ ap Some is
-            ∙ ap (option_map (seat_in later)) (sym (ap₂ (λ p n. session_at workload.sessions p region n) moved (sym (same_name name called y)) ∙ at_changed region name now workload.sessions w.places session place found))
+            ∙ ap (option_map (seat_in later)) (sym (ap₂ (λ p n. session_at workload.sessions p region n) goes.moved (sym (same_name name called y)) ∙ at_changed region name now workload.sessions w.places session place goes.found))
         at called (inr z) =
             seat_changed change s name (seat_in w (session, place)) kept called ∙ ap (λ b. cond b (Some (change (seat_in w (session, place)))) (seat_of s called)) z
             ∙ k'.seats called ∙ seat_stays region lr called (session_at workload.sessions w.places region called) refl
-            ∙ ap (option_map (seat_in later)) (sym (ap (λ p. session_at workload.sessions p region called) moved
+            ∙ ap (option_map (seat_in later)) (sym (ap (λ p. session_at workload.sessions p region called) goes.moved
             ∙ at_others region name now workload.sessions w.places region called (λ _ e. other (is_it name called (sym e)))))
           where
             other : is_named name called ≡ true → ⊥

@@ -17,7 +17,7 @@ use Rattle.dt_site.specs.Site.{SiteView, in_region, no_site}
 use Rattle.dt_site.proofs.Callers.{a_region, can_move, execute_made, execute_refused, holds_valid, insert_made, insert_refused, resolve_made, resolve_refused}
 use Rattle.dt_world.specs.WorldSessions.{WorldSessions, places_in}
 use Rattle.dt_world.specs.WorldInner.{IsLawful, site_at, view_in, world_of}
-use Rattle.dt_world.proofs.WorldLaws.{IsBehind, IsMade, step_made}
+use Rattle.dt_world.proofs.WorldLaws.{HoldsSite, IsBehind, IsMade, step_made}
 
 -- the list where a site is put back as it was
 pub put_back : {cluster : Cluster} {sessions : WorldSessions} {sites : List SiteView} {steps : ℕ} → IsLawful cluster sessions sites steps → (region : ℕ) (p later : SiteView) → p ≡ site_at sites region → later ≡ p
@@ -35,8 +35,16 @@ pub refused_same : (procs : List ProcTree) (r : RegionView) (event : Event) (on 
 refused_same procs r event true later e m = cc
 refused_same procs r event false later e m = m.1
 
-module _ {cluster : Cluster} {sessions : WorldSessions} {sites : List SiteView} {steps : ℕ} (k : IsLawful cluster sessions sites steps) {region : ℕ} (lr : region < cluster.regions)
-    {r : RegionView} {origins : List Origin} (b : IsBehind sites region r origins) where
+module _ {cluster : Cluster} {sessions : WorldSessions} {sites : List SiteView} {steps region : ℕ} {r : RegionView} {origins : List Origin} (at : HoldsSite cluster sessions sites steps region r origins) where
+  abbrev k : IsLawful cluster sessions sites steps
+  k = at.lawful
+
+  abbrev lr : region < cluster.regions
+  lr = at.there
+
+  abbrev b : IsBehind sites region r origins
+  b = at.site
+
   -- the list where the region is as it was
   pub same_sites : (later : RegionView) → later ≡ r → set sites region (record { region = later; origins = origins }) ≡ sites
   same_sites later same = ap (set sites region) (b.site_is later ∙ ap (in_region (site_at sites region)) (same ∙ b.region_is)) ∙ set-get_or sites region no_site

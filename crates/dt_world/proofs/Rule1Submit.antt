@@ -1,6 +1,6 @@
 -- Rule 1 in a world: a session submits an attempt at its region's site, and its region keeps that it waits for it. At the
 -- end stands what the call needs on its way, of what it has in hand.
-use Rattle.std.proofs.Common.{◌≡◌, ◌<◌, ◌≤◌, ℕ, List, length, get_or, set, Ok, Some, None, refl, sym, ap, subst, ◌∙◌, inl, inr, arith}
+use Rattle.std.proofs.Common.{◌≡◌, ◌<◌, ◌≤◌, ℕ, List, length, get_or, set, Ok, Some, refl, sym, ap, subst, ◌∙◌, inl, inr, arith}
 use Rattle.std.specs.Prelude.{Option, option_and_then}
 use Rattle.std.proofs.lemmas.List.{get_or-set_same, get_or-set_other, length-set}
 use Rattle.dt_lists.specs.Lists.{Either}
@@ -14,15 +14,15 @@ use Rattle.dt_txn.specs.Transaction.{BodyFits}
 use Rattle.dt_region.specs.Region.{RegionView, outcome_of}
 use Rattle.dt_region.specs.Sound.{IsSoundRegion}
 use Rattle.dt_cluster.specs.declared.Cluster.{Cluster}
-use Rattle.dt_session.specs.Sessions.{MayGo, SessionsView, after_wait, attempt_next, waiting, waits_of}
-use Rattle.dt_session.specs.World.{World, Place, session_at, with_place}
-use Rattle.dt_session.specs.Step.{IsLegal, MaySubmit, body_of, next, next_attempt, upcoming_id}
+use Rattle.dt_session.specs.Sessions.{MayGo, SessionsView, after_wait, waiting, waits_of}
+use Rattle.dt_session.specs.World.{World, session_at}
+use Rattle.dt_session.specs.Step.{IsLegal, MaySubmit, body_of, next, upcoming_id}
 use Rattle.dt_agreement.proofs.Callers.{session_found}
 use Rattle.dt_agreement.specs.Invariant.{IsPlaceOf}
 use Rattle.dt_site.specs.declared.Origin.{Origin}
-use Rattle.dt_site.specs.SessionsStandIn.{SessionsStandIn, no_sessions, seat_in}
+use Rattle.dt_site.specs.SessionsStandIn.{SessionsStandIn, no_sessions}
 use Rattle.dt_site.specs.Site.{SiteView, MakesAttempt, no_site}
-use Rattle.dt_site.proofs.Callers.{Submits, ids, inv, origin_for, others_sessions, places_then, sessions_changed, submit_legal, submit_made, waits_next}
+use Rattle.dt_site.proofs.Callers.{StandsElsewhere, Submits, ids, inv, origin_for, others_sessions, sessions_changed, submit_elsewhere, submit_legal, submit_made, waits_as}
 use Rattle.dt_world.specs.WorldInner.{IsLawful, IsNextOf, IsNextTry, sessions_of, site_at, view_in, world_of}
 use Rattle.dt_world.specs.WorldSessions.{WorldSessions, places_in}
 use Rattle.dt_world.specs.WorldView.{WorldView}
@@ -46,38 +46,28 @@ module _ {cluster : Cluster} {sessions : WorldSessions} {sites : List SiteView} 
   abbrev id' : TxnId
   id' = upcoming_id w region
 
-  abbrev now : Place
-  now = record next_is.place { waits = Some id' }
+  -- the world after it
+  abbrev v : World
+  v = next cluster sessions.workload w (Submit region name)
 
-  -- what the region keeps of the session then
-  waits_as : waiting (seat_in w (next_is.session, next_is.place)) id' ≡ seat_in (next cluster sessions.workload w (Submit region name)) (next_is.session, now)
-  waits_as =
-      let number : attempt_next (seat_in w (next_is.session, next_is.place)) ≡ next_attempt w next_is.place.waits = go next_is.place.waits in
-      let same = number ∙ sym (waits_next k.reached lr (k.stands region lr) submits) in
-      λ j. record { calls = next_is.session.calls; answered = next_is.place.answered; waits = Some (record { id = id'; attempt = same j }) }
-    where
-      go : (waits : Option TxnId) → attempt_next (seat_in w (next_is.session, record { answered = next_is.place.answered; waits = waits })) ≡ next_attempt w waits
-      go None = refl
-      go (Some x) = refl
-
-  moved : (next cluster sessions.workload w (Submit region name)).places ≡ with_place sessions.workload.sessions (places_in sessions) region name now
-  moved = places_then k.reached lr (k.stands region lr) submits ∙ ap (λ n. with_place sessions.workload.sessions (places_in sessions) region n now) named
+  elsewhere : StandsElsewhere sessions.workload w v region name next_is.session next_is.place (record next_is.place { waits = Some id' })
+  elsewhere = submit_elsewhere k.reached lr (k.stands region lr) submits
 
   -- the sessions of each region, after this one waits for the attempt
   abbrev later : TxnId → List SessionsView
   later id = set sessions.by_region region (after_wait (sessions_of sessions.by_region region) name id)
 
-  standing : (r : ℕ) → r < cluster.regions → SessionsStandIn cluster sessions.workload (next cluster sessions.workload w (Submit region name)) r (sessions_of (later id') r)
+  standing : (r : ℕ) → r < cluster.regions → SessionsStandIn cluster sessions.workload v r (sessions_of (later id') r)
   standing r lq = at (either_nat r region)
     where
-      at : Either (r ≡ region) → SessionsStandIn cluster sessions.workload (next cluster sessions.workload w (Submit region name)) r (sessions_of (later id') r)
-      at (inl e) = subst (λ x. SessionsStandIn cluster sessions.workload (next cluster sessions.workload w (Submit region name)) x (sessions_of (later id') x)) (sym e)
-          (subst (SessionsStandIn cluster sessions.workload (next cluster sessions.workload w (Submit region name)) region)
+      at : Either (r ≡ region) → SessionsStandIn cluster sessions.workload v r (sessions_of (later id') r)
+      at (inl e) = subst (λ x. SessionsStandIn cluster sessions.workload v x (sessions_of (later id') x)) (sym e)
+          (subst (SessionsStandIn cluster sessions.workload v region)
           (sym (get_or-set_same sessions.by_region region (after_wait (sessions_of sessions.by_region region) name id') no_sessions (subst (λ n. region < n) (sym k.listed) lr)))
-          (sessions_changed k.reached (Submit region name) try_legal lr name now next_is.found moved (λ seat. waiting seat id') (k.attended region lr) waits_as))
-      at (inr n) = subst (SessionsStandIn cluster sessions.workload (next cluster sessions.workload w (Submit region name)) r)
+          (sessions_changed k.reached (Submit region name) try_legal lr elsewhere (λ seat. waiting seat id') (k.attended region lr) (waits_as k.reached lr (k.stands region lr) submits)))
+      at (inr n) = subst (SessionsStandIn cluster sessions.workload v r)
           (sym (get_or-set_other sessions.by_region region r (after_wait (sessions_of sessions.by_region region) name id') no_sessions n))
-          (others_sessions k.reached (Submit region name) try_legal lr name now next_is.found moved lq n (k.attended r lq))
+          (others_sessions k.reached (Submit region name) try_legal lr elsewhere lq n (k.attended r lq))
 
   -- the site and the sessions after the call
   submit_done : (p after : SiteView) (id : TxnId) → p ≡ site_at sites region → MakesAttempt cluster.procs p rank body origin (Ok id) after → IsSoundRegion after.region.state

@@ -2,8 +2,6 @@
 use Rattle.std.proofs.Common.{eqb-true, ◌≡◌, ◌<◌, ◌≤◌, ◌+◌, ℕ, Bool, true, false, eqb, List, [], length, get_or, set, slice_get, Ok, Some, refl, sym, ap, subst, ◌∙◌, arith}
 use Rattle.std.proofs.lemmas.Bool.{false_from_ne_true}
 use Rattle.std.proofs.lemmas.Option.{slice_get-get_or}
-use Rattle.dt_lists.specs.Lists.{Has}
-use Rattle.dt_lists.proofs.Callers.{has_place}
 use Rattle.dt_access.specs.declared.TxnId.{TxnId}
 use Rattle.dt_events.specs.declared.Event.TheVariants.{Append}
 use Rattle.dt_txn.specs.declared.Txn.{Txn}
@@ -13,16 +11,15 @@ use Rattle.dt_region.specs.Conditions.{CanAppend}
 use Rattle.dt_region.specs.Rules.{MakesAppend}
 use Rattle.dt_region.specs.Sound.{IsSoundRegion}
 use Rattle.dt_cluster.specs.declared.Cluster.{Cluster}
-use Rattle.dt_session.specs.World.{asked_of, taken_of, txn_of}
+use Rattle.dt_session.specs.World.{taken_of}
 use Rattle.dt_session.specs.Step.{IsLegal}
-use Rattle.dt_agreement.proofs.Callers.{IsRequest, request_is, txn_id}
 use Rattle.dt_site.specs.declared.Origin.{Origin}
 use Rattle.dt_site.specs.Site.{SiteView}
-use Rattle.dt_site.proofs.Callers.{append_legal, append_made, append_still, attempts_have, can_append, find_some, inv, is_turn, order}
+use Rattle.dt_site.proofs.Callers.{AsksFor, append_legal, append_made, append_still, asks_for, can_append, is_turn}
 use Rattle.dt_world.specs.WorldSessions.{WorldSessions, places_in}
 use Rattle.dt_world.specs.WorldInner.{IsLawful, site_at, world_of}
 use Rattle.dt_world.proofs.OneSite.{same_sites}
-use Rattle.dt_world.proofs.WorldLaws.{IsBehind, IsMade, node_is, short, step_made, still_made}
+use Rattle.dt_world.proofs.WorldLaws.{HoldsSite, IsBehind, IsMade, node_is, short, step_made, still_made}
 
 -- what the call has in hand: an id that the source asked the home to place as this request, and its transaction, which the
 -- source holds
@@ -52,52 +49,38 @@ module _ {sites : List SiteView} {source : ℕ} {r : RegionView} {origins : List
     found = sym (ap (λ (x : RegionView). held x.state (id_in list number)) b.region_is) ∙ sym found ∙ ap Some (sym same);
   }
 
-module _ {cluster : Cluster} {sessions : WorldSessions} {sites : List SiteView} {steps : ℕ} (k : IsLawful cluster sessions sites steps) {home source : ℕ} (lh : home < cluster.regions) (ls : source < cluster.regions) (number : ℕ)
-    {id : TxnId} (wanted : slice_get (get_or (site_at sites source).region.state.here.asked home []) number ≡ Some id) where
-  wants : slice_get (asked_of (world_of sites (places_in sessions)) source home) number ≡ Some id
-  wants = subst (λ n. slice_get (get_or n.here.asked home []) number ≡ Some id) (sym (node_is k source)) wanted
+module _ {cluster : Cluster} {sessions : WorldSessions} {sites : List SiteView} {steps home : ℕ} {r : RegionView} {origins : List Origin} (at : HoldsSite cluster sessions sites steps home r origins)
+    {source : ℕ} (ls : source < cluster.regions) {number : ℕ} {txn : Txn} (request : HoldsRequest sites home source number txn) where
+  abbrev k : IsLawful cluster sessions sites steps
+  k = at.lawful
 
-  request : IsRequest (world_of sites (places_in sessions)) home source id
-  request = request_is cluster sessions.workload (world_of sites (places_in sessions)) (order k.reached) home source lh ls (inv k.reached) id (has_place (asked_of (world_of sites (places_in sessions)) source home) number id wants)
+  abbrev lh : home < cluster.regions
+  lh = at.there
 
-  -- what is asked for is held where it was submitted
-  pub asked_held : (txn : Txn) × (held (site_at sites source).region.state id ≡ Some txn)
-  asked_held = subst (λ x. (txn : Txn) × (held (site_at sites source).region.state x ≡ Some txn)) request.same
-      (find_some (site_at sites source).region.state.submitted (site_at sites source).region.state.foreign request.submission.txn
-      (attempts_have (site_at sites source).region.state.submitted (site_at sites source).origins request.submission (subst (λ n. Has n.submitted request.submission) (node_is k source) request.there)))
+  abbrev b : IsBehind sites home r origins
+  b = at.site
 
-  module _ {txn : Txn} (is_held : held (site_at sites source).region.state id ≡ Some txn) where
-    found_at : txn_of (world_of sites (places_in sessions)) id ≡ Some txn
-    found_at = (k.stands source ls).known id txn is_held
+  asked_for : AsksFor (world_of sites (places_in sessions)) source home number txn
+  asked_for = asks_for k.reached lh ls (k.stands source ls) number request.wants request.found
 
-    its_id : txn.id ≡ id
-    its_id = txn_id (world_of sites (places_in sessions)) id txn found_at
+  pub can_place : steps + 1 < 4294967296 → CanAppend r.state source number txn
+  can_place few = subst (λ x. CanAppend x.state source number txn) (sym b.region_is)
+      (can_append k.reached lh (k.stands home lh) ls asked_for (omega (arith, (short k).parts, few)))
 
-    found : txn_of (world_of sites (places_in sessions)) txn.id ≡ Some txn
-    found = subst (λ x. txn_of (world_of sites (places_in sessions)) x ≡ Some txn) (sym its_id) found_at
-
-    wants_it : slice_get (asked_of (world_of sites (places_in sessions)) source home) number ≡ Some txn.id
-    wants_it = subst (λ x. slice_get (asked_of (world_of sites (places_in sessions)) source home) number ≡ Some x) (sym its_id) wants
-
-    module _ {r : RegionView} {origins : List Origin} (b : IsBehind sites home r origins) where
-      pub can_place : steps + 1 < 4294967296 → CanAppend r.state source number txn
-      can_place few = subst (λ x. CanAppend x.state source number txn) (sym b.region_is)
-          (can_append k.reached lh (k.stands home lh) ls number txn wants_it found (omega (arith, (short k).parts, few)))
-
-      pub append_done : (later : RegionView) (on : Bool) → MakesAppend r source number txn (Ok on) later → IsSoundRegion later.state
-          → IsMade cluster sessions sites steps (Append home source number) sessions (set sites home (record { region = later; origins = origins }))
-      append_done later true m sound =
-          let m' = subst (λ x. MakesAppend x source number txn (Ok true) later) b.region_is m in
-          subst (λ q. IsMade cluster sessions sites steps (Append home source number) sessions (set sites home q)) (sym (b.site_is later))
-          (step_made k (Append home source number) lh (append_made k.reached lh (k.stands home lh) ls number txn wants_it found later m' sound) refl
-          (is_turn k.reached lh (k.stands home lh) ls number txn wants_it found m'.0))
-      append_done later false m sound =
-          let m' = subst (λ x. MakesAppend x source number txn (Ok false) later) b.region_is m in
-          let other : eqb number (taken_of (world_of sites (places_in sessions)) home source) ≡ false =
-          false_from_ne_true (eqb number (taken_of (world_of sites (places_in sessions)) home source))
-          (λ t. m'.0 (eqb-true number (taken_of (world_of sites (places_in sessions)) home source) t ∙ ap (λ n. taken_from n.here source) (node_is k home))) in
-          subst (λ l. IsMade cluster sessions sites steps (Append home source number) sessions l) (sym (same_sites k lh b later (m'.1 ∙ sym b.region_is)))
-          (still_made k (Append home source number) (append_legal k.reached lh (k.stands home lh) ls number txn wants_it found) (append_still k.reached lh (k.stands home lh) ls number txn wants_it found m'.0) other)
+  pub append_done : (later : RegionView) (on : Bool) → MakesAppend r source number txn (Ok on) later → IsSoundRegion later.state
+      → IsMade cluster sessions sites steps (Append home source number) sessions (set sites home (record { region = later; origins = origins }))
+  append_done later true m sound =
+      let m' = subst (λ x. MakesAppend x source number txn (Ok true) later) b.region_is m in
+      subst (λ q. IsMade cluster sessions sites steps (Append home source number) sessions (set sites home q)) (sym (b.site_is later))
+      (step_made k (Append home source number) lh (append_made k.reached lh (k.stands home lh) ls asked_for later m' sound) refl
+      (is_turn k.reached lh (k.stands home lh) ls asked_for m'.0))
+  append_done later false m sound =
+      let m' = subst (λ x. MakesAppend x source number txn (Ok false) later) b.region_is m in
+      let other : eqb number (taken_of (world_of sites (places_in sessions)) home source) ≡ false =
+      false_from_ne_true (eqb number (taken_of (world_of sites (places_in sessions)) home source))
+      (λ t. m'.0 (eqb-true number (taken_of (world_of sites (places_in sessions)) home source) t ∙ ap (λ n. taken_from n.here source) (node_is k home))) in
+      subst (λ l. IsMade cluster sessions sites steps (Append home source number) sessions l) (sym (same_sites at later (m'.1 ∙ sym b.region_is)))
+      (still_made k (Append home source number) (append_legal k.reached lh (k.stands home lh) ls asked_for) (append_still k.reached lh (k.stands home lh) ls asked_for m'.0) other)
 
 -- what was not asked for cannot be placed
 pub append_not : {cluster : Cluster} {sessions : WorldSessions} {sites : List SiteView} {steps : ℕ} → IsLawful cluster sessions sites steps → (home source number : ℕ)

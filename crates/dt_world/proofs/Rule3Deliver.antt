@@ -23,7 +23,7 @@ use Rattle.dt_site.specs.Site.{SiteView}
 use Rattle.dt_site.proofs.Callers.{apart, can_deliver, deliver_legal, deliver_made, deliver_still, has_received, joins, joins_to, own_log}
 use Rattle.dt_world.specs.WorldSessions.{WorldSessions, places_in}
 use Rattle.dt_world.specs.WorldInner.{IsLawful, site_at, world_of}
-use Rattle.dt_world.proofs.WorldLaws.{IsBehind, IsMade, short, step_made, still_made}
+use Rattle.dt_world.proofs.WorldLaws.{HoldsSite, IsBehind, IsMade, short, step_made, still_made}
 
 -- what the call reads of the sites: how far the home's log reaches, how far the region received it, and whether the
 -- delivery joins that
@@ -58,46 +58,60 @@ entries_are {sites} {home} b first last entries parts txns = record {
   txns = subst (λ (x : RegionView). AllIn (λ (e : Entry). held x.state e.part.id ≡ Some e.txn) entries) b.region_is txns;
 }
 
-module _ {cluster : Cluster} {sessions : WorldSessions} {sites : List SiteView} {steps : ℕ} (k : IsLawful cluster sessions sites steps) {region home first last : ℕ} (lr : region < cluster.regions) (lh : home < cluster.regions)
-    (ordered : first ≤ last) (reaches : last ≤ length (log_at (site_at sites home).region.state.logs home)) where
+module _ {cluster : Cluster} {sessions : WorldSessions} {sites : List SiteView} {steps : ℕ} (k : IsLawful cluster sessions sites steps) {home : ℕ} (lh : home < cluster.regions) where
   home_log : log_at (site_at sites home).region.state.logs home ≡ log_of (world_of sites (places_in sessions)) home
   home_log = own_log k.reached (k.stands home lh)
 
-  within : last ≤ length (log_of (world_of sites (places_in sessions)) home)
-  within = subst (λ l. last ≤ length l) home_log reaches
+  within : {region first last has : ℕ} {join : Bool} → IsDelivery sites region home first last has join → last ≤ length (log_of (world_of sites (places_in sessions)) home)
+  within {last = last} delivery = subst (λ l. last ≤ length l) home_log delivery.reaches
 
   -- a delivery that does not join
-  pub deliver_none : joins (length (log_at (site_at sites region).region.state.logs home)) first last ≡ false → IsMade cluster sessions sites steps (Deliver region home first last) sessions sites
-  deliver_none off = still_made k (Deliver region home first last) (deliver_legal k.reached lr (k.stands region lr) lh first last ordered within)
-      (deliver_still k.reached lr (k.stands region lr) lh first last ordered within off)
-      (subst (λ n. joins n first last ≡ false) (has_received k.reached lr (k.stands region lr) lh) off)
+  pub deliver_none : {region first last has : ℕ} → region < cluster.regions → first ≤ last → IsDelivery sites region home first last has false
+      → IsMade cluster sessions sites steps (Deliver region home first last) sessions sites
+  deliver_none {region} {first} {last} lr ordered delivery = still_made k (Deliver region home first last) (deliver_legal k.reached lr (k.stands region lr) lh first last ordered (within delivery))
+      (deliver_still k.reached lr (k.stands region lr) lh first last ordered (within delivery) delivery.joined)
+      (subst (λ n. joins n first last ≡ false) (has_received k.reached lr (k.stands region lr) lh) delivery.joined)
 
-  -- one that joins, of entries of the home's log
+-- one that joins, of entries of the home's log
 
-  module _ (on : joins (length (log_at (site_at sites region).region.state.logs home)) first last ≡ true) (has : ℕ) (has_is : has ≡ length (log_at (site_at sites region).region.state.logs home)) (entries : List Entry)
-      (parts : map (λ e. e.part) entries ≡ drop has (take last (log_at (site_at sites home).region.state.logs home))) (txns : AllIn (λ e. held (site_at sites home).region.state e.part.id ≡ Some e.txn) entries)
-      {r : RegionView} {origins : List Origin} (b : IsBehind sites region r origins) where
-    new_ordered : has ≤ last
-    new_ordered = let more = joins_to (length (log_at (site_at sites region).region.state.logs home)) first last on in omega (arith, more, has_is)
+module _ {cluster : Cluster} {sessions : WorldSessions} {sites : List SiteView} {steps region : ℕ} {r : RegionView} {origins : List Origin} (at : HoldsSite cluster sessions sites steps region r origins)
+    {home first last has : ℕ} (lh : home < cluster.regions) (delivery : IsDelivery sites region home first last has true) {entries : List Entry} (taken : AreOfLog sites home has last entries) where
+  abbrev k : IsLawful cluster sessions sites steps
+  k = at.lawful
 
-    parts_are : map (λ e. e.part) entries ≡ drop has (take last (log_of (world_of sites (places_in sessions)) home))
-    parts_are = parts ∙ ap (λ l. drop has (take last l)) home_log
+  abbrev lr : region < cluster.regions
+  lr = at.there
 
-    found : AllIn (λ e. txn_of (world_of sites (places_in sessions)) e.part.id ≡ Some e.txn) entries
-    found = all_map _ _ entries (λ e h. (k.stands home lh).known e.part.id e.txn h) txns
+  abbrev b : IsBehind sites region r origins
+  b = at.site
 
-    pub can_take : steps < 4294967296 → CanDeliver r.state home has entries
-    can_take few = subst (λ x. CanDeliver x.state home has entries) (sym b.region_is)
-        (can_deliver k.reached lr (k.stands region lr) lh has last new_ordered within entries parts_are found (apart k.reached lr (k.stands region lr) lh has last new_ordered within first on)
-        (omega (arith, (short k).parts, few)))
+  on : joins (length (log_at (site_at sites region).region.state.logs home)) first last ≡ true
+  on = delivery.joined
 
-    pub deliver_done : (later : RegionView) (t : Taken) → MakesDelivery r home first has entries (Ok t) later → IsSoundRegion later.state
-        → IsMade cluster sessions sites steps (Deliver region home first last) sessions (set sites region (record { region = later; origins = origins }))
-    deliver_done later t m sound =
-        let m' = subst (λ x. MakesDelivery x home first has entries (Ok t) later) b.region_is m in
-        subst (λ q. IsMade cluster sessions sites steps (Deliver region home first last) sessions (set sites region q)) (sym (b.site_is later))
-        (step_made k (Deliver region home first last) lr (deliver_made k.reached lr (k.stands region lr) lh has last new_ordered within entries parts_are found first on (omega (arith, has_is)) later t m' sound) refl
-        (subst (λ n. joins n first last ≡ true) (has_received k.reached lr (k.stands region lr) lh) on))
+  ends : last ≤ length (log_of (world_of sites (places_in sessions)) home)
+  ends = within k lh delivery
+
+  new_ordered : has ≤ last
+  new_ordered = let more = joins_to (length (log_at (site_at sites region).region.state.logs home)) first last on in omega (arith, more, delivery.has_is)
+
+  parts_are : map (λ e. e.part) entries ≡ drop has (take last (log_of (world_of sites (places_in sessions)) home))
+  parts_are = taken.parts ∙ ap (λ l. drop has (take last l)) (home_log k lh)
+
+  found : AllIn (λ e. txn_of (world_of sites (places_in sessions)) e.part.id ≡ Some e.txn) entries
+  found = all_map _ _ entries (λ e h. (k.stands home lh).known e.part.id e.txn h) taken.txns
+
+  pub can_take : steps < 4294967296 → CanDeliver r.state home has entries
+  can_take few = subst (λ x. CanDeliver x.state home has entries) (sym b.region_is)
+      (can_deliver k.reached lr (k.stands region lr) lh has last new_ordered ends entries parts_are found (apart k.reached lr (k.stands region lr) lh has last new_ordered ends first on)
+      (omega (arith, (short k).parts, few)))
+
+  pub deliver_done : (later : RegionView) (t : Taken) → MakesDelivery r home first has entries (Ok t) later → IsSoundRegion later.state
+      → IsMade cluster sessions sites steps (Deliver region home first last) sessions (set sites region (record { region = later; origins = origins }))
+  deliver_done later t m sound =
+      let m' = subst (λ x. MakesDelivery x home first has entries (Ok t) later) b.region_is m in
+      subst (λ q. IsMade cluster sessions sites steps (Deliver region home first last) sessions (set sites region q)) (sym (b.site_is later))
+      (step_made k (Deliver region home first last) lr (deliver_made k.reached lr (k.stands region lr) lh has last new_ordered ends entries parts_are found first on (omega (arith, delivery.has_is)) later t m' sound) refl
+      (subst (λ n. joins n first last ≡ true) (has_received k.reached lr (k.stands region lr) lh) on))
 
 -- the entries of a log, one more at a time
 
@@ -128,5 +142,5 @@ out_of_order lt l = absurd (omega (arith, lt, l.allowed.0))
 pub past_log : {cluster : Cluster} {sessions : WorldSessions} {sites : List SiteView} {steps : ℕ} → IsLawful cluster sessions sites steps → {region home first last : ℕ} → home < cluster.regions
     → length (log_at (site_at sites home).region.state.logs home) < last → ¬ (IsLegal cluster sessions.workload (world_of sites (places_in sessions)) (Deliver region home first last))
 past_log k {region} {home} {first} {last} lh lt l =
-    let far = subst (λ l. length l < last) (own_log k.reached (k.stands home lh)) lt in
+    let far = subst (λ l. length l < last) (home_log k lh) lt in
     absurd (omega (arith, far, l.allowed.1))

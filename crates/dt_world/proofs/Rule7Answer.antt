@@ -13,18 +13,16 @@ use Rattle.dt_region.specs.Rules.{MakesAnswer}
 use Rattle.dt_cluster.specs.declared.Cluster.{Cluster}
 use Rattle.dt_workload.specs.declared.Session.{Session}
 use Rattle.dt_session.specs.Sessions.{MayBeAnswered, SessionsView, after_answer, answered_seat, waits_of}
-use Rattle.dt_session.specs.World.{World, Place, session_at, with_place}
-use Rattle.dt_session.specs.Step.{IsLegal, MayAnswer, MayEnd, awaited_at, next}
-use Rattle.dt_agreement.proofs.Callers.{session_found}
-use Rattle.dt_agreement.specs.Invariant.{IsPlaceOf}
+use Rattle.dt_session.specs.World.{World, Place, session_at}
+use Rattle.dt_session.specs.Step.{IsLegal, MayAnswer, next}
 use Rattle.dt_site.specs.declared.Origin.{Origin}
 use Rattle.dt_site.specs.SessionsStandIn.{SessionsStandIn, no_sessions}
 use Rattle.dt_site.specs.Site.{SiteView, no_site}
-use Rattle.dt_site.proofs.Callers.{answer_legal, answer_made, answered_places, inv, others_sessions, sessions_changed}
+use Rattle.dt_site.proofs.Callers.{Answers, StandsElsewhere, answer_elsewhere, answer_legal, answer_made, others_sessions, sessions_changed}
 use Rattle.dt_world.specs.WorldInner.{IsLawful, MayBeTold, sessions_of, site_at, view_in, world_of}
 use Rattle.dt_world.specs.WorldSessions.{WorldSessions, places_in}
 use Rattle.dt_world.proofs.WorldFacts.{end_told, sessions_at_place}
-use Rattle.dt_world.proofs.WorldLaws.{IsBehind, IsMade, a_site, behind, sessions_made}
+use Rattle.dt_world.proofs.WorldLaws.{HoldsSite, IsBehind, IsMade, a_site, behind, sessions_made}
 
 module _ {cluster : Cluster} {sessions : WorldSessions} {sites : List SiteView} {steps : ℕ} (k : IsLawful cluster sessions sites steps) {region : ℕ} (lr : region < cluster.regions) (name : Bytes) where
   abbrev w : World
@@ -34,38 +32,35 @@ module _ {cluster : Cluster} {sessions : WorldSessions} {sites : List SiteView} 
   abbrev pub later : List SessionsView
   later = set sessions.by_region region (after_answer (sessions_of sessions.by_region region) name)
 
-  module _ (session : Session) (place : Place) (found : session_at sessions.workload.sessions (places_in sessions) region name ≡ Some (session, place))
-      (may : MayEnd cluster.tries (awaited_at w region place.waits)) where
-    named : session.name ≡ name
-    named = (session_found (IsPlaceOf cluster.tries w) sessions.workload.sessions w.places region name session place (inv k.reached).sessions.places found).1
+  -- the world after the answer
+  abbrev v : World
+  v = next cluster sessions.workload w (Answer region name)
 
+  module _ {session : Session} {place : Place} (answers : Answers cluster sessions.workload w region name session place) where
     legal : IsLegal cluster sessions.workload w (Answer region name)
-    legal = answer_legal k.reached lr (k.stands region lr) name session place found may
+    legal = answer_legal k.reached lr (k.stands region lr) answers
 
-    abbrev now : Place
-    now = record { answered = place.answered + 1; waits = None }
+    elsewhere : StandsElsewhere sessions.workload w v region name session place (record { answered = place.answered + 1; waits = None })
+    elsewhere = answer_elsewhere k.reached lr (k.stands region lr) answers
 
-    moved : (next cluster sessions.workload w (Answer region name)).places ≡ with_place sessions.workload.sessions (places_in sessions) region name now
-    moved = answered_places k.reached lr (k.stands region lr) name session place found may ∙ ap (λ n. with_place sessions.workload.sessions (places_in sessions) region n now) named
-
-    standing : (r : ℕ) → r < cluster.regions → SessionsStandIn cluster sessions.workload (next cluster sessions.workload w (Answer region name)) r (sessions_of later r)
+    standing : (r : ℕ) → r < cluster.regions → SessionsStandIn cluster sessions.workload v r (sessions_of later r)
     standing r lq = at (either_nat r region)
       where
-        at : Either (r ≡ region) → SessionsStandIn cluster sessions.workload (next cluster sessions.workload w (Answer region name)) r (sessions_of later r)
-        at (inl e) = subst (λ x. SessionsStandIn cluster sessions.workload (next cluster sessions.workload w (Answer region name)) x (sessions_of later x)) (sym e)
-            (subst (SessionsStandIn cluster sessions.workload (next cluster sessions.workload w (Answer region name)) region)
+        at : Either (r ≡ region) → SessionsStandIn cluster sessions.workload v r (sessions_of later r)
+        at (inl e) = subst (λ x. SessionsStandIn cluster sessions.workload v x (sessions_of later x)) (sym e)
+            (subst (SessionsStandIn cluster sessions.workload v region)
             (sym (get_or-set_same sessions.by_region region (after_answer (sessions_of sessions.by_region region) name) no_sessions (subst (λ n. region < n) (sym k.listed) lr)))
-            (sessions_changed k.reached (Answer region name) legal lr name now found moved answered_seat (k.attended region lr) refl))
-        at (inr n) = subst (SessionsStandIn cluster sessions.workload (next cluster sessions.workload w (Answer region name)) r)
+            (sessions_changed k.reached (Answer region name) legal lr elsewhere answered_seat (k.attended region lr) refl))
+        at (inr n) = subst (SessionsStandIn cluster sessions.workload v r)
             (sym (get_or-set_other sessions.by_region region r (after_answer (sessions_of sessions.by_region region) name) no_sessions n))
-            (others_sessions k.reached (Answer region name) legal lr name now found moved lq n (k.attended r lq))
+            (others_sessions k.reached (Answer region name) legal lr elsewhere lq n (k.attended r lq))
 
     done_here : {r : RegionView} {origins : List Origin} → IsBehind sites region r origins → (after : RegionView) → MakesAnswer r name (Ok tt) after
         → IsMade cluster sessions sites steps (Answer region name) (record sessions { by_region = later }) (set sites region (record { region = after; origins = origins }))
     done_here b after m =
         let here = subst (λ x. MakesAnswer x name (Ok tt) after) b.region_is m in
         subst (λ q. IsMade cluster sessions sites steps (Answer region name) (record sessions { by_region = later }) (set sites region q)) (sym (b.site_is after))
-        (sessions_made k (Answer region name) lr (answer_made k.reached lr (k.stands region lr) name session place found may after here) refl refl later
+        (sessions_made k (Answer region name) lr (answer_made k.reached lr (k.stands region lr) answers after here) refl refl later
         (length-set sessions.by_region region (after_answer (sessions_of sessions.by_region region) name) ∙ k.listed) standing)
 
   -- the site and the sessions after the call
@@ -76,12 +71,21 @@ module _ {cluster : Cluster} {sessions : WorldSessions} {sites : List SiteView} 
       go : (o : Option (Session × Place)) → session_at sessions.workload.sessions (places_in sessions) region name ≡ o → MayAnswer cluster w region o
           → IsMade cluster sessions sites steps (Answer region name) (record sessions { by_region = later }) (set sites region (record { region = after; origins = origins }))
       go None e x = absurd x
-      go (Some (session, place)) e x = done_here session place e x b after m
+      go (Some (session, place)) e x = let answers : Answers cluster sessions.workload w region name session place = record { found = e; may = x } in done_here answers b after m
 
 -- the region's site kept the event, and the sessions of the region are those at its place
-module _ {cluster : Cluster} {sessions : WorldSessions} {sites : List SiteView} {steps : ℕ} (k : IsLawful cluster sessions sites steps) {region : ℕ} (lr : region < cluster.regions)
-    (name : Bytes) (may : MayBeTold (view_in cluster sessions sites steps) region name) {r : RegionView} {origins : List Origin} (b : IsBehind sites region r origins)
-    (after : RegionView) (m : MakesAnswer r name (Ok tt) after) (s : SessionsView) (s_at : s ≡ get_or sessions.by_region region s) where
+module _ {cluster : Cluster} {sessions : WorldSessions} {sites : List SiteView} {steps region : ℕ} {r : RegionView} {origins : List Origin} (at : HoldsSite cluster sessions sites steps region r origins)
+    (name : Bytes) (may : MayBeTold (view_in cluster sessions sites steps) region name) (after : RegionView) (m : MakesAnswer r name (Ok tt) after)
+    (s : SessionsView) (s_at : s ≡ get_or sessions.by_region region s) where
+  abbrev k : IsLawful cluster sessions sites steps
+  k = at.lawful
+
+  abbrev lr : region < cluster.regions
+  lr = at.there
+
+  abbrev b : IsBehind sites region r origins
+  b = at.site
+
   abbrev q : SiteView
   q = record { region = after; origins = origins }
 

@@ -11,7 +11,7 @@ use Rattle.dt_access.specs.declared.TxnId.{TxnId}
 use Rattle.dt_txn.specs.declared.Body.{Body}
 use Rattle.dt_txn.specs.declared.Outcome.{Outcome}
 use Rattle.dt_txn.specs.Transaction.{BodyFits}
-use Rattle.dt_region.specs.Region.{outcome_of}
+use Rattle.dt_region.specs.Region.{RegionView, outcome_of}
 use Rattle.dt_cluster.specs.declared.Cluster.{Cluster}
 use Rattle.dt_workload.specs.declared.Session.{Session}
 use Rattle.dt_workload.specs.declared.Ranked.{Ranked}
@@ -30,10 +30,23 @@ use Rattle.dt_site.proofs.Callers.{fits_region, inv, kept_here, last_in, may_ans
 use Rattle.dt_world.specs.WorldInner.{IsLawful, IsNextOf, IsNextTry, MayBeTold, sessions_of, site_at, view_in, world_of}
 use Rattle.dt_world.specs.WorldSessions.{WorldSessions, places_in}
 use Rattle.dt_world.specs.WorldView.{WorldView}
+use Rattle.dt_world.proofs.WorldLaws.{IsBehind}
+
+-- what a call read at a region: its sessions, and the outcome that its site keeps of the attempt that one of them waits for
+pub record HasRead (all : List SessionsView) (sites : List SiteView) (region : ℕ) (name : Bytes) (s : SessionsView) (last : Option Outcome) : Type 0 where
+  pub sessions_is : s ≡ sessions_of all region
+  pub told : last ≡ option_and_then (outcome_of (site_at sites region).region.state) (waits_of (sessions_of all region) name)
 
 -- sessions that were taken out of the list are those at that place
 pub sessions_at_place : (all : List SessionsView) (region : ℕ) (s : SessionsView) → region < length all → s ≡ get_or all region s → s ≡ sessions_of all region
 sessions_at_place all region s lt e = get_or_read all region s lt e no_sessions
+
+pub has_read : {all : List SessionsView} {sites : List SiteView} {region : ℕ} → region < length all → {s : SessionsView} → s ≡ get_or all region s
+    → {r : RegionView} {origins : List Origin} → IsBehind sites region r origins → (name : Bytes) {last : Option Outcome} → last ≡ option_and_then (outcome_of r.state) (waits_of s name)
+    → HasRead all sites region name s last
+has_read {all} {sites} {region} within {s} at site name told =
+    let same : s ≡ sessions_of all region = sessions_at_place all region s within at in
+    record { sessions_is = same; told = told ∙ (λ j. option_and_then (outcome_of (site.region_is j).state) (waits_of (same j) name)) }
 
 module _ {cluster : Cluster} {sessions : WorldSessions} {sites : List SiteView} {steps : ℕ} (k : IsLawful cluster sessions sites steps) {region : ℕ} (lr : region < cluster.regions) (name : Bytes) where
   abbrev w : World

@@ -162,6 +162,16 @@ behind {sites} {region} {p} {r} {origins} lt value is =
       site_is = λ later. ap (λ x. record { region = later; origins = x.origins }) here;
     }
 
+-- a region of a lawful world, and its site, which a call reached so
+pub record HoldsSite (cluster : Cluster) (sessions : WorldSessions) (sites : List SiteView) (steps region : ℕ) (r : RegionView) (origins : List Origin) : Type 0 where
+  pub lawful : IsLawful cluster sessions sites steps
+  pub there : region < cluster.regions
+  pub site : IsBehind sites region r origins
+
+pub holds_site : {cluster : Cluster} {sessions : WorldSessions} {sites : List SiteView} {steps : ℕ} → IsLawful cluster sessions sites steps → {region : ℕ} → region < cluster.regions
+    → {p : SiteView} {r : RegionView} {origins : List Origin} → p ≡ get_or sites region p → record { region = r; origins = origins } ≡ p → HoldsSite cluster sessions sites steps region r origins
+holds_site k lr value is = record { lawful = k; there = lr; site = behind (a_site k lr) value is }
+
 -- after memory ran out the world is as it was
 pub out_of_memory : {now after : WorldView} (event : Event) (r : Result (Unit {0}) StepError) → IsErrAnd r (λ e. e ≡ NoMemory) → after ≡ now → Makes now event r after
 out_of_memory event (Ok u) h same = absurd h

@@ -1,109 +1,132 @@
-use Rattle.std.proofs.Common.{◌≡◌, ◌+◌, refl, sym, subst, ◌∙◌, inl, inr}
+use Rattle.std.proofs.Common.{◌≡◌, ◌+◌, Some, slice_get, refl, sym, subst, ◌∙◌, inl, inr}
 use Rattle.dt_lists.specs.Lists.{AllIn}
 use Rattle.dt_lists.proofs.Callers.{all_more}
 use Rattle.dt_events.specs.declared.Event.TheVariants.{Submit, Answer}
 use Rattle.dt_report.specs.Printable.{IsPrintableReply}
 use Rattle.dt_world.specs.SessionReplayInner.{replay_at, replies_at}
-use Rattle.dt_world.proofs.Reports.{follows_answer, follows_reply, follows_submission, event_at, plain_event, session_listed}
+use Rattle.dt_world.proofs.Reports.{FollowsAnswer, FollowsReply, FollowsSubmission, follows_answer, follows_reply, follows_submission, event_at, plain_event, session_listed}
 use Rattle.dt_world.proofs.TextByLines.{none_more}
+use Rattle.dt_world.proofs.site_reports.ReportSource.follow.Given.{Over}
 use Rattle.dt_world.proofs.site_reports.ReportSource.follow.Goals as goal
+
+-- the event, where it is a submission
+submission : (g : Over) (c : goal.In-Submit g) → slice_get c.args.self.now.events c.args.at ≡ Some (Submit c.in-Submit.region c.in-Submit.session)
+submission g c = event_at c.args.self.now c.requires.events c.args.at c.index-events-at.result (Submit c.in-Submit.region c.in-Submit.session) c.requires.at c.index-events-at.is c.in-Submit.is
+
+-- what it does, where the session was found
+submits : (g : Over) (c : goal.In-Some g) → slice_get c.args.self.now.events c.args.at ≡ Some (Submit c.in-Submit.region c.in-Submit.session)
+    → FollowsSubmission c.args.self.now c.args.at c.in-Submit.region c.in-Some.place c.args.replay.now
+submits g c event = follows_submission c.requires.led c.args.at c.in-Submit.region c.in-Submit.session event c.in-Some.place (sym c.find.ensures ∙ c.in-Some.is) c.args.replay.now c.requires.replay
+
+-- the event, where it is an answer
+answer : (g : Over) (c : goal.In-Answer g) → slice_get c.args.self.now.events c.args.at ≡ Some (Answer c.in-Answer.region c.in-Answer.session)
+answer g c = event_at c.args.self.now c.requires.events c.args.at c.index-events-at.result (Answer c.in-Answer.region c.in-Answer.session) c.requires.at c.index-events-at.is c.in-Answer.is
+
+-- what it does, where the session was found
+answers : (g : Over) (c : goal.In-Some-find g) → slice_get c.args.self.now.events c.args.at ≡ Some (Answer c.in-Answer.region c.in-Answer.session)
+    → FollowsAnswer c.args.self.now c.args.at c.in-Answer.region c.in-Some-find.place c.args.replay.now
+answers g c event =
+    follows_answer c.requires.led c.args.at c.in-Answer.region c.in-Answer.session event c.in-Some-find.place (sym c.find-in-Answer.ensures ∙ c.in-Some-find.is) c.args.replay.now c.requires.replay
+
+-- and where it waited for an attempt
+replies : (g : Over) (c : goal.In-Some-waits g) → slice_get c.args.self.now.events c.args.at ≡ Some (Answer c.in-Answer.region c.in-Answer.session)
+    → FollowsReply c.args.self.now c.args.at c.in-Answer.region c.in-Answer.session c.in-Some-waits.id
+replies g c event =
+    follows_reply c.requires.led c.args.at c.in-Answer.region c.in-Answer.session event c.in-Some-find.place (sym c.find-in-Answer.ensures ∙ c.in-Some-find.is) c.args.replay.now c.requires.replay
+    c.in-Some-waits.id (sym c.waits.ensures ∙ c.in-Some-waits.is)
 
 pub unreachable-requires : goal.unreachable-requires
 unreachable-requires g c =
-    let event = event_at c.args.self.now c.requires.events c.args.at c.index-events-at.result (Submit c.in-Submit.region c.in-Submit.session) c.requires.at c.index-events-at.is c.in-Submit.is in
-    session_listed c.requires.led c.args.at (Submit c.in-Submit.region c.in-Submit.session) event c.in-Submit.region c.in-Submit.session (inl refl) (sym c.find.ensures ∙ c.in_default-find.is)
+    let at = goal.at.unreachable-requires g c in
+    session_listed c.requires.led c.args.at (Submit c.in-Submit.region c.in-Submit.session) (submission g at.In-Submit) c.in-Submit.region c.in-Submit.session (inl refl) (sym c.find.ensures ∙ c.in_default-find.is)
 
 pub submit-requires-clause-place : goal.submit-requires-clause-place
 submit-requires-clause-place g c =
-    let event = event_at c.args.self.now c.requires.events c.args.at c.index-events-at.result (Submit c.in-Submit.region c.in-Submit.session) c.requires.at c.index-events-at.is c.in-Submit.is in
-    let follows = follows_submission c.requires.led c.args.at c.in-Submit.region c.in-Submit.session event c.in-Some.place (sym c.find.ensures ∙ c.in-Some.is) c.args.replay.now c.requires.replay in
+    let at = goal.at.submit-requires-clause-place g c in
+    let follows = submits g at.In-Some (submission g at.In-Submit) in
     follows.place_there
 
 pub submit-requires-clause-region : goal.submit-requires-clause-region
 submit-requires-clause-region g c =
-    let event = event_at c.args.self.now c.requires.events c.args.at c.index-events-at.result (Submit c.in-Submit.region c.in-Submit.session) c.requires.at c.index-events-at.is c.in-Submit.is in
-    let follows = follows_submission c.requires.led c.args.at c.in-Submit.region c.in-Submit.session event c.in-Some.place (sym c.find.ensures ∙ c.in-Some.is) c.args.replay.now c.requires.replay in
+    let at = goal.at.submit-requires-clause-region g c in
+    let follows = submits g at.In-Some (submission g at.In-Submit) in
     follows.region_there
 
 pub submit-requires-clause-few : goal.submit-requires-clause-few
 submit-requires-clause-few g c =
-    let event = event_at c.args.self.now c.requires.events c.args.at c.index-events-at.result (Submit c.in-Submit.region c.in-Submit.session) c.requires.at c.index-events-at.is c.in-Submit.is in
-    let follows = follows_submission c.requires.led c.args.at c.in-Submit.region c.in-Submit.session event c.in-Some.place (sym c.find.ensures ∙ c.in-Some.is) c.args.replay.now c.requires.replay in
+    let at = goal.at.submit-requires-clause-few g c in
+    let follows = submits g at.In-Some (submission g at.In-Submit) in
     follows.few
 
 pub unreachable-requires-in_default-find-2 : goal.unreachable-requires-in_default-find-2
 unreachable-requires-in_default-find-2 g c =
-    let event = event_at c.args.self.now c.requires.events c.args.at c.index-events-at.result (Answer c.in-Answer.region c.in-Answer.session) c.requires.at c.index-events-at.is c.in-Answer.is in
-    session_listed c.requires.led c.args.at (Answer c.in-Answer.region c.in-Answer.session) event c.in-Answer.region c.in-Answer.session (inr refl) (sym c.find-in-Answer.ensures ∙ c.in_default-find-2.is)
+    let at = goal.at.unreachable-requires-in_default-find-2 g c in
+    session_listed c.requires.led c.args.at (Answer c.in-Answer.region c.in-Answer.session) (answer g at.In-Answer) c.in-Answer.region c.in-Answer.session (inr refl) (sym c.find-in-Answer.ensures ∙ c.in_default-find-2.is)
 
 pub waits-requires : goal.waits-requires
 waits-requires g c =
-    let event = event_at c.args.self.now c.requires.events c.args.at c.index-events-at.result (Answer c.in-Answer.region c.in-Answer.session) c.requires.at c.index-events-at.is c.in-Answer.is in
-    let follows = follows_answer c.requires.led c.args.at c.in-Answer.region c.in-Answer.session event c.in-Some-find.place (sym c.find-in-Answer.ensures ∙ c.in-Some-find.is) c.args.replay.now c.requires.replay in
+    let at = goal.at.waits-requires g c in
+    let follows = answers g at.In-Some-find (answer g at.In-Answer) in
     follows.place_there
 
 pub unreachable-requires-in_default-waits : goal.unreachable-requires-in_default-waits
 unreachable-requires-in_default-waits g c =
-    let event = event_at c.args.self.now c.requires.events c.args.at c.index-events-at.result (Answer c.in-Answer.region c.in-Answer.session) c.requires.at c.index-events-at.is c.in-Answer.is in
-    let follows = follows_answer c.requires.led c.args.at c.in-Answer.region c.in-Answer.session event c.in-Some-find.place (sym c.find-in-Answer.ensures ∙ c.in-Some-find.is) c.args.replay.now c.requires.replay in
+    let at = goal.at.unreachable-requires-in_default-waits g c in
+    let follows = answers g at.In-Some-find (answer g at.In-Answer) in
     follows.waited (sym c.waits.ensures ∙ c.in_default-waits.is)
 
 pub reply-requires-clause-region : goal.reply-requires-clause-region
 reply-requires-clause-region g c =
-    let event = event_at c.args.self.now c.requires.events c.args.at c.index-events-at.result (Answer c.in-Answer.region c.in-Answer.session) c.requires.at c.index-events-at.is c.in-Answer.is in
-    let follows = follows_answer c.requires.led c.args.at c.in-Answer.region c.in-Answer.session event c.in-Some-find.place (sym c.find-in-Answer.ensures ∙ c.in-Some-find.is) c.args.replay.now c.requires.replay in
+    let at = goal.at.reply-requires-clause-region g c in
+    let follows = answers g at.In-Some-find (answer g at.In-Answer) in
     follows.region_there
 
 pub reply-requires-clause-own : goal.reply-requires-clause-own
 reply-requires-clause-own g c =
-    let event = event_at c.args.self.now c.requires.events c.args.at c.index-events-at.result (Answer c.in-Answer.region c.in-Answer.session) c.requires.at c.index-events-at.is c.in-Answer.is in
-    let reply = follows_reply c.requires.led c.args.at c.in-Answer.region c.in-Answer.session event c.in-Some-find.place (sym c.find-in-Answer.ensures ∙ c.in-Some-find.is) c.args.replay.now c.requires.replay
-    c.in-Some-waits.id (sym c.waits.ensures ∙ c.in-Some-waits.is) in
+    let at = goal.at.reply-requires-clause-own g c in
+    let reply = replies g at.In-Some-waits (answer g at.In-Answer) in
     reply.own
 
 pub reply-requires-clause-executed : goal.reply-requires-clause-executed
 reply-requires-clause-executed g c =
-    let event = event_at c.args.self.now c.requires.events c.args.at c.index-events-at.result (Answer c.in-Answer.region c.in-Answer.session) c.requires.at c.index-events-at.is c.in-Answer.is in
-    let reply = follows_reply c.requires.led c.args.at c.in-Answer.region c.in-Answer.session event c.in-Some-find.place (sym c.find-in-Answer.ensures ∙ c.in-Some-find.is) c.args.replay.now c.requires.replay
-    c.in-Some-waits.id (sym c.waits.ensures ∙ c.in-Some-waits.is) in
+    let at = goal.at.reply-requires-clause-executed g c in
+    let reply = replies g at.In-Some-waits (answer g at.In-Answer) in
     reply.executed
 
 pub returns-in-Some-clause-replay : goal.returns-in-Some-clause-replay
 returns-in-Some-clause-replay g c =
-    let event = event_at c.args.self.now c.requires.events c.args.at c.index-events-at.result (Submit c.in-Submit.region c.in-Submit.session) c.requires.at c.index-events-at.is c.in-Submit.is in
-    let follows = follows_submission c.requires.led c.args.at c.in-Submit.region c.in-Submit.session event c.in-Some.place (sym c.find.ensures ∙ c.in-Some.is) c.args.replay.now c.requires.replay in
+    let at = goal.at.returns-in-Some-clause-replay g c in
+    let follows = submits g at.In-Some (submission g at.In-Submit) in
     c.submit.ensures ∙ follows.replay
 
 pub returns-in-Some-clause-reply : goal.returns-in-Some-clause-reply
 returns-in-Some-clause-reply g c =
-    let event = event_at c.args.self.now c.requires.events c.args.at c.index-events-at.result (Submit c.in-Submit.region c.in-Submit.session) c.requires.at c.index-events-at.is c.in-Submit.is in
-    let follows = follows_submission c.requires.led c.args.at c.in-Submit.region c.in-Submit.session event c.in-Some.place (sym c.find.ensures ∙ c.in-Some.is) c.args.replay.now c.requires.replay in
+    let at = goal.at.returns-in-Some-clause-reply g c in
+    let follows = submits g at.In-Some (submission g at.In-Submit) in
     none_more follows.replies
 
 pub returns-in-Some-clause-printable : goal.returns-in-Some-clause-printable
 returns-in-Some-clause-printable g c =
-    let event = event_at c.args.self.now c.requires.events c.args.at c.index-events-at.result (Submit c.in-Submit.region c.in-Submit.session) c.requires.at c.index-events-at.is c.in-Submit.is in
-    let follows = follows_submission c.requires.led c.args.at c.in-Submit.region c.in-Submit.session event c.in-Some.place (sym c.find.ensures ∙ c.in-Some.is) c.args.replay.now c.requires.replay in
+    let at = goal.at.returns-in-Some-clause-printable g c in
+    let follows = submits g at.In-Some (submission g at.In-Submit) in
     subst (AllIn IsPrintableReply) follows.replies
 
 pub returns-in_ok-reply-in-Answer-clause-replay : goal.returns-in_ok-reply-in-Answer-clause-replay
 returns-in_ok-reply-in-Answer-clause-replay g c =
-    let event = event_at c.args.self.now c.requires.events c.args.at c.index-events-at.result (Answer c.in-Answer.region c.in-Answer.session) c.requires.at c.index-events-at.is c.in-Answer.is in
-    let follows = follows_answer c.requires.led c.args.at c.in-Answer.region c.in-Answer.session event c.in-Some-find.place (sym c.find-in-Answer.ensures ∙ c.in-Some-find.is) c.args.replay.now c.requires.replay in
+    let at = goal.at.returns-in_ok-reply-in-Answer-clause-replay g c in
+    let follows = answers g at.In-Some-find (answer g at.In-Answer) in
     c.answer.ensures ∙ follows.replay
 
 pub returns-in_ok-reply-in-Answer-clause-reply : goal.returns-in_ok-reply-in-Answer-clause-reply
 returns-in_ok-reply-in-Answer-clause-reply g c =
-    let event = event_at c.args.self.now c.requires.events c.args.at c.index-events-at.result (Answer c.in-Answer.region c.in-Answer.session) c.requires.at c.index-events-at.is c.in-Answer.is in
-    let reply = follows_reply c.requires.led c.args.at c.in-Answer.region c.in-Answer.session event c.in-Some-find.place (sym c.find-in-Answer.ensures ∙ c.in-Some-find.is) c.args.replay.now c.requires.replay
-    c.in-Some-waits.id (sym c.waits.ensures ∙ c.in-Some-waits.is) in
+    let at = goal.at.returns-in_ok-reply-in-Answer-clause-reply g c in
+    let reply = replies g at.In-Some-waits (answer g at.In-Answer) in
     reply.replies c.in_ok-reply-in-Answer.reply c.in_ok-reply-in-Answer.ensures
 
 pub returns-in_ok-reply-in-Answer-clause-printable : goal.returns-in_ok-reply-in-Answer-clause-printable
 returns-in_ok-reply-in-Answer-clause-printable g c all =
-    let event = event_at c.args.self.now c.requires.events c.args.at c.index-events-at.result (Answer c.in-Answer.region c.in-Answer.session) c.requires.at c.index-events-at.is c.in-Answer.is in
-    let reply = follows_reply c.requires.led c.args.at c.in-Answer.region c.in-Answer.session event c.in-Some-find.place (sym c.find-in-Answer.ensures ∙ c.in-Some-find.is) c.args.replay.now c.requires.replay
-    c.in-Some-waits.id (sym c.waits.ensures ∙ c.in-Some-waits.is) in
+    let at = goal.at.returns-in_ok-reply-in-Answer-clause-printable g c in
+    let reply = replies g at.In-Some-waits (answer g at.In-Answer) in
     subst (AllIn IsPrintableReply) (sym (reply.replies c.in_ok-reply-in-Answer.reply c.in_ok-reply-in-Answer.ensures))
     (all_more IsPrintableReply (replies_at c.args.self.now c.args.at) c.in_ok-reply-in-Answer.reply all c.reply_is_printable.ensures)
 
