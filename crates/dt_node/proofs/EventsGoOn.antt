@@ -66,26 +66,32 @@ module _ {cluster : Cluster} {workload : Workload} where
     };
   }
     where
-      k : IsReached cluster workload (world_after cluster workload events)
+      w : World
+      w = world_after cluster workload events
+
+      v : World
+      v = next cluster workload w e
+
+      k : IsReached cluster workload w
       k = reached f
 
-      later : next cluster workload (world_after cluster workload events) e ≡ world_after cluster workload (events ++ e ∷ [])
+      later : v ≡ world_after cluster workload (events ++ e ∷ [])
       later = after_more k e
 
       knows : (other : ℕ) → other ≢ number_of a → KnowsNoMore (world_after cluster workload (events ++ e ∷ [])) b other
       knows other n =
-          let same : node_at (next cluster workload (world_after cluster workload events) e) other ≡ node_at (world_after cluster workload events) other =
-          ap (λ v. node_at v other) s.is ∙ get_or-set_other (world_after cluster workload events).nodes (number_of a) other (node_of b.site) no_node n in
-          subst (λ v. KnowsNoMore v b other) later (other_knows other n same)
+          let same : node_at v other ≡ node_at w other =
+          ap (λ u. node_at u other) s.is ∙ get_or-set_other w.nodes (number_of a) other (node_of b.site) no_node n in
+          subst (λ u. KnowsNoMore u b other) later (other_knows other n same)
         where
-          other_knows : (q : ℕ) → q ≢ number_of a → node_at (next cluster workload (world_after cluster workload events) e) q ≡ node_at (world_after cluster workload events) q
-              → KnowsNoMore (next cluster workload (world_after cluster workload events) e) b q
+          other_knows : (q : ℕ) → q ≢ number_of a → node_at v q ≡ node_at w q
+              → KnowsNoMore v b q
           other_knows q m same =
-              let known : KnowsNoMore (world_after cluster workload events) a q = f.knows q m in
+              let known : KnowsNoMore w a q = f.knows q m in
               record {
-                took = subst (λ c. get_or b.took q 0 ≤ taken_of (next cluster workload (world_after cluster workload events) e) q c) (sym number)
-                    (subst (λ (x : Node). get_or b.took q 0 ≤ taken_from x.here (number_of a)) (sym same) (subst (λ l. get_or l q 0 ≤ taken_of (world_after cluster workload events) q (number_of a)) (sym took) known.took));
-                received = subst (λ c. get_or b.received q 0 ≤ received_of (next cluster workload (world_after cluster workload events) e) q c) (sym number)
+                took = subst (λ c. get_or b.took q 0 ≤ taken_of v q c) (sym number)
+                    (subst (λ (x : Node). get_or b.took q 0 ≤ taken_from x.here (number_of a)) (sym same) (subst (λ l. get_or l q 0 ≤ taken_of w q (number_of a)) (sym took) known.took));
+                received = subst (λ c. get_or b.received q 0 ≤ received_of v q c) (sym number)
                     (subst (λ (x : Node). get_or b.received q 0 ≤ slice_index (set x.received q (length x.log)) (number_of a)) (sym same)
-                    (subst (λ l. get_or l q 0 ≤ received_of (world_after cluster workload events) q (number_of a)) (sym received) known.received));
+                    (subst (λ l. get_or l q 0 ≤ received_of w q (number_of a)) (sym received) known.received));
               }

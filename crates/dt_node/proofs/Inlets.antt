@@ -29,6 +29,10 @@ can_first xs ys c = record {
 pub can_next : {a n : NodeView} {packets : List Packet} (xs left : List Packet) → CanTake packets a → IsTaking a packets (xs ++ left) n → CanTake xs n
 can_next {a} xs left c t = can_first xs left (take_on t.done (xs ++ left) (subst (λ l. CanTake l a) t.is c) t.moved)
 
+-- what is left may be written otherwise
+pub taking_as : {a n : NodeView} {packets left same : List Packet} → left ≡ same → IsTaking a packets left n → IsTaking a packets same n
+taking_as {a} {n} {packets} is t = subst (λ l. IsTaking a packets l n) is t
+
 -- where no packet waited, none was taken
 pub none_left : {a n : NodeView} {packets left : List Packet} (x : Packet) → packets ≡ [] → IsTaking a packets (x ∷ left) n → ⊥
 none_left {a} {n} {packets} {left} x none t = no (t.done) (sym none ∙ t.is)

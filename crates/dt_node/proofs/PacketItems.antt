@@ -1,8 +1,7 @@
 -- A request that a packet brought is placed, and entries that it brought are received: what the calls ask for, and how they end.
-use Rattle.std.proofs.Common.{◌≡◌, ◌<◌, ◌≤◌, ◌+◌, ◌-◌, ℕ, Bool, true, false, List, [], ◌∷◌, length, map}
+use Rattle.std.proofs.Common.{◌≡◌, ◌<◌, ◌≤◌, ◌+◌, ℕ, Bool, true, false, List, [], ◌∷◌, length}
 use Rattle.std.proofs.Common.{Result, Ok, Err, refl, sym, ap, subst, ◌∙◌, inl, arith}
 use Rattle.std.proofs.lemmas.Bool.Decides.{nat_tests}
-use Rattle.std.proofs.lemmas.List.{get_or-set_same, length-map, length-append, length-drop}
 use Rattle.dt_text.specs.declared.NoMemory.{NoMemory}
 use Rattle.dt_log.specs.declared.Taken.{Taken}
 use Rattle.dt_log.specs.declared.Taken.TheVariants.{New, Old, Gap}
@@ -15,7 +14,7 @@ use Rattle.dt_txn.specs.declared.Entry.{Entry}
 use Rattle.dt_txn.specs.declared.Txn.{Txn}
 use Rattle.dt_region.specs.Region.{RegionView}
 use Rattle.dt_region.specs.Conditions.{CanAppend, CanDeliver}
-use Rattle.dt_region.specs.Rules.{MakesAppend, MakesDelivery, past_end, with_entries}
+use Rattle.dt_region.specs.Rules.{MakesAppend, MakesDelivery}
 use Rattle.dt_region.specs.Sound.{IsSoundRegion}
 use Rattle.dt_cluster.specs.declared.Cluster.{Cluster}
 use Rattle.dt_workload.specs.declared.Workload.{Workload}
@@ -28,7 +27,7 @@ use Rattle.dt_node.specs.NodeInWorld.{AreTold}
 use Rattle.dt_node.specs.Steps.{receipt}
 use Rattle.dt_node.specs.StepsInner.{HasPlaced, HasReceived, IsPlacedTo}
 use Rattle.dt_node.specs.TurnInner.{CanTake, MovesOn, asking_packet, logging_packet}
-use Rattle.dt_node.proofs.Rule3Deliver.{can_receive, receive_goes}
+use Rattle.dt_node.proofs.Rule3Deliver.{can_receive, new_reach, receive_goes}
 use Rattle.dt_node.proofs.PlacedRequests.{has_placed_if, placed_to_if}
 use Rattle.dt_node.proofs.CallsOfNode.{place_moves, receive_moves}
 use Rattle.dt_node.proofs.CallAfterCall.{new_are, new_none, same_moves}
@@ -113,18 +112,8 @@ module _ {a : NodeView} (source first : ℕ) (entries : List Entry) (c : CanTake
   pub receive_taken : (taken : Taken) (r : RegionView) → MakesDelivery a.site.region source first first entries (Ok taken) r → first + length entries ≤ length (log_at r.state.logs source)
   receive_taken (New n) r m =
       let there : source < length a.site.region.state.logs = subst (λ k. source < k) (sym c.can.fits.site.sound.logs) log_there in
-      let now : log_at r.state.logs source ≡ with_entries (log_at a.site.region.state.logs source) first entries =
-      ap (λ (x : RegionView). log_at x.state.logs source) m.3 ∙ get_or-set_same a.site.region.state.logs source (with_entries (log_at a.site.region.state.logs source) first entries) [] there in
-      let long : length (with_entries (log_at a.site.region.state.logs source) first entries)
-      ≡ length (log_at a.site.region.state.logs source) + length (past_end (log_at a.site.region.state.logs source) first entries) =
-      length-append (log_at a.site.region.state.logs source) (map (λ e. e.part) (past_end (log_at a.site.region.state.logs source) first entries))
-      ∙ ap (λ k. length (log_at a.site.region.state.logs source) + k) (length-map (past_end (log_at a.site.region.state.logs source) first entries) (λ e. e.part)) in
-      let some : length (past_end (log_at a.site.region.state.logs source) first entries) ≡ length entries - (length (log_at a.site.region.state.logs source) - first) =
-      length-drop (length (log_at a.site.region.state.logs source) - first) entries in
-      let here : length (log_at r.state.logs source) ≡ length (with_entries (log_at a.site.region.state.logs source) first entries) = ap length now in
-      let low : first ≤ length (log_at a.site.region.state.logs source) = m.0 in
-      let high : length (log_at a.site.region.state.logs source) < first + length entries = m.1 in
-      omega (arith, here, long, some, low, high)
+      let reach : length (log_at r.state.logs source) ≡ first + length entries = new_reach a.site.region r source first entries n there m in
+      omega (arith, reach)
   receive_taken Old r m =
       let old : first + length entries ≤ length (log_at a.site.region.state.logs source) = m.1 in
       let same : length (log_at r.state.logs source) ≡ length (log_at a.site.region.state.logs source) = ap (λ (x : RegionView). length (log_at x.state.logs source)) m.2 in

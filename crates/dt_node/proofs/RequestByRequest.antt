@@ -6,6 +6,7 @@ use Rattle.dt_lists.proofs.Callers.{all_append_right, all_map, get_seam}
 use Rattle.dt_events.specs.declared.Event.{Event}
 use Rattle.dt_events.specs.declared.Event.TheVariants.{Submit, Append, Deliver, Insert, Resolve, Execute, Answer}
 use Rattle.dt_proc.specs.Tree.{ProcTree}
+use Rattle.dt_access.specs.declared.TxnId.{TxnId}
 use Rattle.dt_txn.specs.declared.Txn.{Txn}
 use Rattle.dt_txn.specs.Replica.{taken_from}
 use Rattle.dt_cluster.specs.declared.Cluster.{Cluster}
@@ -48,8 +49,12 @@ one_at (suc n) (x ∷ xs) y e = one_at n xs y e
 -- one of the requests of a packet
 module _ {w : World} (b n : NodeView) (same : number_of n ≡ number_of b) (source first number : ℕ) (done : List Txn) (x : Txn) (left asked : List Txn) (is : asked ≡ done ++ x ∷ left) (next : number ≡ first + length done)
     (t : IsToldOf w (asking_packet b source first asked)) where
-  ids_are : map (λ txn. txn.id) (done ++ x ∷ left) ≡ drop first (take (first + length asked) (asked_of w source (number_of n)))
-  ids_are = subst (λ l. map (λ txn. txn.id) l ≡ drop first (take (first + length asked) (asked_of w source (number_of n)))) is
+  -- what the region had asked when the packet was sent
+  abbrev asked_to : List TxnId
+  asked_to = take (first + length asked) (asked_of w source (number_of n))
+
+  ids_are : map (λ txn. txn.id) (done ++ x ∷ left) ≡ drop first asked_to
+  ids_are = subst (λ l. map (λ txn. txn.id) l ≡ drop first asked_to) is
       (subst (λ h. map (λ txn. txn.id) asked ≡ drop first (take (first + length asked) (asked_of w source h))) (sym same) t.asked)
 
   there : slice_get (map (λ txn. txn.id) (done ++ x ∷ left)) (length done) ≡ Some x.id
@@ -60,7 +65,7 @@ module _ {w : World} (b n : NodeView) (same : number_of n ≡ number_of b) (sour
 
   here : slice_get (asked_of w source (number_of n)) number ≡ Some x.id
   here = get_taken (first + length asked) number (asked_of w source (number_of n)) x.id
-      (get_dropped first (length done) number (take (first + length asked) (asked_of w source (number_of n))) x.id next (subst (λ l. slice_get l (length done) ≡ Some x.id) ids_are there))
+      (get_dropped first (length done) number asked_to x.id next (subst (λ l. slice_get l (length done) ≡ Some x.id) ids_are there))
 
   long : length asked ≡ length done + (length left + 1)
   long = ap length is ∙ length-append done (x ∷ left) ∙ (let e : length done + length (x ∷ left) ≡ length done + (length left + 1) = omega arith in e)
@@ -117,6 +122,10 @@ module _ (a n : NodeView) (same : number_of n ≡ number_of a) (source first num
   by_all stamp (Resolve region ids) f = tt
   by_all stamp (Execute region id) f = tt
   by_all stamp (Answer region name) f = tt
+
+-- what is left may be written otherwise
+pub placing_as : {a n : NodeView} {source first number : ℕ} {asked left same : List Txn} → left ≡ same → IsPlacing a source first asked left number n → IsPlacing a source first asked same number n
+placing_as {a} {n} {source} {first} {number} {asked} is p = subst (λ l. IsPlacing a source first asked l number n) is p
 
 module _ {a : NodeView} {source first : ℕ} {asked : List Txn} (c : CanTake (asking_packet a source first asked ∷ []) a) where
   pub placing_starts : IsPlacing a source first asked asked first a

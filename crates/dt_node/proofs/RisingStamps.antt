@@ -15,24 +15,30 @@ use Rattle.dt_node.specs.NodeView.{NodeView, new_items}
 use Rattle.dt_node.specs.Turn.{StampsRise, greatest}
 use Rattle.dt_node.proofs.Greatest.{above_greatest, greatest_append, greatest_more, greatest_twice}
 
+-- the stamps of packets, and the greatest stamp that a node knows or they bring
+
+abbrev stamps : List Packet → List ℕ
+stamps packets = map (λ p. p.stamp) packets
+
+abbrev highest : NodeView → List Packet → ℕ
+highest n packets = greatest (latest_stamp n.site.region) (stamps packets)
+
 -- stamps rise along one way and then along another
 
 module _ {xs ys : List Packet} {a b c : NodeView} (joined : new_items a c ≡ new_items a b ++ new_items b c) (s : StampsRise xs a b) (t : StampsRise ys b c) where
   across : AllIn (λ x. AllIn (HasLowerStamp x) (new_items b c)) (new_items a b)
   across = all_map _ _ (new_items a b) (λ x le. all_map _ _ (new_items b c) (λ y lt. omega (arith, le, lt)) t.above) s.below
 
-  first_low : latest_stamp b.site.region ≤ greatest (latest_stamp a.site.region) (map (λ p. p.stamp) xs) + length (new_items a b)
+  first_low : latest_stamp b.site.region ≤ highest a xs + length (new_items a b)
   first_low = s.low
 
-  both_low : latest_stamp c.site.region ≤ greatest (latest_stamp a.site.region) (map (λ p. p.stamp) (xs ++ ys)) + length (new_items a b ++ new_items b c)
+  both_low : latest_stamp c.site.region ≤ highest a (xs ++ ys) + length (new_items a b ++ new_items b c)
   both_low =
-      let second : latest_stamp c.site.region ≤ greatest (latest_stamp b.site.region) (map (λ p. p.stamp) ys) + length (new_items b c) = t.low in
-      let up : greatest (latest_stamp b.site.region) (map (λ p. p.stamp) ys)
-      ≤ greatest (greatest (latest_stamp a.site.region) (map (λ p. p.stamp) xs)) (map (λ p. p.stamp) ys) + length (new_items a b) =
-      greatest_more (greatest (latest_stamp a.site.region) (map (λ p. p.stamp) xs)) (length (new_items a b)) (latest_stamp b.site.region) (map (λ p. p.stamp) ys) first_low in
-      let all : greatest (latest_stamp a.site.region) (map (λ p. p.stamp) (xs ++ ys))
-      ≡ greatest (greatest (latest_stamp a.site.region) (map (λ p. p.stamp) xs)) (map (λ p. p.stamp) ys) =
-      ap (greatest (latest_stamp a.site.region)) (map-append (λ p. p.stamp) xs ys) ∙ greatest_append (latest_stamp a.site.region) (map (λ p. p.stamp) xs) (map (λ p. p.stamp) ys) in
+      let second : latest_stamp c.site.region ≤ highest b ys + length (new_items b c) = t.low in
+      let up : highest b ys ≤ greatest (highest a xs) (stamps ys) + length (new_items a b) =
+      greatest_more (highest a xs) (length (new_items a b)) (latest_stamp b.site.region) (stamps ys) first_low in
+      let all : highest a (xs ++ ys) ≡ greatest (highest a xs) (stamps ys) =
+      ap (greatest (latest_stamp a.site.region)) (map-append (λ p. p.stamp) xs ys) ∙ greatest_append (latest_stamp a.site.region) (stamps xs) (stamps ys) in
       let long : length (new_items a b ++ new_items b c) ≡ length (new_items a b) + length (new_items b c) = length-append (new_items a b) (new_items b c) in
       omega (arith, second, up, all, long)
 
@@ -47,7 +53,7 @@ module _ {xs ys : List Packet} {a b c : NodeView} (joined : new_items a c ≡ ne
         below = subst (AllIn (λ x. x.stamp ≤ latest_stamp c.site.region)) (sym joined)
             (all_append _ (new_items a b) (new_items b c) (all_map _ _ (new_items a b) (λ x le. omega (arith, le, t_up)) s.below) t.below);
         up = omega (arith, s_up, t_up);
-        low = subst (λ l. latest_stamp c.site.region ≤ greatest (latest_stamp a.site.region) (map (λ p. p.stamp) (xs ++ ys)) + length l) (sym joined) both_low;
+        low = subst (λ l. latest_stamp c.site.region ≤ highest a (xs ++ ys) + length l) (sym joined) both_low;
       }
 
 -- a packet with a greater stamp in the place of one with stamp 0
@@ -58,7 +64,7 @@ rise_with {q} p {a} {b} none s =
 
 -- no event was made, and perhaps a stamp was heard that some packet has
 pub rise_none : {packets : List Packet} {a b : NodeView} → new_items a b ≡ [] → latest_stamp a.site.region ≤ latest_stamp b.site.region
-    → latest_stamp b.site.region ≤ greatest (latest_stamp a.site.region) (map (λ p. p.stamp) packets) → StampsRise packets a b
+    → latest_stamp b.site.region ≤ highest a packets → StampsRise packets a b
 rise_none {packets} {a} {b} none up low = record {
   rising = subst (EachThen HasLowerStamp) (sym none) tt;
   above = subst (AllIn (λ x. latest_stamp a.site.region < x.stamp)) (sym none) tt;
@@ -91,13 +97,13 @@ rise_by {packets} {a} {b} events kept heard new many =
     let top : ℕ = latest_stamp a.site.region in
     let far : latest_stamp b.site.region ≡ top + length events = latest events kept in
     let c = consecutive (top + 1) events in
-    let great : top ≤ greatest top (map (λ p. p.stamp) packets) = above_greatest top (map (λ p. p.stamp) packets) in
+    let great : top ≤ greatest top (stamps packets) = above_greatest top (stamps packets) in
     record {
       rising = subst (EachThen HasLowerStamp) (sym new) c.0;
       above = subst (AllIn (λ x. top < x.stamp)) (sym new) (all_map _ _ (stamped_from (top + 1) events) (λ x le. omega (arith, le)) c.1);
       below = subst (AllIn (λ x. x.stamp ≤ latest_stamp b.site.region)) (sym new) (all_map _ _ (stamped_from (top + 1) events) (λ x le. omega (arith, le, far)) c.2);
       up = omega (arith, far);
-      low = subst (λ l. latest_stamp b.site.region ≤ greatest top (map (λ p. p.stamp) packets) + length l) (sym new) (omega (arith, far, many, great));
+      low = subst (λ l. latest_stamp b.site.region ≤ greatest top (stamps packets) + length l) (sym new) (omega (arith, far, many, great));
     }
   where
     latest : (es : List Event) → b.site.region.events ≡ a.site.region.events ++ stamped_from (latest_stamp a.site.region + 1) es
@@ -112,9 +118,9 @@ rise_by {packets} {a} {b} events kept heard new many =
 -- the same packets twice
 pub rise_same : {xs : List Packet} {a b : NodeView} → StampsRise (xs ++ xs) a b → StampsRise xs a b
 rise_same {xs} {a} {b} s =
-    let low : latest_stamp b.site.region ≤ greatest (latest_stamp a.site.region) (map (λ p. p.stamp) (xs ++ xs)) + length (new_items a b) = s.low in
-    let is : greatest (latest_stamp a.site.region) (map (λ p. p.stamp) (xs ++ xs)) ≡ greatest (latest_stamp a.site.region) (map (λ p. p.stamp) xs ++ map (λ p. p.stamp) xs) =
+    let low : latest_stamp b.site.region ≤ highest a (xs ++ xs) + length (new_items a b) = s.low in
+    let is : highest a (xs ++ xs) ≡ greatest (latest_stamp a.site.region) (stamps xs ++ stamps xs) =
     ap (greatest (latest_stamp a.site.region)) (map-append (λ p. p.stamp) xs xs) in
-    let once : greatest (latest_stamp a.site.region) (map (λ p. p.stamp) xs ++ map (λ p. p.stamp) xs) ≤ greatest (latest_stamp a.site.region) (map (λ p. p.stamp) xs) =
-    greatest_twice (latest_stamp a.site.region) (map (λ p. p.stamp) xs) in
+    let once : greatest (latest_stamp a.site.region) (stamps xs ++ stamps xs) ≤ highest a xs =
+    greatest_twice (latest_stamp a.site.region) (stamps xs) in
     record { rising = s.rising; above = s.above; below = s.below; up = s.up; low = omega (arith, low, is, once) }

@@ -29,6 +29,22 @@ use Rattle.dt_node.proofs.EventsGoOn.{one_goes, reached}
 joins_both : (received first last : ℕ) → first ≤ received → received < last → joins received first last ≡ true
 joins_both received first last a b = grind (arith, nat_tests)
 
+-- a log with entries that go on past its end reaches as far as they do
+longer_with : (log : List Part) (first : ℕ) (entries : List Entry) → first ≤ length log → length log < first + length entries → length (with_entries log first entries) ≡ first + length entries
+longer_with log first entries from_there past =
+    let new : List Entry = past_end log first entries in
+    let long : length (with_entries log first entries) ≡ length log + length new =
+    length-append log (map (λ e. e.part) new) ∙ ap (λ m. length log + m) (length-map new (λ e. e.part)) in
+    let some : length new ≡ length entries - (length log - first) = length-drop (length log - first) entries in
+    omega (arith, long, some, from_there, past)
+
+-- where some entries were new, the region has the log as far as they go
+pub new_reach : (p r : RegionView) (home first : ℕ) (entries : List Entry) (n : ℕ) → home < length p.state.logs → MakesDelivery p home first first entries (Ok (New n)) r
+    → length (log_at r.state.logs home) ≡ first + length entries
+new_reach p r home first entries n there made =
+    ap (λ (x : RegionView). length (log_at x.state.logs home)) made.3 ∙ ap length (get_or-set_same p.state.logs home (with_entries (log_at p.state.logs home) first entries) [] there)
+    ∙ longer_with (log_at p.state.logs home) first entries made.0 made.1
+
 module _ {cluster : Cluster} {workload : Workload} {events : List Event} {a : NodeView} (f : NodeFits cluster workload events a) {home : ℕ} (lh : home < cluster.regions) (other : home ≢ number_of a)
     (first : ℕ) (entries : List Entry) (within : first + length entries ≤ length (log_of (world_after cluster workload events) home))
     (parts : map (λ e. e.part) entries ≡ drop first (take (first + length entries) (log_of (world_after cluster workload events) home)))
@@ -64,18 +80,9 @@ module _ {cluster : Cluster} {workload : Workload} {events : List Event} {a : No
         let after : length (log_at r.state.logs home) ≡ received_of v (number_of a) home = has_received then f.number steps.stands lh in
         let still : received_of v (number_of a) home ≡ received_of w (number_of a) home = ap (λ u. received_of u (number_of a) home) same in
         let there : home < length a.site.region.state.logs = subst (λ m. home < m) (sym (f.site.sound.logs ∙ f.site.many)) lh in
-        let now : log_at r.state.logs home ≡ with_entries (log_at a.site.region.state.logs home) first entries =
-        ap (λ (x : RegionView). log_at x.state.logs home) made.3 ∙ get_or-set_same a.site.region.state.logs home (with_entries (log_at a.site.region.state.logs home) first entries) [] there in
-        let long : length (with_entries (log_at a.site.region.state.logs home) first entries)
-        ≡ length (log_at a.site.region.state.logs home) + length (past_end (log_at a.site.region.state.logs home) first entries) =
-        length-append (log_at a.site.region.state.logs home) (map (λ e. e.part) (past_end (log_at a.site.region.state.logs home) first entries))
-        ∙ ap (λ m. length (log_at a.site.region.state.logs home) + m) (length-map (past_end (log_at a.site.region.state.logs home) first entries) (λ e. e.part)) in
-        let some : length (past_end (log_at a.site.region.state.logs home) first entries) ≡ length entries - (length (log_at a.site.region.state.logs home) - first) =
-        length-drop (length (log_at a.site.region.state.logs home) - first) entries in
-        let from_there : first ≤ length (log_at a.site.region.state.logs home) = made.0 in
+        let reach : length (log_at r.state.logs home) ≡ first + length entries = new_reach a.site.region r home first entries n there made in
         let past : length (log_at a.site.region.state.logs home) < first + length entries = made.1 in
-        let here : length (log_at r.state.logs home) ≡ length (with_entries (log_at a.site.region.state.logs home) first entries) = ap length now in
-        absurd (omega (arith, before, after, still, long, some, from_there, past, here))
+        absurd (omega (arith, before, after, still, reach, past))
 
     pub receive_goes : GoesAfter cluster workload events (Deliver (number_of a) home first (first + length entries) ∷ []) (record a { site = in_region a.site r })
     receive_goes = one_goes f (Deliver (number_of a) home first (first + length entries)) steps changed

@@ -179,11 +179,14 @@ module _ (cluster : Cluster) (ok : IsValidCluster cluster) (workload : Workload)
   opened_at f (suc n) zero x d a b = a
   opened_at f (suc n) (suc region) x d a b = opened_at f n region x d a b
 
-  no_parts : (n : ℕ) → parts_in (map (λ x. x.log) (replicate n (opening_node cluster.regions (opening_table cluster)))) ≤ 0
-  no_parts zero = omega arith
-  no_parts (suc n) = let a : parts_in (map (λ x. x.log) (replicate n (opening_node cluster.regions (opening_table cluster)))) ≤ 0 = no_parts n in omega arith
+  abbrev opening_nodes : ℕ → List Node
+  opening_nodes n = replicate n (opening_node cluster.regions (opening_table cluster))
 
-  none_done : (n : ℕ) → AllIn (λ x. length x.here.done ≤ 0) (replicate n (opening_node cluster.regions (opening_table cluster)))
+  no_parts : (n : ℕ) → parts_in (map (λ x. x.log) (opening_nodes n)) ≤ 0
+  no_parts zero = omega arith
+  no_parts (suc n) = let a : parts_in (map (λ x. x.log) (opening_nodes n)) ≤ 0 = no_parts n in omega arith
+
+  none_done : (n : ℕ) → AllIn (λ x. length x.here.done ≤ 0) (opening_nodes n)
   none_done zero = tt
   none_done (suc n) = (omega arith, none_done n)
 

@@ -12,8 +12,9 @@ use Rattle.dt_access.specs.declared.TxnId.{TxnId}
 use Rattle.dt_access.specs.declared.Part.{Part}
 use Rattle.dt_log.specs.declared.Taken.{Taken}
 use Rattle.dt_log.specs.declared.Taken.TheVariants.{New, Old, Gap}
-use Rattle.dt_sched.specs.Views.{ids_of, log_at}
+use Rattle.dt_sched.specs.Views.{View, ids_of, log_at}
 use Rattle.dt_sched.specs.Sched.{parts_in}
+use Rattle.dt_events.specs.declared.Event.{Event}
 use Rattle.dt_events.specs.declared.Event.TheVariants.{Deliver}
 use Rattle.dt_txn.specs.declared.Entry.{Entry}
 use Rattle.dt_txn.specs.declared.Txn.{Txn}
@@ -173,7 +174,11 @@ module _ {cluster : Cluster} {workload : Workload} {w : World} (k : IsReached cl
           ∙ sym (fronts_set (received_lengths w region) (logs_of w) home n (log_at (logs_of w) home) fits)
           ∙ ap (fronts (set (received_lengths w region) home n)) (set-get_or (logs_of w) home [])
 
-      few : home ≢ region → (le : first ≤ length has_of) → parts_in (set p.region.state.logs home (with_entries has_of first entries)) ≤ parts_in (logs_of w)
+      -- the logs of the region with these entries
+      abbrev logs_with : View
+      logs_with = set p.region.state.logs home (with_entries has_of first entries)
+
+      few : home ≢ region → (le : first ≤ length has_of) → parts_in logs_with ≤ parts_in (logs_of w)
       few other le =
           subst (λ l. parts_in (set p.region.state.logs home l) ≤ parts_in (logs_of w)) (sym (log_then le).3)
           (subst (λ l. parts_in l ≤ parts_in (logs_of w)) (sym (logs_then other (log_then le).0)) (fronts_few (set (received_lengths w region) home (log_then le).0) (logs_of w)))
@@ -213,7 +218,7 @@ module _ {cluster : Cluster} {workload : Workload} {w : World} (k : IsReached cl
         distinct = λ le. subst (λ l. Distinct (ids_of l)) (sym (log_then le).3)
             (each_front _ (ids_of (take (log_then le).0 (log_of w home))) (ids_of (log_of w home)) (front_map (λ p. p.id) (take (log_then le).0 (log_of w home)) (log_of w home) (front_take (log_then le).0 (log_of w home)))
             (log_distinct cluster workload w (order k) (inv k) home lh));
-        few = λ le. let a : parts_in (set p.region.state.logs home (with_entries has_of first entries)) ≤ parts_in (logs_of w) = few other le in omega (arith, a, short);
+        few = λ le. let a : parts_in logs_with ≤ parts_in (logs_of w) = few other le in omega (arith, a, short);
       }
 
       -- a delivery that joins: it begins at some place, and of its entries those from `first` on are given
@@ -238,7 +243,7 @@ module _ {cluster : Cluster} {workload : Workload} {w : World} (k : IsReached cl
         logs_same = map-set_same (λ n. n.log) w.nodes region node_now no_node refl
 
         -- the logs of the region then, by both accounts
-        logs_after : set p.region.state.logs home (with_entries has_of first entries) ≡ received_logs (received w region home last) region
+        logs_after : logs_with ≡ received_logs (received w region home last) region
         logs_after =
             let other : home ≢ region = apart begin on in
             let own : ℕ = length (log_of w region) in
@@ -260,14 +265,17 @@ module _ {cluster : Cluster} {workload : Workload} {w : World} (k : IsReached cl
 
         -- the region after the event
 
-        module _ (r : RegionView) (is : r ≡ with_event p.region (after_deliver p.region.state home first entries) (Deliver p.region.state.number home begin (first + length entries))) (sound : IsSoundRegion r.state) where
+        abbrev event : Event
+        event = Deliver p.region.state.number home begin (first + length entries)
+
+        module _ (r : RegionView) (is : r ≡ with_event p.region (after_deliver p.region.state home first entries) event) (sound : IsSoundRegion r.state) where
           node_made : node_of (in_region p r) ≡ node_now
           node_made =
               let here : ℕ = p.region.state.number in
               let other : home ≢ here = λ e. apart begin on (e ∙ s.number) in
-              let new_log : log_at (set p.region.state.logs home (with_entries has_of first entries)) here ≡ log_at p.region.state.logs here =
+              let new_log : log_at logs_with here ≡ log_at p.region.state.logs here =
               get_or-set_other p.region.state.logs home here (with_entries has_of first entries) [] (λ e. other (sym e)) in
-              let new_received : set (map length (set p.region.state.logs home (with_entries has_of first entries))) here 0 ≡ set (set (map length p.region.state.logs) here 0) home last =
+              let new_received : set (map length logs_with) here 0 ≡ set (set (map length p.region.state.logs) here 0) home last =
               ap (λ l. set (map length (set p.region.state.logs home l)) here 0) longer_log
               ∙ ap (λ l. set l here 0) (map-set length p.region.state.logs home (take last (log_of w home)) ∙ ap (set (map length p.region.state.logs) home) (length-take-le last (log_of w home) within))
               ∙ set_comm (map length p.region.state.logs) home here last 0 other in
@@ -305,9 +313,9 @@ module _ {cluster : Cluster} {workload : Workload} {w : World} (k : IsReached cl
             };
             others = others;
             kept =
-                ap (λ x. events_of x.events) is ∙ kept_more p.region p.region.state (Deliver p.region.state.number home begin (first + length entries))
+                ap (λ x. events_of x.events) is ∙ kept_more p.region p.region.state event
                 ∙ ap₂ (λ a b. events_of p.region.events ++ Deliver a home begin b ∷ []) s.number to_last;
-            stamp = ap latest_stamp is ∙ latest_more p.region p.region.state (Deliver p.region.state.number home begin (first + length entries));
+            stamp = ap latest_stamp is ∙ latest_more p.region p.region.state event;
           }
 
         pub deliver_made : (r : RegionView) (t : Taken) → MakesDelivery p.region home begin first entries (Ok t) r → IsSoundRegion r.state

@@ -76,7 +76,7 @@ module _ {cluster : Cluster} {workload : Workload} {w : World} {region : ℕ} {s
   try_of None m = m
   try_of (Some (session, place)) m = go place.waits m
     where
-      go : (waits : Option TxnId) → tries_at cluster.tries (Some (seat_in w (session, record { answered = place.answered; waits = waits })))
+      go : (waits : Option TxnId) → tries_at cluster.tries (Some (seat_in w (session, record place { waits = waits })))
           → MayTry cluster.tries (length session.calls) place.answered (awaited_at w region waits)
       go None m = m
       go (Some id) m = m
@@ -86,7 +86,7 @@ module _ {cluster : Cluster} {workload : Workload} {w : World} {region : ℕ} {s
   of_try (Some (session, place)) m = go place.waits m
     where
       go : (waits : Option TxnId) → MayTry cluster.tries (length session.calls) place.answered (awaited_at w region waits)
-          → tries_at cluster.tries (Some (seat_in w (session, record { answered = place.answered; waits = waits })))
+          → tries_at cluster.tries (Some (seat_in w (session, record place { waits = waits })))
       go None m = m
       go (Some id) m = m
 
@@ -94,7 +94,7 @@ module _ {cluster : Cluster} {workload : Workload} {w : World} {region : ℕ} {s
   end_of None m = m
   end_of (Some (session, place)) m = go place.waits m
     where
-      go : (waits : Option TxnId) → ends_at cluster.tries (Some (seat_in w (session, record { answered = place.answered; waits = waits })))
+      go : (waits : Option TxnId) → ends_at cluster.tries (Some (seat_in w (session, record place { waits = waits })))
           → MayEnd cluster.tries (awaited_at w region waits)
       go None m = m
       go (Some id) m = m
@@ -104,7 +104,7 @@ module _ {cluster : Cluster} {workload : Workload} {w : World} {region : ℕ} {s
   of_end (Some (session, place)) m = go place.waits m
     where
       go : (waits : Option TxnId) → MayEnd cluster.tries (awaited_at w region waits)
-          → ends_at cluster.tries (Some (seat_in w (session, record { answered = place.answered; waits = waits })))
+          → ends_at cluster.tries (Some (seat_in w (session, record place { waits = waits })))
       go None m = m
       go (Some id) m = m
 
@@ -130,7 +130,7 @@ module _ {cluster : Cluster} {workload : Workload} {w : World} {region : ℕ} {s
 pub numbers_are : (w : World) (session : Session) (place : Place) → numbers_next (seat_in w (session, place)) ≡ (place.answered + 1, next_attempt w place.waits)
 numbers_are w session place = go place.waits
   where
-    go : (waits : Option TxnId) → numbers_next (seat_in w (session, record { answered = place.answered; waits = waits })) ≡ (place.answered + 1, next_attempt w waits)
+    go : (waits : Option TxnId) → numbers_next (seat_in w (session, record place { waits = waits })) ≡ (place.answered + 1, next_attempt w waits)
     go None = refl
     go (Some id) = refl
 
@@ -186,7 +186,7 @@ seat_alike {cluster} {workload} {w} {order} i v {region} lr attempts name (Some 
     r = session_found (IsPlaceOf cluster.tries w) workload.sessions w.places region name session place i.sessions.places e
 
     go : (waits : Option TxnId) → place.waits ≡ waits
-        → ◌≡◌ {A = Option Seat} (Some (seat_in w (session, record { answered = place.answered; waits = waits }))) (Some (seat_in v (session, record { answered = place.answered; waits = waits })))
+        → ◌≡◌ {A = Option Seat} (Some (seat_in w (session, record place { waits = waits }))) (Some (seat_in v (session, record place { waits = waits })))
     go None is = refl
     go (Some id) is =
         let wait : WaitsAt cluster w session place id = waiting_for cluster workload w order i session place id (subst (λ q. q < cluster.regions) (sym r.2) lr) r.3 is in
@@ -264,7 +264,7 @@ places_of_each f (s ∷ sessions) (p ∷ places) all = ap₂ (λ x l. x ∷ l) a
 place_of_seat : (w : World) (session : Session) (place : Place) → place_in (Some (seat_in w (session, place))) ≡ place
 place_of_seat w session place = go place.waits
   where
-    go : (waits : Option TxnId) → place_in (Some (seat_in w (session, record { answered = place.answered; waits = waits }))) ≡ record { answered = place.answered; waits = waits }
+    go : (waits : Option TxnId) → place_in (Some (seat_in w (session, record place { waits = waits }))) ≡ record place { waits = waits }
     go None = refl
     go (Some id) = refl
 

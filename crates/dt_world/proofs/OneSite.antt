@@ -17,7 +17,7 @@ use Rattle.dt_site.specs.Site.{SiteView, in_region, no_site}
 use Rattle.dt_site.proofs.Callers.{a_region, can_move, execute_made, execute_refused, holds_valid, insert_made, insert_refused, resolve_made, resolve_refused}
 use Rattle.dt_world.specs.WorldSessions.{WorldSessions, places_in}
 use Rattle.dt_world.specs.WorldInner.{IsLawful, site_at, view_in, world_of}
-use Rattle.dt_world.proofs.WorldLaws.{HoldsSite, IsBehind, IsMade, step_made}
+use Rattle.dt_world.proofs.WorldLaws.{HoldsSite, IsBehind, IsMade, step_made, with_region}
 
 -- the list where a site is put back as it was
 pub put_back : {cluster : Cluster} {sessions : WorldSessions} {sites : List SiteView} {steps : ℕ} → IsLawful cluster sessions sites steps → (region : ℕ) (p later : SiteView) → p ≡ site_at sites region → later ≡ p
@@ -46,13 +46,13 @@ module _ {cluster : Cluster} {sessions : WorldSessions} {sites : List SiteView} 
   b = at.site
 
   -- the list where the region is as it was
-  pub same_sites : (later : RegionView) → later ≡ r → set sites region (record { region = later; origins = origins }) ≡ sites
+  pub same_sites : (later : RegionView) → later ≡ r → with_region sites region later origins ≡ sites
   same_sites later same = ap (set sites region) (b.site_is later ∙ ap (in_region (site_at sites region)) (same ∙ b.region_is)) ∙ set-get_or sites region no_site
 
-  pub same_lawful : (later : RegionView) → later ≡ r → IsLawful cluster sessions (set sites region (record { region = later; origins = origins })) steps
+  pub same_lawful : (later : RegionView) → later ≡ r → IsLawful cluster sessions (with_region sites region later origins) steps
   same_lawful later same = subst (λ l. IsLawful cluster sessions l steps) (sym (same_sites later same)) k
 
-  pub same_view : (later : RegionView) → later ≡ r → view_in cluster sessions (set sites region (record { region = later; origins = origins })) steps ≡ view_in cluster sessions sites steps
+  pub same_view : (later : RegionView) → later ≡ r → view_in cluster sessions (with_region sites region later origins) steps ≡ view_in cluster sessions sites steps
   same_view later same = ap (λ l. view_in cluster sessions l steps) (same_sites later same)
 
   pub holds_here : HoldsValid cluster.procs r.state
@@ -75,7 +75,7 @@ module _ {cluster : Cluster} {sessions : WorldSessions} {sites : List SiteView} 
   -- rules 4 to 6
 
   module _ (home : ℕ) (lh : home < cluster.regions) (later : RegionView) (on : Bool) (m : MakesStep [] r (Insert r.state.number home) (Ok on) later) where
-    pub insert_done : on ≡ true → IsSoundRegion later.state → IsMade cluster sessions sites steps (Insert region home) sessions (set sites region (record { region = later; origins = origins }))
+    pub insert_done : on ≡ true → IsSoundRegion later.state → IsMade cluster sessions sites steps (Insert region home) sessions (with_region sites region later origins)
     insert_done e sound =
         let m' : MakesStep cluster.procs r (Insert r.state.number home) (Ok true) later = subst (λ y. MakesStep cluster.procs r (Insert r.state.number home) (Ok y) later) e m in
         let here = subst (λ x. MakesStep cluster.procs x (Insert x.state.number home) (Ok true) later) b.region_is m' in
@@ -88,7 +88,7 @@ module _ {cluster : Cluster} {sessions : WorldSessions} {sites : List SiteView} 
         insert_refused k.reached lr (k.stands region lr) home lh later (subst (λ x. MakesStep cluster.procs x (Insert x.state.number home) (Ok false) later) b.region_is m')
 
   module _ (ids : List TxnId) (later : RegionView) (on : Bool) (m : MakesStep [] r (Resolve r.state.number ids) (Ok on) later) where
-    pub resolve_done : on ≡ true → IsSoundRegion later.state → IsMade cluster sessions sites steps (Resolve region ids) sessions (set sites region (record { region = later; origins = origins }))
+    pub resolve_done : on ≡ true → IsSoundRegion later.state → IsMade cluster sessions sites steps (Resolve region ids) sessions (with_region sites region later origins)
     resolve_done e sound =
         let m' : MakesStep cluster.procs r (Resolve r.state.number ids) (Ok true) later = subst (λ y. MakesStep cluster.procs r (Resolve r.state.number ids) (Ok y) later) e m in
         let here = subst (λ x. MakesStep cluster.procs x (Resolve x.state.number ids) (Ok true) later) b.region_is m' in
@@ -101,7 +101,7 @@ module _ {cluster : Cluster} {sessions : WorldSessions} {sites : List SiteView} 
         resolve_refused k.reached lr (k.stands region lr) ids later (subst (λ x. MakesStep cluster.procs x (Resolve x.state.number ids) (Ok false) later) b.region_is m')
 
   module _ (id : TxnId) (later : RegionView) (on : Bool) (m : MakesStep cluster.procs r (Execute r.state.number id) (Ok on) later) where
-    pub execute_done : on ≡ true → IsSoundRegion later.state → IsMade cluster sessions sites steps (Execute region id) sessions (set sites region (record { region = later; origins = origins }))
+    pub execute_done : on ≡ true → IsSoundRegion later.state → IsMade cluster sessions sites steps (Execute region id) sessions (with_region sites region later origins)
     execute_done e sound =
         let m' : MakesStep cluster.procs r (Execute r.state.number id) (Ok true) later = subst (λ y. MakesStep cluster.procs r (Execute r.state.number id) (Ok y) later) e m in
         let here = subst (λ x. MakesStep cluster.procs x (Execute x.state.number id) (Ok true) later) b.region_is m' in

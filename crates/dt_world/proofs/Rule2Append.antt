@@ -19,7 +19,7 @@ use Rattle.dt_site.proofs.Callers.{AsksFor, append_legal, append_made, append_st
 use Rattle.dt_world.specs.WorldSessions.{WorldSessions, places_in}
 use Rattle.dt_world.specs.WorldInner.{IsLawful, site_at, world_of}
 use Rattle.dt_world.proofs.OneSite.{same_sites}
-use Rattle.dt_world.proofs.WorldLaws.{HoldsSite, IsBehind, IsMade, node_is, short, step_made, still_made}
+use Rattle.dt_world.proofs.WorldLaws.{HoldsSite, IsBehind, IsMade, node_is, short, step_made, still_made, with_region}
 
 -- what the call has in hand: an id that the source asked the home to place as this request, and its transaction, which the
 -- source holds
@@ -68,7 +68,7 @@ module _ {cluster : Cluster} {sessions : WorldSessions} {sites : List SiteView} 
       (can_append k.reached lh (k.stands home lh) ls asked_for (omega (arith, (short k).parts, few)))
 
   pub append_done : (later : RegionView) (on : Bool) → MakesAppend r source number txn (Ok on) later → IsSoundRegion later.state
-      → IsMade cluster sessions sites steps (Append home source number) sessions (set sites home (record { region = later; origins = origins }))
+      → IsMade cluster sessions sites steps (Append home source number) sessions (with_region sites home later origins)
   append_done later true m sound =
       let m' = subst (λ x. MakesAppend x source number txn (Ok true) later) b.region_is m in
       subst (λ q. IsMade cluster sessions sites steps (Append home source number) sessions (set sites home q)) (sym (b.site_is later))

@@ -23,7 +23,7 @@ use Rattle.dt_site.specs.Site.{SiteView}
 use Rattle.dt_site.proofs.Callers.{apart, can_deliver, deliver_legal, deliver_made, deliver_still, has_received, joins, joins_to, own_log}
 use Rattle.dt_world.specs.WorldSessions.{WorldSessions, places_in}
 use Rattle.dt_world.specs.WorldInner.{IsLawful, site_at, world_of}
-use Rattle.dt_world.proofs.WorldLaws.{HoldsSite, IsBehind, IsMade, short, step_made, still_made}
+use Rattle.dt_world.proofs.WorldLaws.{HoldsSite, IsBehind, IsMade, short, step_made, still_made, with_region}
 
 -- what the call reads of the sites: how far the home's log reaches, how far the region received it, and whether the
 -- delivery joins that
@@ -106,7 +106,7 @@ module _ {cluster : Cluster} {sessions : WorldSessions} {sites : List SiteView} 
       (omega (arith, (short k).parts, few)))
 
   pub deliver_done : (later : RegionView) (t : Taken) → MakesDelivery r home first has entries (Ok t) later → IsSoundRegion later.state
-      → IsMade cluster sessions sites steps (Deliver region home first last) sessions (set sites region (record { region = later; origins = origins }))
+      → IsMade cluster sessions sites steps (Deliver region home first last) sessions (with_region sites region later origins)
   deliver_done later t m sound =
       let m' = subst (λ x. MakesDelivery x home first has entries (Ok t) later) b.region_is m in
       subst (λ q. IsMade cluster sessions sites steps (Deliver region home first last) sessions (set sites region q)) (sym (b.site_is later))

@@ -22,7 +22,7 @@ use Rattle.dt_site.proofs.Callers.{Answers, StandsElsewhere, answer_elsewhere, a
 use Rattle.dt_world.specs.WorldInner.{IsLawful, MayBeTold, sessions_of, site_at, view_in, world_of}
 use Rattle.dt_world.specs.WorldSessions.{WorldSessions, places_in}
 use Rattle.dt_world.proofs.WorldFacts.{end_told, sessions_at_place}
-use Rattle.dt_world.proofs.WorldLaws.{HoldsSite, IsBehind, IsMade, a_site, behind, sessions_made}
+use Rattle.dt_world.proofs.WorldLaws.{HoldsSite, IsBehind, IsMade, a_site, behind, sessions_made, with_region}
 
 module _ {cluster : Cluster} {sessions : WorldSessions} {sites : List SiteView} {steps : ℕ} (k : IsLawful cluster sessions sites steps) {region : ℕ} (lr : region < cluster.regions) (name : Bytes) where
   abbrev w : World
@@ -56,7 +56,7 @@ module _ {cluster : Cluster} {sessions : WorldSessions} {sites : List SiteView} 
             (others_sessions k.reached (Answer region name) legal lr elsewhere lq n (k.attended r lq))
 
     done_here : {r : RegionView} {origins : List Origin} → IsBehind sites region r origins → (after : RegionView) → MakesAnswer r name (Ok tt) after
-        → IsMade cluster sessions sites steps (Answer region name) (record sessions { by_region = later }) (set sites region (record { region = after; origins = origins }))
+        → IsMade cluster sessions sites steps (Answer region name) (record sessions { by_region = later }) (with_region sites region after origins)
     done_here b after m =
         let here = subst (λ x. MakesAnswer x name (Ok tt) after) b.region_is m in
         subst (λ q. IsMade cluster sessions sites steps (Answer region name) (record sessions { by_region = later }) (set sites region q)) (sym (b.site_is after))
@@ -65,11 +65,11 @@ module _ {cluster : Cluster} {sessions : WorldSessions} {sites : List SiteView} 
 
   -- the site and the sessions after the call
   answer_done : MayBeTold (view_in cluster sessions sites steps) region name → {r : RegionView} {origins : List Origin} → IsBehind sites region r origins → (after : RegionView) → MakesAnswer r name (Ok tt) after
-      → IsMade cluster sessions sites steps (Answer region name) (record sessions { by_region = later }) (set sites region (record { region = after; origins = origins }))
+      → IsMade cluster sessions sites steps (Answer region name) (record sessions { by_region = later }) (with_region sites region after origins)
   answer_done may {r} {origins} b after m = go (session_at sessions.workload.sessions (places_in sessions) region name) refl may
     where
       go : (o : Option (Session × Place)) → session_at sessions.workload.sessions (places_in sessions) region name ≡ o → MayAnswer cluster w region o
-          → IsMade cluster sessions sites steps (Answer region name) (record sessions { by_region = later }) (set sites region (record { region = after; origins = origins }))
+          → IsMade cluster sessions sites steps (Answer region name) (record sessions { by_region = later }) (with_region sites region after origins)
       go None e x = absurd x
       go (Some (session, place)) e x = let answers : Answers cluster sessions.workload w region name session place = record { found = e; may = x } in done_here answers b after m
 

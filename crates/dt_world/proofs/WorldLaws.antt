@@ -44,25 +44,32 @@ pub read_at : (sites : List SiteView) (region : ℕ) (p : SiteView) → region <
 read_at sites region p lt e = get_or_read sites region p lt e no_site
 
 module _ {cluster : Cluster} {sessions : WorldSessions} {sites : List SiteView} {steps : ℕ} (k : IsLawful cluster sessions sites steps) where
+  abbrev w : World
+  w = world_of sites (places_in sessions)
+
+  -- the world after an event
+  abbrev w_after : Event → World
+  w_after event = next cluster sessions.workload w event
+
   pub many_sites : length sites ≡ cluster.regions
   many_sites = sym (length-map sites node_of) ∙ (inv k.reached).nodes
 
   pub a_site : {region : ℕ} → region < cluster.regions → region < length sites
   a_site {region} lr = subst (λ n. region < n) (sym many_sites) lr
 
-  pub node_is : (q : ℕ) → node_at (world_of sites (places_in sessions)) q ≡ node_of (site_at sites q)
+  pub node_is : (q : ℕ) → node_at w q ≡ node_of (site_at sites q)
   node_is q = get_or-map node_of sites q no_site
 
   -- the lists of the world are short
-  pub short : HasShortLists (world_of sites (places_in sessions)) steps
+  pub short : HasShortLists w steps
   short = subst (λ w. HasShortLists w steps) (sym k.reached.after)
       (subst (HasShortLists _) k.many (legal_short cluster k.reached.run.sound sessions.workload k.reached.run.fits k.reached.events k.reached.run.legal))
 
   pub submitted_few : {region : ℕ} → region < cluster.regions → length (site_at sites region).region.state.submitted ≤ steps
   submitted_few {region} lr = subst (λ n. n ≤ steps) (many_here k.reached (k.stands region lr)) (short.submitted region)
 
-  kept_stays : (event : Event) (region : ℕ) (q : SiteView) → region_of event ≡ region → kept_in q ≡ kept_in (site_at sites region) ++ event ∷ [] → takes_effect (world_of sites (places_in sessions)) event ≡ true
-      → map kept_in (set sites region q) ≡ kept_next (world_of sites (places_in sessions)) (map kept_in sites) event
+  kept_stays : (event : Event) (region : ℕ) (q : SiteView) → region_of event ≡ region → kept_in q ≡ kept_in (site_at sites region) ++ event ∷ [] → takes_effect w event ≡ true
+      → map kept_in (set sites region q) ≡ kept_next w (map kept_in sites) event
   kept_stays event region q of kept effect =
       map-set kept_in sites region q
       ∙ ap (set (map kept_in sites) region) (kept ∙ ap (λ l. l ++ event ∷ []) (sym (get_or-map kept_in sites region no_site)))
@@ -75,10 +82,10 @@ module _ {cluster : Cluster} {sessions : WorldSessions} {sites : List SiteView} 
 
   -- one region steps, and these are the sessions that the regions keep then
   pub sessions_made : (event : Event) {region : ℕ} → region < cluster.regions → {q : SiteView} {places : List Place}
-      → Steps cluster sessions.workload (world_of sites (places_in sessions)) event region (site_at sites region) q places
-      → region_of event ≡ region → takes_effect (world_of sites (places_in sessions)) event ≡ true
+      → Steps cluster sessions.workload w event region (site_at sites region) q places
+      → region_of event ≡ region → takes_effect w event ≡ true
       → (later : List SessionsView) → length later ≡ cluster.regions
-      → ((r : ℕ) → r < cluster.regions → SessionsStandIn cluster sessions.workload (next cluster sessions.workload (world_of sites (places_in sessions)) event) r (sessions_of later r))
+      → ((r : ℕ) → r < cluster.regions → SessionsStandIn cluster sessions.workload (w_after event) r (sessions_of later r))
       → IsMade cluster sessions sites steps event (record sessions { by_region = later }) (set sites region q)
   sessions_made event {region} lr {q} {places} s of effect later many standing = record {
     legal = s.legal;
@@ -97,10 +104,7 @@ module _ {cluster : Cluster} {sessions : WorldSessions} {sites : List SiteView} 
     is = ap₂ (λ w (l : List (List Event)). record { cluster = cluster; workload = sessions.workload; state = w; kept = l; steps = steps + 1 }) is (kept_stays event region q of s.kept effect);
   }
     where
-      v : World
-      v = next cluster sessions.workload (world_of sites (places_in sessions)) event
-
-      then_reached : IsReached cluster sessions.workload v
+      then_reached : IsReached cluster sessions.workload (w_after event)
       then_reached = record { events = k.reached.events ++ event ∷ []; run = run_more k.reached event s.legal; after = after_more k.reached event }
 
       stamped : (r : ℕ) → r < cluster.regions → Either (r ≡ region) → latest_stamp (site_at (set sites region q) r).region ≤ steps + 1
@@ -108,27 +112,27 @@ module _ {cluster : Cluster} {sessions : WorldSessions} {sites : List SiteView} 
           (subst (λ x. latest_stamp x.region ≤ steps + 1) (sym (get_or-set_same sites region q no_site (a_site lr))) (let a = k.stamps region lr in let b = s.stamp in omega (arith, a, b)))
       stamped r lq (inr n) = subst (λ x. latest_stamp x.region ≤ steps + 1) (sym (get_or-set_other sites region r q no_site n)) (let a = k.stamps r lq in omega (arith, a))
 
-      places_are_v : places_of sessions.workload later ≡ v.places
-      places_are_v = places_are k.reached.run.fits.names_once at_region (sym (places_parallel cluster sessions.workload v (order then_reached) (inv then_reached))) later standing
+      places_are_v : places_of sessions.workload later ≡ (w_after event).places
+      places_are_v = places_are k.reached.run.fits.names_once at_region (sym (places_parallel cluster sessions.workload (w_after event) (order then_reached) (inv then_reached))) later standing
 
-      is : world_of (set sites region q) (places_of sessions.workload later) ≡ next cluster sessions.workload (world_of sites (places_in sessions)) event
+      is : world_of (set sites region q) (places_of sessions.workload later) ≡ w_after event
       is = ap₂ (λ l p. record { nodes = l; places = p }) (map-set node_of sites region q) (places_are_v ∙ ap (λ x. x.places) s.is) ∙ sym s.is
 
-      at : (r : ℕ) → r < cluster.regions → Either (r ≡ region) → StandsIn cluster.regions (next cluster sessions.workload (world_of sites (places_in sessions)) event) r (site_at (set sites region q) r)
-      at r lq (inl e) = subst (λ x. StandsIn cluster.regions (next cluster sessions.workload (world_of sites (places_in sessions)) event) x (site_at (set sites region q) x)) (sym e)
-          (subst (λ x. StandsIn cluster.regions (next cluster sessions.workload (world_of sites (places_in sessions)) event) region x) (sym (get_or-set_same sites region q no_site (a_site lr))) s.stands)
-      at r lq (inr n) = subst (λ x. StandsIn cluster.regions (next cluster sessions.workload (world_of sites (places_in sessions)) event) r x) (sym (get_or-set_other sites region r q no_site n))
+      at : (r : ℕ) → r < cluster.regions → Either (r ≡ region) → StandsIn cluster.regions (w_after event) r (site_at (set sites region q) r)
+      at r lq (inl e) = subst (λ x. StandsIn cluster.regions (w_after event) x (site_at (set sites region q) x)) (sym e)
+          (subst (λ x. StandsIn cluster.regions (w_after event) region x) (sym (get_or-set_same sites region q no_site (a_site lr))) s.stands)
+      at r lq (inr n) = subst (λ x. StandsIn cluster.regions (w_after event) r x) (sym (get_or-set_other sites region r q no_site n))
           (others_stand k.reached s r n lq (site_at sites r) (k.stands r lq))
 
   -- one site steps by itself, and all sessions stand as before
-  pub step_made : (event : Event) {region : ℕ} → region < cluster.regions → {q : SiteView} → Steps cluster sessions.workload (world_of sites (places_in sessions)) event region (site_at sites region) q (places_in sessions)
-      → region_of event ≡ region → takes_effect (world_of sites (places_in sessions)) event ≡ true → IsMade cluster sessions sites steps event sessions (set sites region q)
+  pub step_made : (event : Event) {region : ℕ} → region < cluster.regions → {q : SiteView} → Steps cluster sessions.workload w event region (site_at sites region) q (places_in sessions)
+      → region_of event ≡ region → takes_effect w event ≡ true → IsMade cluster sessions sites steps event sessions (set sites region q)
   step_made event lr s of effect =
       sessions_made event lr s of effect sessions.by_region k.listed (λ r lq. sessions_stay k.reached event s.legal (ap (λ v. v.places) s.is) lq (k.attended r lq))
 
   -- a legal event that takes no effect
-  pub still_made : (event : Event) → IsLegal cluster sessions.workload (world_of sites (places_in sessions)) event → next cluster sessions.workload (world_of sites (places_in sessions)) event ≡ world_of sites (places_in sessions)
-      → takes_effect (world_of sites (places_in sessions)) event ≡ false → IsMade cluster sessions sites steps event sessions sites
+  pub still_made : (event : Event) → IsLegal cluster sessions.workload w event → w_after event ≡ w
+      → takes_effect w event ≡ false → IsMade cluster sessions sites steps event sessions sites
   still_made event l same effect = record {
     legal = l;
     lawful = record {
@@ -146,6 +150,10 @@ module _ {cluster : Cluster} {sessions : WorldSessions} {sites : List SiteView} 
     is = ap₂ (λ w (l : List (List Event)). record { cluster = cluster; workload = sessions.workload; state = w; kept = l; steps = steps + 1 }) (sym same)
         (sym (ap (λ b. cond b (set (map kept_in sites) (region_of event) (get_or (map kept_in sites) (region_of event) [] ++ event ∷ [])) (map kept_in sites)) effect));
   }
+
+-- the sites of all regions, where a call left this region in one of them
+abbrev pub with_region : List SiteView → ℕ → RegionView → List Origin → List SiteView
+with_region sites region r origins = set sites region (record { region = r; origins = origins })
 
 -- a site that a call reached through the list, by its fields
 

@@ -1,9 +1,16 @@
 use Rattle.std.proofs.Common.{[]}
+use Rattle.dt_node.specs.TurnInner.{MovesOn}
 use Rattle.dt_node.proofs.EagerStart.{first_pass}
 use Rattle.dt_node.proofs.CallAfterCall.{moves_more}
 use Rattle.dt_node.proofs.PassesOfTurn.{own_stay, pass_steps, passes, rested_passes, rested_steps}
 use Rattle.dt_node.proofs.TruePackets.{can_on}
+use Rattle.dt_node.proofs.node.Node.pass.Given.{Over}
 use Rattle.dt_node.proofs.node.Node.pass.Goals as goal
+use Rattle.dt_node.proofs.node.Node.pass.Goals.{After-submit_all}
+
+-- what the node has made once its sessions went on
+went : (g : Over) (c : After-submit_all g) → MovesOn c.args.procs.now [] c.args.self.now c.submit_all.new.self
+went g c = moves_more (c.answer_all.ensures.moved c.args.procs.now) c.submit_all.ensures.moved
 
 pub returns-in_err-answered-clause-moved : goal.returns-in_err-answered-clause-moved
 returns-in_err-answered-clause-moved g c = c.answer_all.ensures.moved c.args.procs.now
@@ -12,13 +19,13 @@ pub submit_all-requires : goal.submit_all-requires
 submit_all-requires g c = record { can = can_on [] [] c.requires.can (c.answer_all.ensures.moved c.args.procs.now) }
 
 pub returns-in_err-submitted-clause-moved : goal.returns-in_err-submitted-clause-moved
-returns-in_err-submitted-clause-moved g c = moves_more (c.answer_all.ensures.moved c.args.procs.now) c.submit_all.ensures.moved
+returns-in_err-submitted-clause-moved g c = went g (goal.at.returns-in_err-submitted-clause-moved g c).After-submit_all
 
 pub round-requires-clause-can : goal.round-requires-clause-can
-round-requires-clause-can g c = can_on [] [] c.requires.can (moves_more (c.answer_all.ensures.moved c.args.procs.now) c.submit_all.ensures.moved)
+round-requires-clause-can g c = can_on [] [] c.requires.can (went g (goal.at.round-requires-clause-can g c).After-submit_all)
 
 pub returns-in_err-round-clause-moved : goal.returns-in_err-round-clause-moved
-returns-in_err-round-clause-moved g c = moves_more (moves_more (c.answer_all.ensures.moved c.args.procs.now) c.submit_all.ensures.moved) c.round.ensures.moved
+returns-in_err-round-clause-moved g c = moves_more (went g (goal.at.returns-in_err-round-clause-moved g c).After-submit_all) c.round.ensures.moved
 
 pub returns-then-not-went-clause-passed : goal.returns-then-not-went-clause-passed
 returns-then-not-went-clause-passed g c =
@@ -32,7 +39,7 @@ returns-then-not-went-clause-steps g c =
     c.in_ok-answered.ensures.all c.in_ok-submitted.ensures.all
 
 pub returns-clause-moved : goal.returns-clause-moved
-returns-clause-moved g c = moves_more (moves_more (c.answer_all.ensures.moved c.args.procs.now) c.submit_all.ensures.moved) c.round.ensures.moved
+returns-clause-moved g c = moves_more (went g (goal.at.returns-clause-moved g c).After-submit_all) c.round.ensures.moved
 
 pub returns-clause-passed : goal.returns-clause-passed
 returns-clause-passed g c =

@@ -1,11 +1,22 @@
-use Rattle.std.proofs.Common.{[], flat_map, sym, subst, ◌∙◌}
+use Rattle.std.proofs.Common.{[], ◌+◌, flat_map, sym, subst, ◌∙◌}
 use Rattle.dt_node.specs.NodeView.{new_items}
 use Rattle.dt_node.specs.Turn.{AreBrought, BeginsEagerly, HasGone, HasTaken, IsSettled, StampsRise}
+use Rattle.dt_node.specs.TurnInner.{MovesOn}
 use Rattle.dt_node.proofs.WholePackets.{sends_whole}
 use Rattle.dt_node.proofs.CallAfterCall.{moves_on}
 use Rattle.dt_node.proofs.PassesOfTurn.{on_ok, turn_begins, turn_can, turn_moves, turn_ready, turn_settles, turn_steps, turn_takes}
 use Rattle.dt_node.proofs.TruePackets.{can_on, may_begin}
+use Rattle.dt_node.proofs.node.Node.turn.Given.{Over}
 use Rattle.dt_node.proofs.node.Node.turn.Goals as goal
+use Rattle.dt_node.proofs.node.Node.turn.Goals.{After-go_on}
+
+-- what the node has made of the packets once its sessions stand still
+went : (g : Over) (c : After-go_on g) → MovesOn c.args.procs.now (flat_map g.I.Inlet.waits c.args.ins.now) c.args.self.now c.go_on.new.self
+went g c = moves_on (c.receive_all.ensures.moved c.args.procs.now) c.go_on.ensures.moved
+
+-- and once the turn is counted
+ended : (g : Over) (c : After-go_on g) → MovesOn c.args.procs.now (flat_map g.I.Inlet.waits c.args.ins.now) c.args.self.now (record c.go_on.new.self { turns = c.go_on.new.self.turns + 1 })
+ended g c = turn_moves (c.receive_all.ensures.moved c.args.procs.now) c.go_on.ensures.moved
 
 pub receive_all-requires : goal.receive_all-requires
 receive_all-requires g c = record { can = record { procs = c.args.procs.now; can = may_begin c.requires.stands } }
@@ -28,15 +39,15 @@ go_on-requires-clause-can g c =
 
 pub returns-in_err-go_on-clause-gone : goal.returns-in_err-go_on-clause-gone
 returns-in_err-go_on-clause-gone g c =
-    (moves_on (c.receive_all.ensures.moved c.args.procs.now) c.go_on.ensures.moved).gone
+    (went g (goal.at.returns-in_err-go_on-clause-gone g c).After-go_on).gone
 
 pub returns-in_err-go_on-clause-brought : goal.returns-in_err-go_on-clause-brought
 returns-in_err-go_on-clause-brought g c =
-    (moves_on (c.receive_all.ensures.moved c.args.procs.now) c.go_on.ensures.moved).brought
+    (went g (goal.at.returns-in_err-go_on-clause-brought g c).After-go_on).brought
 
 pub returns-in_err-go_on-clause-stamps : goal.returns-in_err-go_on-clause-stamps
 returns-in_err-go_on-clause-stamps g c =
-    (moves_on (c.receive_all.ensures.moved c.args.procs.now) c.go_on.ensures.moved).stamps
+    (went g (goal.at.returns-in_err-go_on-clause-stamps g c).After-go_on).stamps
 
 pub send-requires-clause-ready : goal.send-requires-clause-ready
 send-requires-clause-ready g c =
@@ -44,19 +55,19 @@ send-requires-clause-ready g c =
 
 pub send-requires-clause-ends : goal.send-requires-clause-ends
 send-requires-clause-ends g c =
-    c.requires.ends ∙ sym (moves_on (c.receive_all.ensures.moved c.args.procs.now) c.go_on.ensures.moved).gone.regions
+    c.requires.ends ∙ sym (went g (goal.at.send-requires-clause-ends g c).After-go_on).gone.regions
 
 pub returns-clause-gone : goal.returns-clause-gone
 returns-clause-gone g c =
-    subst (λ n. HasGone c.args.procs.now (flat_map g.I.Inlet.waits c.args.ins.now) c.args.self.now n) (sym c.send.ensures.still) (turn_moves (c.receive_all.ensures.moved c.args.procs.now) c.go_on.ensures.moved).gone
+    subst (λ n. HasGone c.args.procs.now (flat_map g.I.Inlet.waits c.args.ins.now) c.args.self.now n) (sym c.send.ensures.still) (ended g (goal.at.returns-clause-gone g c).After-go_on).gone
 
 pub returns-clause-brought : goal.returns-clause-brought
 returns-clause-brought g c =
-    subst (λ n. AreBrought (flat_map g.I.Inlet.waits c.args.ins.now) (new_items c.args.self.now n)) (sym c.send.ensures.still) (turn_moves (c.receive_all.ensures.moved c.args.procs.now) c.go_on.ensures.moved).brought
+    subst (λ n. AreBrought (flat_map g.I.Inlet.waits c.args.ins.now) (new_items c.args.self.now n)) (sym c.send.ensures.still) (ended g (goal.at.returns-clause-brought g c).After-go_on).brought
 
 pub returns-clause-stamps : goal.returns-clause-stamps
 returns-clause-stamps g c =
-    subst (λ n. StampsRise (flat_map g.I.Inlet.waits c.args.ins.now) c.args.self.now n) (sym c.send.ensures.still) (turn_moves (c.receive_all.ensures.moved c.args.procs.now) c.go_on.ensures.moved).stamps
+    subst (λ n. StampsRise (flat_map g.I.Inlet.waits c.args.ins.now) c.args.self.now n) (sym c.send.ensures.still) (ended g (goal.at.returns-clause-stamps g c).After-go_on).stamps
 
 pub returns-clause-taken : goal.returns-clause-taken
 returns-clause-taken g c =

@@ -8,28 +8,29 @@ use Rattle.dt_world.proofs.Reports.{FollowsAnswer, FollowsReply, FollowsSubmissi
 use Rattle.dt_world.proofs.TextByLines.{none_more}
 use Rattle.dt_world.proofs.site_reports.ReportSource.follow.Given.{Over}
 use Rattle.dt_world.proofs.site_reports.ReportSource.follow.Goals as goal
+use Rattle.dt_world.proofs.site_reports.ReportSource.follow.Goals.{In-Submit, In-Some, In-Answer, In-Some-find, In-Some-waits}
 
 -- the event, where it is a submission
-submission : (g : Over) (c : goal.In-Submit g) → slice_get c.args.self.now.events c.args.at ≡ Some (Submit c.in-Submit.region c.in-Submit.session)
+submission : (g : Over) (c : In-Submit g) → slice_get c.args.self.now.events c.args.at ≡ Some (Submit c.in-Submit.region c.in-Submit.session)
 submission g c = event_at c.args.self.now c.requires.events c.args.at c.index-events-at.result (Submit c.in-Submit.region c.in-Submit.session) c.requires.at c.index-events-at.is c.in-Submit.is
 
 -- what it does, where the session was found
-submits : (g : Over) (c : goal.In-Some g) → slice_get c.args.self.now.events c.args.at ≡ Some (Submit c.in-Submit.region c.in-Submit.session)
+submits : (g : Over) (c : In-Some g) → slice_get c.args.self.now.events c.args.at ≡ Some (Submit c.in-Submit.region c.in-Submit.session)
     → FollowsSubmission c.args.self.now c.args.at c.in-Submit.region c.in-Some.place c.args.replay.now
 submits g c event = follows_submission c.requires.led c.args.at c.in-Submit.region c.in-Submit.session event c.in-Some.place (sym c.find.ensures ∙ c.in-Some.is) c.args.replay.now c.requires.replay
 
 -- the event, where it is an answer
-answer : (g : Over) (c : goal.In-Answer g) → slice_get c.args.self.now.events c.args.at ≡ Some (Answer c.in-Answer.region c.in-Answer.session)
+answer : (g : Over) (c : In-Answer g) → slice_get c.args.self.now.events c.args.at ≡ Some (Answer c.in-Answer.region c.in-Answer.session)
 answer g c = event_at c.args.self.now c.requires.events c.args.at c.index-events-at.result (Answer c.in-Answer.region c.in-Answer.session) c.requires.at c.index-events-at.is c.in-Answer.is
 
 -- what it does, where the session was found
-answers : (g : Over) (c : goal.In-Some-find g) → slice_get c.args.self.now.events c.args.at ≡ Some (Answer c.in-Answer.region c.in-Answer.session)
+answers : (g : Over) (c : In-Some-find g) → slice_get c.args.self.now.events c.args.at ≡ Some (Answer c.in-Answer.region c.in-Answer.session)
     → FollowsAnswer c.args.self.now c.args.at c.in-Answer.region c.in-Some-find.place c.args.replay.now
 answers g c event =
     follows_answer c.requires.led c.args.at c.in-Answer.region c.in-Answer.session event c.in-Some-find.place (sym c.find-in-Answer.ensures ∙ c.in-Some-find.is) c.args.replay.now c.requires.replay
 
 -- and where it waited for an attempt
-replies : (g : Over) (c : goal.In-Some-waits g) → slice_get c.args.self.now.events c.args.at ≡ Some (Answer c.in-Answer.region c.in-Answer.session)
+replies : (g : Over) (c : In-Some-waits g) → slice_get c.args.self.now.events c.args.at ≡ Some (Answer c.in-Answer.region c.in-Answer.session)
     → FollowsReply c.args.self.now c.args.at c.in-Answer.region c.in-Answer.session c.in-Some-waits.id
 replies g c event =
     follows_reply c.requires.led c.args.at c.in-Answer.region c.in-Answer.session event c.in-Some-find.place (sym c.find-in-Answer.ensures ∙ c.in-Some-find.is) c.args.replay.now c.requires.replay

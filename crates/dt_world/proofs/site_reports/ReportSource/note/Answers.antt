@@ -10,9 +10,10 @@ use Rattle.dt_world.proofs.Reports.{absent_of, event_at, not_execution, note_exe
 use Rattle.dt_world.proofs.TextByLines.{none_more}
 use Rattle.dt_world.proofs.site_reports.ReportSource.note.Given.{Over}
 use Rattle.dt_world.proofs.site_reports.ReportSource.note.Goals as goal
+use Rattle.dt_world.proofs.site_reports.ReportSource.note.Goals.{In-Execute}
 
 -- the event, where it is an execution
-execution : (g : Over) (c : goal.In-Execute g) → slice_get c.args.self.now.events c.args.at ≡ Some (Execute c.in-Execute.region c.in-Execute.id)
+execution : (g : Over) (c : In-Execute g) → slice_get c.args.self.now.events c.args.at ≡ Some (Execute c.in-Execute.region c.in-Execute.id)
 execution g c = event_at c.args.self.now c.requires.events c.args.at c.index-events-at.result (Execute c.in-Execute.region c.in-Execute.id) c.requires.at c.index-events-at.is c.in-Execute.is
 
 pub returns-in_default : goal.returns-in_default

@@ -12,28 +12,28 @@ use Rattle.dt_world.proofs.WorldLaws.{HoldsSite, a_site, holds_site, made_before
 use Rattle.dt_world.proofs.WorldFacts.{steps_few}
 use Rattle.dt_world.proofs.world.World.deliver.Given.{Over}
 use Rattle.dt_world.proofs.world.World.deliver.Goals as goal
-use Rattle.dt_world.proofs.world.World.deliver.Goals.{then-first-last-via-then-first-last, then-first-last-via-else-first-last+then-last-len}
+use Rattle.dt_world.proofs.world.World.deliver.Goals.{After-behind-self, After-behind-self-2, After-behind-self-3, After-joins, then-first-last-via-then-first-last, then-first-last-via-else-first-last+then-last-len}
 
 -- the home's site
-home : (g : Over) (c : goal.After-behind-self g) →
+home : (g : Over) (c : After-behind-self g) →
     let w = c.self.inside in
     HoldsSite w.cluster (record { workload = w.workload; by_region = w.sessions.items }) w.sites.items w.steps c.args.home c.behind-self.inside.region c.behind-self.inside.origins.items
 home g c = holds_site c.self.invariant c.if-home-self.false c.index.ensures c.behind-self.view_is
 
 -- the region's site, as it is read
-region : (g : Over) (c : goal.After-behind-self-2 g) →
+region : (g : Over) (c : After-behind-self-2 g) →
     let w = c.self.inside in
     HoldsSite w.cluster (record { workload = w.workload; by_region = w.sessions.items }) w.sites.items w.steps c.args.region c.behind-self-2.inside.region c.behind-self-2.inside.origins.items
 region g c = holds_site c.self.invariant c.if-region-self.false c.index-2.ensures c.behind-self-2.view_is
 
 -- the region's site, as it is changed
-here : (g : Over) (c : goal.After-behind-self-3 g) →
+here : (g : Over) (c : After-behind-self-3 g) →
     let w = c.self.inside in
     HoldsSite w.cluster (record { workload = w.workload; by_region = w.sessions.items }) w.sites.items w.steps c.args.region c.behind-self-3.inside.region c.behind-self-3.inside.origins.items
 here g c = holds_site c.self.invariant c.if-region-self.false c.index_mut.ensures.value c.behind-self-3.view_is
 
 -- the delivery, by what the call read of both
-delivery : (g : Over) (c : goal.After-joins g) {join : Bool} → c.joins.result ≡ join →
+delivery : (g : Over) (c : After-joins g) {join : Bool} → c.joins.result ≡ join →
     IsDelivery c.self.inside.sites.items c.args.region c.args.home c.args.first c.args.last c.len-received.result join
 delivery g c {join} test =
     let from = holds_site c.self.invariant c.if-home-self.false c.index.ensures c.behind-self.view_is in

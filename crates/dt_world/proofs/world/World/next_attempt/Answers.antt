@@ -12,9 +12,10 @@ use Rattle.dt_world.proofs.WorldFacts.{HasRead, a_number, call_there_is, has_rea
 use Rattle.dt_world.proofs.WorldLaws.{a_site, behind}
 use Rattle.dt_world.proofs.world.World.next_attempt.Given.{Over}
 use Rattle.dt_world.proofs.world.World.next_attempt.Goals as goal
+use Rattle.dt_world.proofs.world.World.next_attempt.Goals.{After-last_outcome-last}
 
 -- what the call reads at the region
-read : (g : Over) (c : goal.After-last_outcome-last g) →
+read : (g : Over) (c : After-last_outcome-last g) →
     HasRead c.self.inside.sessions.items c.self.inside.sites.items c.args.region c.args.name.now c.index-sessions.result.now (option_copied c.last_outcome-last.result)
 read g c =
     let lr = a_number c.self.invariant c.self.view_is c.requires in

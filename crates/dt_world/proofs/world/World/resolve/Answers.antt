@@ -8,9 +8,10 @@ use Rattle.dt_world.proofs.WorldLaws.{HoldsSite, a_site, holds_site, made_before
 use Rattle.dt_world.proofs.WorldFacts.{steps_few}
 use Rattle.dt_world.proofs.world.World.resolve.Given.{Over}
 use Rattle.dt_world.proofs.world.World.resolve.Goals as goal
+use Rattle.dt_world.proofs.world.World.resolve.Goals.{After-behind-self}
 
 -- the region's site, which the call reaches
-site : (g : Over) (c : goal.After-behind-self g) →
+site : (g : Over) (c : After-behind-self g) →
     let w = c.self.inside in
     HoldsSite w.cluster (record { workload = w.workload; by_region = w.sessions.items }) w.sites.items w.steps c.args.region c.behind-self.inside.region c.behind-self.inside.origins.items
 site g c = holds_site c.self.invariant c.if-region-self.false c.index_mut.ensures.value c.behind-self.view_is
