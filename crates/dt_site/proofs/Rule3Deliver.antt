@@ -280,7 +280,7 @@ module _ {cluster : Cluster} {workload : Workload} {w : World} (k : IsReached cl
           known_now x u h = elim (held_all p.region.state.submitted p.region.state.foreign (map (λ e. e.txn) (past_end has_of first entries)) x u (subst (λ v. held v.state x ≡ Some u) is h)) [
             | inl o ↦ s.known x u o
             | inr e ↦ subst (λ y. txn_of w y ≡ Some u) e.1 (all_get (λ t. txn_of w t.id ≡ Some t) (map (λ e. e.txn) entries) (all_image (λ t. txn_of w t.id ≡ Some t) (λ e. e.txn) entries own_id) u
-                (has_dropped (length has_of - first) (map (λ e. e.txn) entries) u (subst (λ l. Has l u) (map_drop (λ e. e.txn) (length has_of - first) entries) e.0)))
+                (has_dropped (length has_of - first) (map (λ e. e.txn) entries) u (subst (λ l. Has l u) (sym (drop-map (λ e. e.txn) (length has_of - first) entries)) e.0)))
           ]
 
           deliver_steps : Steps cluster workload w (Deliver region home begin last) region p (in_region p r) w.places
