@@ -114,10 +114,5 @@ fn threads_for(events: u64) -> usize
 fn some_failed<S: Scheduler>(seats: &[Seat<S>]) -> bool
     ensures { IsFalse result ↔ AllIn (λ s. s.failed ≡ false) seats.now }
 {
-    for seat in seats {
-        if seat.failed {
-            return true;
-        }
-    }
-    false
+    seats.iter().any(|seat| seat.failed)
 }
