@@ -114,5 +114,10 @@ fn threads_for(events: u64) -> usize
 fn some_failed<S: Scheduler>(seats: &[Seat<S>]) -> bool
     ensures { IsFalse result ↔ AllIn (λ s. s.failed ≡ false) seats.now }
 {
-    seats.iter().any(|seat| seat.failed)
+    for seat in seats {
+        if seat.failed {
+            return true;
+        }
+    }
+    false
 }

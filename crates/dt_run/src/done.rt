@@ -24,7 +24,12 @@ pub fn all_done<S: Scheduler + Drop>(seats: &[Seat<S>]) -> bool
 fn are_answered<S: Scheduler + Drop>(seats: &[Seat<S>]) -> bool
     ensures { IsTrue result ↔ AllIn (λ s. EachNameIsAnswered s.node.sessions) seats.now }
 {
-    seats.iter().all(|seat| seat.node.sessions().all_answered())
+    for seat in seats {
+        if !seat.node.sessions().all_answered() {
+            return false;
+        }
+    }
+    true
 }
 
 /// Whether every region has executed all that every region submitted.
