@@ -110,6 +110,19 @@ impl<S: Scheduler> Region<S> {
         })
     }
 
+    /// Makes room at once for what comes of so many calls in all regions, where so many are expected: so its lists are not moved
+    /// while they grow. Nothing that contracts see changes.
+    pub fn expect(&mut self, calls: usize) -> Result<(), NoMemory> {
+        self.events.expect(calls * 4)?;
+        self.done.expect(calls + calls / 8)?;
+        self.foreign.expect(calls)?;
+        self.submitted.reserve_exact(calls / 2)?;
+        for log in self.logs.iter_mut() {
+            log.expect(calls)?;
+        }
+        Ok(())
+    }
+
     /// Its number. Takes no memory.
     pub fn number(&self) -> u8
         ensures number { result ≡ self.now.state.number }

@@ -34,6 +34,7 @@ pub fn words(alloc: Global, line: &[u8]) -> Result<Option<Words>, NoMemory>
     ensures within { IfOk result (λ words. IfSome words (All (IsWordIn line.now))) }
 {
     let mut found = Listed::new(alloc);
+    found.reserve(6)?;
     let mut at = gap_end(line, 0);
     while at < line.len() {
         let Some((word, end)) = read_word(alloc, line, at)? else {
