@@ -27,9 +27,6 @@ read_builtin (a ∷ b ∷ d ∷ word) long colon low high = absurd (omega (arith
 pub builtin_length : (word : Bytes) (n : ℕ) → IsBuiltin n → word ≡ builtin_word n → length word ≡ 2
 builtin_length word n is spelled = ap length (spelled ∙ two_bytes n is)
 
-pub builtin_colon : (word : Bytes) (n : ℕ) → IsBuiltin n → word ≡ builtin_word n → get_or word 0 0 ≡ 58
-builtin_colon word n is spelled = ap (λ w. get_or w 0 0) (spelled ∙ two_bytes n is)
-
 pub builtin_digit : (word : Bytes) (n : ℕ) → IsBuiltin n → word ≡ builtin_word n → get_or word 1 0 ≡ 48 + n
 builtin_digit word n is spelled = ap (λ w. get_or w 1 0) (spelled ∙ two_bytes n is)
 

@@ -124,14 +124,11 @@ fn cluster_word(word: &str) -> Option<ClusterWord<'_>>
     ensures { MatchOption result (¬ NamesCluster word.now)
         (λ cluster. IsRight cluster × (word_of cluster ≡ word.now) × NamesCluster word.now) }
 {
-    let bytes = word.as_bytes();
-    if bytes.is_empty() {
-        return None;
+    match word.as_bytes() {
+        [] => None,
+        [b':', ..] => Some(ClusterWord::Builtin(builtin_regions(word.as_bytes())?)),
+        [..] => Some(ClusterWord::File(word)),
     }
-    if bytes[0] != b':' {
-        return Some(ClusterWord::File(word));
-    }
-    Some(ClusterWord::Builtin(builtin_regions(bytes)?))
 }
 
 /// How many regions the built-in cluster of this word has. `None` exactly where the word names none.
@@ -139,8 +136,8 @@ fn builtin_regions(word: &[u8]) -> Option<u8>
     ensures { MatchOption result ((n : ℕ) → IsBuiltin n → word.now ≢ builtin_word n)
         (λ n. IsBuiltin n × (word.now ≡ builtin_word n)) }
 {
-    if word.len() != 2 || word[0] != b':' || word[1] < b'1' || word[1] > b'8' {
-        return None;
+    match word {
+        [b':', digit @ b'1'..=b'8'] => Some(*digit - b'0'),
+        _ => None,
     }
-    Some(word[1] - b'0')
 }

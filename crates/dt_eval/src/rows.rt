@@ -9,15 +9,14 @@ ghost use Rattle.std.specs.List.{list_all};
 
 use dt_access::Writes;
 use dt_text::{Key, NoMemory, Value};
-use smallvec::SmallVec;
 use std::alloc::Global;
 use std::marker::Model;
 
-/// For each declaration the place of the row that its key has. That of a few declarations takes no memory.
-pub(crate) type Places = SmallVec<usize, 4>;
+/// For each declaration, of which a procedure has 16 at most, the place of the row that its key has.
+pub(crate) type Places = [u8; 16];
 
-/// For each row whether it was set or cleared. Those of a few rows take no memory.
-type Marks = SmallVec<bool, 8>;
+/// For each row, of which a run has 16 at most, whether it was set or cleared.
+type Marks = [bool; 16];
 
 /// The rows of a run, and for each declaration which of them its key has. Contracts see the key of each declaration and
 /// the rows.
@@ -48,7 +47,7 @@ impl Model for Rows {
 impl Rows {
     /// These rows as they are read, the declarations being of the keys at these places.
     pub(crate) fn new(
-        alloc: Global,
+        _alloc: Global,
         items: Vec<(Key, Option<Value>)>,
         places: Places,
     ) -> Result<Self, NoMemory>
@@ -56,10 +55,9 @@ impl Rows {
         requires keys { EachThen KeyBefore (keys_in (map unchanged items.items)) }
         ensures { IfOk result (λ rows. rows ≡ (names_at places.items (map unchanged items.items), map unchanged items.items)) }
     {
-        let changed = Marks::from_elem(alloc, false, items.len())?;
         Ok(Rows {
             items,
-            changed,
+            changed: [false; 16],
             places,
         })
     }
@@ -87,7 +85,8 @@ impl Rows {
         ensures { IfOk result (λ writes. writes ≡ writes_of self.1) }
     {
         let Rows { items, changed, .. } = self;
-        Ok(Writes::from_vec(changed_rows(alloc, items, changed.as_slice())?))
+        let count = items.len();
+        Ok(Writes::from_vec(changed_rows(alloc, items, &changed[..count])?))
     }
 }
 
@@ -96,7 +95,7 @@ fn place_at(places: &Places, key: u32) -> usize
     requires { key < length places.now.items }
     ensures { result ≡ slice_index_or places.now.items key result }
 {
-    places.as_slice()[key as usize]
+    places[key as usize] as usize
 }
 
 /// Marks the row at this place.
@@ -104,7 +103,7 @@ fn mark(marks: &mut Marks, place: usize)
     requires { place < length marks.old.items }
     ensures { marks.new.items ≡ slice_set marks.old.items place true }
 {
-    marks.as_mut_slice()[place] = true;
+    marks[place] = true;
 }
 
 /// The keys and values of the rows that were set or cleared, in order. Takes no memory where all were.

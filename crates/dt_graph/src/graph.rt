@@ -14,12 +14,12 @@ ghost use Rattle.dt_waits.specs.Waits.{id_at};
 
 use crate::class::gather;
 use crate::names::Names;
+use crate::vertices::State;
 use crate::waits::Waits;
 use dt_access::{Ids, Part, TxnId};
 use dt_text::{Listed, NoMemory};
 use dt_waits::Open;
 use std::alloc::Global;
-use std::marker::Model;
 
 /// What is left in the graph.
 #[derive(Drop)]
@@ -27,17 +27,6 @@ pub struct Graph {
     names: Names,
     waits: Waits,
     classes: Vec<Open>,
-}
-
-impl Model for Graph {
-    ghost use Rattle.dt_waits.specs.Graph.{GraphView};
-    ghost use Rattle.dt_graph.specs.HeldInner.{IsFitted, kept_of};
-
-    ghost Value = { GraphView };
-
-    ghost view = { λ g. kept_of g.names.ids g.waits g.classes.items };
-
-    ghost invariant = { λ g. IsFitted g.names.ids g.waits };
 }
 
 /// A member of a class, which is compared as it runs: by rank, then by id.
@@ -85,8 +74,17 @@ impl Graph {
         ensures { IsTrue result ↔ (v : ℕ) × (slice_get self.now.ids v ≡ Some id) × Has self.now.ready v }
     {
         match self.names.number_of(id) {
-            Some(vertex) => self.waits.ready.has(vertex),
+            Some(vertex) => self.state_of(vertex) == State::Ready,
             None => false,
+        }
+    }
+
+    /// The state of the vertex of a number.
+    #[inline(always)]
+    fn state_of(&self, vertex: u32) -> State {
+        match self.waits.vertices.get(vertex) {
+            Some(kept) => kept.state,
+            None => State::Gone,
         }
     }
 
@@ -95,8 +93,8 @@ impl Graph {
         ensures { MatchOption result ((v : ℕ) → Has self.now.ready v → Has busy.now (id_at self.now.ids v))
             (λ id. ((v : ℕ) × Has self.now.ready v × (id_at self.now.ids v ≡ id)) × (Has busy.now id → ⊥)) }
     {
-        for vertex in self.waits.ready.as_slice() {
-            let id = self.names.id_of(*vertex);
+        for vertex in self.waits.vertices.ready() {
+            let id = self.waits.vertices.at(*vertex).id;
             if !busy.contains(&id) {
                 return Some(id);
             }
@@ -111,7 +109,7 @@ impl Graph {
         let mut vertices = Vec::new(alloc);
         for id in ids {
             match self.names.number_of(*id) {
-                Some(vertex) if self.waits.stuck.has(vertex) => vertices.push(vertex)?,
+                Some(vertex) if self.state_of(vertex) == State::Stuck => vertices.push(vertex)?,
                 _ => return Ok(None),
             }
         }
@@ -134,7 +132,7 @@ impl Graph {
         let among = gather(
             alloc,
             &self.waits.queues,
-            self.waits.vertices.as_slice(),
+            &self.waits.vertices,
             vertices.as_slice(),
         )?;
         if !among.blocked.is_empty() {
@@ -150,14 +148,14 @@ impl Graph {
         ensures { (view : View) (resolved : List (List TxnId)) (done : List TxnId) → IsOrderly view resolved done → KeepsGraph view resolved done self.now →
             IfOk result (λ answer. MatchOption answer ((ids : List TxnId) → IsResolvable view resolved done ids → ⊥) (λ ids. IsResolvable view resolved done ids)) }
     {
-        let stuck = self.waits.stuck.as_slice();
+        let stuck = self.waits.vertices.stuck();
         if stuck.len() < 2 {
             return Ok(None);
         }
         let among = gather(
             alloc,
             &self.waits.queues,
-            self.waits.vertices.as_slice(),
+            &self.waits.vertices,
             stuck,
         )?;
         match among.graph.source_class(alloc, among.blocked.as_slice())? {
@@ -174,7 +172,7 @@ impl Graph {
     {
         let mut ids = Vec::with_capacity(alloc, places.len())?;
         for place in places {
-            ids.push(self.names.id_of(list[*place as usize]))?;
+            ids.push(self.waits.vertices.at(list[*place as usize]).id)?;
         }
         ids.sort()?;
         Ok(Ids::from_vec(ids))
@@ -189,7 +187,7 @@ impl Graph {
         let mut members = Vec::with_capacity(alloc, ids.len())?;
         for id in ids {
             if let Some(vertex) = self.names.number_of(*id) {
-                let rank = self.waits.vertices[vertex as usize].rank;
+                let rank = self.waits.vertices.at(vertex).rank;
                 members.push(Member {
                     rank,
                     id: *id,
@@ -225,8 +223,8 @@ impl Graph {
         ensures { FinishesId id self.old self.new }
     {
         if let Some(vertex) = self.names.number_of(id) {
-            self.waits.ready.remove(vertex);
-            match self.waits.vertices[vertex as usize].class.get() {
+            self.waits.vertices.take_ready(vertex);
+            match self.waits.vertices.at(vertex).class.get() {
                 None => self.waits.leave(&[vertex]),
                 Some(class) => self.finish_in(class),
             }
@@ -241,7 +239,7 @@ impl Graph {
         let kept = &mut self.classes[class as usize];
         kept.next += 1;
         match kept.members.as_slice().get(kept.next) {
-            Some(vertex) => self.waits.ready.add(*vertex),
+            Some(vertex) => self.waits.vertices.add_ready(*vertex),
             None => self.waits.leave(kept.members.as_slice()),
         }
     }

@@ -22,10 +22,9 @@ mod group;
 mod leave;
 mod names;
 mod numbers;
-mod room;
 mod sched;
 mod seen;
-mod subset;
+mod vertices;
 mod waits;
 
 pub use sched::QueueSched;

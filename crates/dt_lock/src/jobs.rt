@@ -97,12 +97,7 @@ fn insert_few_of<S: Scheduler, N: Named>(
 
 // Whether some part of some log is missing.
 fn lacks_some<S: Scheduler, N: Named>(held: &Held<S, N>) -> bool {
-    for home in 0..held.regions() {
-        if held.lacks(home) {
-            return true;
-        }
-    }
-    false
+    (0..held.regions()).any(|home| held.lacks(home))
 }
 
 // Resolves a few classes, and says whether it came to the end of those that are resolvable.

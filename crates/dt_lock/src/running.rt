@@ -46,19 +46,7 @@ pub fn note(running: &mut Vec<Running>, one: Running)
 fn saw_alike(left: &[Seen], right: &[Seen]) -> bool
     ensures { IsTrue result ↔ (left.now ≡ right.now) }
 {
-    let mut left = left;
-    let mut right = right;
-    while let Some((one, others)) = left.split_first() {
-        let Some((other, rest)) = right.split_first() else {
-            return false;
-        };
-        if !alike(one, other) {
-            return false;
-        }
-        left = others;
-        right = rest;
-    }
-    right.is_empty()
+    left.len() == right.len() && left.iter().zip(right).all(|(one, other)| alike(one, other))
 }
 
 // Whether the same was seen at two entries.

@@ -4,6 +4,7 @@ use Rattle.std.proofs.Common.{drop, take, Ok, Some, refl, sym, ap, subst, ◌∙
 use Rattle.std.proofs.lemmas.Bool.Decides.{nat_tests}
 use Rattle.std.proofs.lemmas.List.{get_or-set_same, length-map, length-append, length-drop}
 use Rattle.dt_lists.specs.Lists.{AllIn}
+use Rattle.dt_access.specs.declared.Part.{Part}
 use Rattle.dt_log.specs.declared.Taken.TheVariants.{New}
 use Rattle.dt_events.specs.declared.Event.{Event}
 use Rattle.dt_events.specs.declared.Event.TheVariants.{Deliver}

@@ -1,5 +1,5 @@
 -- Before anything happens the nodes of a cluster are as their type keeps them: no event was made, and nothing waits.
-use Rattle.std.proofs.Common.{◌≡◌, ◌<◌, ◌≤◌, ℕ, zero, suc, List, [], ◌∷◌, length, get_or, slice_get, replicate, Some, refl, sym, ap, subst, ◌∙◌, arith}
+use Rattle.std.proofs.Common.{◌≡◌, ◌<◌, ◌≤◌, ℕ, zero, suc, List, [], ◌∷◌, length, get_or, slice_get, Some, refl, sym, ap, subst, ◌∙◌, arith}
 use Rattle.dt_lists.specs.Lists.{EachThen}
 use Rattle.dt_lists.proofs.Callers.{get_of_replicate}
 use Rattle.dt_events.specs.declared.Stamped.{Stamped}
@@ -70,13 +70,8 @@ module _ {v : NodesView} (o : AreOpening v) where
     planned = record { each = λ region phase x lr from k. absurd (none region phase x lr k) };
   }
     where
-      no_list : {A : Type 0} (n k : ℕ) → get_or (replicate n (no_items {A = A})) k [] ≡ []
-      no_list zero k = refl
-      no_list (suc n) zero = refl
-      no_list (suc n) (suc k) = no_list n k
-
       own_none : (region : ℕ) → HasPlacedOwn (opening_node_of v.cluster v.workload region)
-      own_none region = ap length (no_list v.cluster.regions region) ∙ sym (get_of_replicate {A = ℕ} v.cluster.regions region 0)
+      own_none region = ap length (get_of_replicate v.cluster.regions region no_items) ∙ sym (get_of_replicate {A = ℕ} v.cluster.regions region 0)
 
       none : (region phase : ℕ) (x : Stamped) → region < v.cluster.regions → IsKeptIn v region phase x → ⊥
       none region phase x lr k = let e : slice_get [] k.place ≡ Some x = subst (λ l. slice_get l k.place ≡ Some x) (none_kept region lr) k.stands in cc

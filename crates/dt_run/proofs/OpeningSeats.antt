@@ -56,14 +56,9 @@ same_each : {A B : Type 0} (f : A → B) (y : B) (xs : List A) → AllIn (λ x. 
 same_each f y [] a = refl
 same_each f y (x ∷ xs) a = ap₂ ◌∷◌ a.0 (same_each f y xs a.1)
 
-none_of_none : {A : Type 0} (n k : ℕ) → ◌≡◌ {A = List A} (get_or (replicate n []) k []) []
-none_of_none zero k = refl
-none_of_none (suc n) zero = refl
-none_of_none (suc n) (suc k) = none_of_none n k
-
 none_at_all : {A : Type 0} (n m k i : ℕ) → ◌≡◌ {A = List A} (get_or (get_or (replicate n (replicate m [])) k []) i []) []
 none_at_all zero m k i = refl
-none_at_all (suc n) m zero i = none_of_none m i
+none_at_all (suc n) m zero i = get_of_replicate m i []
 none_at_all (suc n) m (suc k) i = none_at_all n m k i
 
 module _ {cluster : Cluster} (ok : IsValidCluster cluster) {workload : Workload} (fits : IsValidWorkload cluster workload)
@@ -111,7 +106,7 @@ module _ {cluster : Cluster} (ok : IsValidCluster cluster) {workload : Workload}
     nodes = λ region lr. get_or-map-range_with_len opened 0 cluster.regions region region no_running_node lr (omega arith);
     stand = opening_fits;
     waiting = λ source target. none_at_all cluster.regions (cluster.regions - 1) target _;
-    marks = none_of_none cluster.regions;
+    marks = λ region. get_of_replicate cluster.regions region [];
   }
 
   pub opening_are_nodes : AreNodes (opening_nodes cluster workload)

@@ -4,6 +4,8 @@ use Rattle.std.proofs.Common.{◌≡◌, ◌<◌, ◌≤◌, ◌+◌, ◌^◌, �
 use Rattle.std.proofs.Common.{Result, Ok, Err, IfOk, Vec}
 use Rattle.std.specs.Prelude.{sum_by}
 use Rattle.std.proofs.lemmas.List.Sums.{count_by-le-length, sum_by-cons}
+use Rattle.std.proofs.lemmas.Simd.{map-map}
+use Rattle.dt_lists.proofs.Callers.{sum_mapped}
 use Rattle.dt_text.specs.Texts.{Bytes}
 use Rattle.dt_text.specs.declared.NoMemory.{NoMemory}
 use Rattle.dt_events.specs.declared.Event.{Event}
@@ -43,11 +45,6 @@ first_seen : {X Y : Type 0} (f : X → List Y) (xs : List X) (d : X) → 0 < len
 first_seen f [] d lt = absurd (omega (arith, lt))
 first_seen f (x ∷ xs) d lt = refl
 
--- a sum seat by seat
-sum_through : {X Y : Type 0} (g : Y → ℕ) (f : X → Y) (xs : List X) → sum_by (λ x. g (f x)) xs ≡ sum_by g (map f xs)
-sum_through g f [] = refl
-sum_through g f (x ∷ xs) = sum_by-cons (λ y. g (f y)) x xs ∙ ap (λ n. g (f x) + n) (sum_through g f xs) ∙ sym (sum_by-cons g (f x) (map f xs))
-
 -- the nodes that are done
 module _ {v : NodesView} (n : AreNodes v) (sound : v.broken ≡ false) (some : 1 ≤ length (marks_at v 0)) (d : IsAllDone v) where
   merge : (merged : List Stamped) × IsMerge (kept_by v.nodes) merged
@@ -71,12 +68,8 @@ module _ {v : NodesView} (n : AreNodes v) (sound : v.broken ≡ false) (some : 1
       tables_are {told = record { cluster = v.cluster; workload = v.workload; sites = sites; events = events }} (sites_after n sound some d merged refl) in
       let one : 0 < v.cluster.regions = n.cluster.some in
       let many : length v.nodes ≡ v.cluster.regions = n.many in
-      ap (λ t. get_or t 0 []) (sym tables ∙ through (λ (p : SiteView). shown p.region.state.here.table) (λ (x : NodeView). x.site) v.nodes)
+      ap (λ t. get_or t 0 []) (sym tables ∙ map-map (λ (p : SiteView). shown p.region.state.here.table) (λ (x : NodeView). x.site) v.nodes)
       ∙ first_seen (λ (x : NodeView). shown x.site.region.state.here.table) v.nodes no_running_node (omega (arith, one, many))
-    where
-      through : {X Y Z : Type 0} (g : Y → Z) (f : X → Y) (xs : List X) → map g (map f xs) ≡ map (λ x. g (f x)) xs
-      through g f [] = refl
-      through g f (x ∷ xs) = ap (λ l. g (f x) ∷ l) (through g f xs)
 
   summary_is : (calls answers : ℕ) (rows : List Shown) → answers ≡ sum_by kept_answers (kept_by v.nodes) → rows ≡ shown (node_in v 0).site.region.state.here.table
       → (text : Bytes) → text ≡ summary_text calls answers (row_sum rows) → IsRunSummary v calls text
@@ -92,34 +85,11 @@ module _ {v : NodesView} (n : AreNodes v) (sound : v.broken ≡ false) (some : 1
   summary_told calls answers rows counted shows (Ok text) is = summary_is calls answers rows counted shows text.items is
   summary_told calls answers rows counted shows (Err e) is = tt
 
--- seats, as the code goes through them
-module _ {cluster : Cluster} {workload : Workload} {seats : List SeatView} {broken : Bool} (a : AreSeated cluster workload seats broken) where
-  pub kept_fits : sum_by events_at seats < 2 ^ 64
-  kept_fits =
-      let seen : sum_by events_at seats ≡ all_kept_in (nodes_view cluster workload seats broken) = kept_seen cluster workload seats broken (one_for_each a) in
-      let few : all_kept_in (nodes_view cluster workload seats broken) ≤ most_events cluster workload = kept_few a.nodes in
-      let most : most_events cluster workload ≤ 24640000 = most_few cluster a.nodes.cluster workload a.nodes.workload in
-      omega (arith, seen, few, most)
-
-  pub some_seat : 0 < length seats
-  some_seat = let one : 0 < cluster.regions = a.nodes.cluster.some in omega (arith, one, one_for_each a)
-
-  pub answers_seen : sum_by answers_at seats ≡ sum_by kept_answers (kept_by (nodes_view cluster workload seats broken).nodes)
-  answers_seen = sum_through kept_answers (λ (s : SeatView). s.node.site.region.events) seats ∙ ap (sum_by kept_answers) (through (λ (x : NodeView). x.site.region.events) (λ (s : SeatView). s.node) seats)
-    where
-      through : {X Y Z : Type 0} (g : Y → Z) (f : X → Y) (xs : List X) → map (λ x. g (f x)) xs ≡ map g (map f xs)
-      through g f [] = refl
-      through g f (x ∷ xs) = ap (λ l. g (f x) ∷ l) (through g f xs)
-
-  -- what the first seat's region shows is what the node of region 0 shows
-  pub first_shown : shown (seat_at seats 0).node.site.region.state.here.table ≡ shown (node_in (nodes_view cluster workload seats broken) 0).site.region.state.here.table
-  first_shown = ap (λ (n : NodeView). shown n.site.region.state.here.table) (sym (node_is cluster workload seats broken 0))
-
 -- answers are events
-pub answers_few : (s : SeatView) → answers_at s ≤ events_at s
+answers_few : (s : SeatView) → answers_at s ≤ events_at s
 answers_few s = count_by-le-length (λ (x : Stamped). is_answer x.event) s.node.site.region.events
 
-pub answers_within : (seats : List SeatView) → sum_by answers_at seats ≤ sum_by events_at seats
+answers_within : (seats : List SeatView) → sum_by answers_at seats ≤ sum_by events_at seats
 answers_within [] = omega arith
 answers_within (s ∷ seats) =
     let a : sum_by answers_at (s ∷ seats) ≡ answers_at s + sum_by answers_at seats = sum_by-cons answers_at s seats in
@@ -127,3 +97,30 @@ answers_within (s ∷ seats) =
     let c : answers_at s ≤ events_at s = answers_few s in
     let e : sum_by answers_at seats ≤ sum_by events_at seats = answers_within seats in
     omega (arith, a, b, c, e)
+
+-- seats, as the code goes through them
+module _ {cluster : Cluster} {workload : Workload} {seats : List SeatView} {broken : Bool} (a : AreSeated cluster workload seats broken) where
+  kept_fits : sum_by events_at seats < 2 ^ 64
+  kept_fits =
+      let seen : sum_by events_at seats ≡ all_kept_in (nodes_view cluster workload seats broken) = kept_seen cluster workload seats broken (one_for_each a) in
+      let few : all_kept_in (nodes_view cluster workload seats broken) ≤ most_events cluster workload = kept_few a.nodes in
+      let most : most_events cluster workload ≤ 24640000 = most_few cluster a.nodes.cluster workload a.nodes.workload in
+      omega (arith, seen, few, most)
+
+  pub answers_fit : sum_by answers_at seats < 2 ^ 64
+  answers_fit =
+      let few : sum_by answers_at seats ≤ sum_by events_at seats = answers_within seats in
+      let fits : sum_by events_at seats < 2 ^ 64 = kept_fits in
+      omega (arith, few, fits)
+
+  pub some_seat : 0 < length seats
+  some_seat = let one : 0 < cluster.regions = a.nodes.cluster.some in omega (arith, one, one_for_each a)
+
+  pub answers_seen : sum_by answers_at seats ≡ sum_by kept_answers (kept_by (nodes_view cluster workload seats broken).nodes)
+  answers_seen =
+      sym (sum_mapped kept_answers (λ (s : SeatView). s.node.site.region.events) seats)
+      ∙ ap (sum_by kept_answers) (sym (map-map (λ (x : NodeView). x.site.region.events) (λ (s : SeatView). s.node) seats))
+
+  -- what the first seat's region shows is what the node of region 0 shows
+  pub first_shown : shown (seat_at seats 0).node.site.region.state.here.table ≡ shown (node_in (nodes_view cluster workload seats broken) 0).site.region.state.here.table
+  first_shown = ap (λ (n : NodeView). shown n.site.region.state.here.table) (sym (node_is cluster workload seats broken 0))

@@ -7,7 +7,7 @@ use dt_gen::kept_answers;
 use dt_sched::Scheduler;
 
 /// How far all nodes have come.
-#[derive(Clone, Copy)]
+#[derive(Clone, Copy, Debug, PartialEq, Eq)]
 pub struct Counts {
     /// How many phases were made.
     pub made: u64,
@@ -59,21 +59,19 @@ fn kept_by<S: Scheduler + Drop>(seats: &[Seat<S>]) -> u64
     requires { sum_by events_at seats.now < 2 ^ 64 }
     ensures { result ≡ sum_by events_at seats.now }
 {
-    let mut kept = 0;
-    for seat in seats {
-        kept += seat.node.region().events().len() as u64;
-    }
-    kept
+    seats
+        .iter()
+        .map(|seat| seat.node.region().events().len() as u64)
+        .sum()
 }
 
 /// How many answers the regions of all seats have kept.
 pub fn answers_by<S: Scheduler + Drop>(seats: &[Seat<S>]) -> u64
-    requires { sum_by events_at seats.now < 2 ^ 64 }
+    requires { sum_by answers_at seats.now < 2 ^ 64 }
     ensures { result ≡ sum_by answers_at seats.now }
 {
-    let mut answers = 0;
-    for seat in seats {
-        answers += kept_answers(seat.node.region().events()) as u64;
-    }
-    answers
+    seats
+        .iter()
+        .map(|seat| kept_answers(seat.node.region().events()) as u64)
+        .sum()
 }

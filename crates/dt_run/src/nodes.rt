@@ -20,7 +20,7 @@ use crate::done::all_done;
 use crate::links::link_all;
 use crate::merge::merged;
 use crate::seat::Seat;
-use crate::sites::sites_of;
+use crate::sites::{kept_of, sites_of};
 use dt_cluster::Cluster;
 use dt_events::Event;
 use dt_gen::summary_text;
@@ -161,10 +161,7 @@ impl<S: Scheduler + Drop> Nodes<S> {
     fn merged(&self, alloc: Global) -> Result<Vec<Event>, NoMemory>
         ensures { IfOk result (λ events. AreMerged (kept_by self.now.nodes) events.items) }
     {
-        let mut kept = Vec::with_capacity(alloc, self.course.seats.len())?;
-        for seat in self.course.seats.as_slice() {
-            kept.push(seat.node.region().events())?;
-        }
+        let kept = kept_of(alloc, self.course.seats.as_slice())?;
         merged(alloc, kept)
     }
 }

@@ -3,7 +3,8 @@
 use Rattle.std.proofs.Common.{◌≡◌, ◌≢◌, ◌<◌, ◌≤◌, ◌+◌, ◌-◌, ◌⊎◌, ℕ, zero, suc, Bool, true, false, cond, ltb, leb, ◌&&◌, List, [], ◌∷◌, ◌++◌, length, map, set}
 use Rattle.std.proofs.Common.{take, drop, Ok, Some, refl, sym, ap, ap₂, subst, ◌∙◌, inl, inr, append-nil, arith}
 use Rattle.std.proofs.lemmas.Bool.Decides.{nat_tests}
-use Rattle.std.proofs.lemmas.List.{length-map, length-set, length-take-le, length-drop, map-set, get_or-set_same, get_or-set_other, set-get_or, set_comm}
+use Rattle.std.proofs.lemmas.List.{drop-drop, drop-map, length-map, length-set, length-take-le, length-drop, map-set, get_or-set_same, get_or-set_other, set-get_or, set_comm}
+use Rattle.std.proofs.Math.ListN.{drop_of_length-le, length-take}
 use Rattle.std.proofs.Math.Seq.{map-set_same}
 use Rattle.dt_lists.specs.Lists.{AllIn, Distinct, Has, IsFront}
 use Rattle.dt_lists.proofs.Callers.{any_front, each_front, front_map, front_take, either_le, all_get, all_image, all_map, all_put, has_map, has_dropped}
@@ -47,26 +48,10 @@ front_and_rest (suc first) (suc last) (x ∷ xs) le = ap (λ l. x ∷ l) (front_
 
 -- and from an earlier place to one that is not later
 nothing_between : {A : Type 0} (first last : ℕ) (xs : List A) → last ≤ first → drop first (take last xs) ≡ []
-nothing_between zero zero xs le = refl
-nothing_between zero (suc last) xs le = absurd (omega arith)
-nothing_between (suc first) zero xs le = refl
-nothing_between (suc first) (suc last) [] le = refl
-nothing_between (suc first) (suc last) (x ∷ xs) le = nothing_between first last xs (omega arith)
-
-drop_nothing : {A : Type 0} (n : ℕ) → ◌≡◌ {A = List A} (drop n []) []
-drop_nothing zero = refl
-drop_nothing (suc n) = refl
+nothing_between first last xs le = drop_of_length-le (take last xs) (omega (arith, length-take last xs))
 
 drop_twice : {A : Type 0} (first rest more : ℕ) (xs : List A) → more ≡ first + rest → drop rest (drop first xs) ≡ drop more xs
-drop_twice zero rest more xs e = let same : rest ≡ more = omega arith in ap (λ n. drop n xs) same
-drop_twice (suc first) rest more [] e = drop_nothing rest ∙ sym (drop_nothing more)
-drop_twice (suc first) rest zero (x ∷ xs) e = absurd (omega arith)
-drop_twice (suc first) rest (suc more) (x ∷ xs) e = drop_twice first rest more xs (omega arith)
-
-map_drop : {A B : Type 0} (f : A → B) (n : ℕ) (xs : List A) → map f (drop n xs) ≡ drop n (map f xs)
-map_drop f zero xs = refl
-map_drop f (suc n) [] = refl
-map_drop f (suc n) (x ∷ xs) = map_drop f n xs
+drop_twice first rest more xs e = drop-drop rest first xs ∙ ap (λ n. drop n xs) (sym e)
 
 drop_fronts : {A : Type 0} (n a b : ℕ) (xs : List A) → a ≤ b → IsFront (drop n (take a xs)) (drop n (take b xs))
 drop_fronts zero a b xs le = (drop a (take b xs), front_and_rest a b xs le)
@@ -139,13 +124,13 @@ module _ {cluster : Cluster} {workload : Workload} {w : World} (k : IsReached cl
           → (n : ℕ) × (n ≤ length (log_of w home)) × (far ≤ last → n ≡ last) × (with_entries has_of first entries ≡ take n (log_of w home))
       joined far is long le (inl shorter) =
           let none : map (λ e. e.part) (drop (length has_of - first) entries) ≡ [] =
-          map_drop (λ e. e.part) (length has_of - first) entries ∙ ap (drop (length has_of - first)) parts ∙ ap (λ n. drop (n - first) (drop first (take last (log_of w home)))) long
+          sym (drop-map (λ e. e.part) (length has_of - first) entries) ∙ ap (drop (length has_of - first)) parts ∙ ap (λ n. drop (n - first) (drop first (take last (log_of w home)))) long
           ∙ drop_twice first (far - first) far (take last (log_of w home)) (omega arith) ∙ nothing_between far last (log_of w home) shorter in
           let few : far ≤ length (log_of w home) = subst (λ n. n ≤ length (log_of w home)) (sym has_received ∙ long) in_log in
           (far, few, λ longer. omega arith, ap (λ l. has_of ++ l) none ∙ append-nil has_of ∙ is)
       joined far is long le (inr longer) =
           let rest : map (λ e. e.part) (drop (length has_of - first) entries) ≡ drop far (take last (log_of w home)) =
-          map_drop (λ e. e.part) (length has_of - first) entries ∙ ap (drop (length has_of - first)) parts ∙ ap (λ n. drop (n - first) (drop first (take last (log_of w home)))) long
+          sym (drop-map (λ e. e.part) (length has_of - first) entries) ∙ ap (drop (length has_of - first)) parts ∙ ap (λ n. drop (n - first) (drop first (take last (log_of w home)))) long
           ∙ drop_twice first (far - first) far (take last (log_of w home)) (omega arith) in
           (last, within, λ longer. refl, ap₂ (λ a b. a ++ b) is rest ∙ front_and_rest far last (log_of w home) longer)
 
@@ -295,7 +280,7 @@ module _ {cluster : Cluster} {workload : Workload} {w : World} (k : IsReached cl
           known_now x u h = elim (held_all p.region.state.submitted p.region.state.foreign (map (λ e. e.txn) (past_end has_of first entries)) x u (subst (λ v. held v.state x ≡ Some u) is h)) [
             | inl o ↦ s.known x u o
             | inr e ↦ subst (λ y. txn_of w y ≡ Some u) e.1 (all_get (λ t. txn_of w t.id ≡ Some t) (map (λ e. e.txn) entries) (all_image (λ t. txn_of w t.id ≡ Some t) (λ e. e.txn) entries own_id) u
-                (has_dropped (length has_of - first) (map (λ e. e.txn) entries) u (subst (λ l. Has l u) (map_drop (λ e. e.txn) (length has_of - first) entries) e.0)))
+                (has_dropped (length has_of - first) (map (λ e. e.txn) entries) u (subst (λ l. Has l u) (sym (drop-map (λ e. e.txn) (length has_of - first) entries)) e.0)))
           ]
 
           deliver_steps : Steps cluster workload w (Deliver region home begin last) region p (in_region p r) w.places

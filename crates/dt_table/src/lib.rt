@@ -11,6 +11,7 @@ mod opening;
 mod rows;
 mod shown;
 mod stored;
+mod stored_set;
 mod table;
 mod units;
 

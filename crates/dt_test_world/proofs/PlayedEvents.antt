@@ -1,5 +1,5 @@
 -- Events that were made one after another lead to the world.
-use Rattle.std.proofs.Common.{◌≡◌, ◌+◌, List, [], ◌∷◌, ◌++◌, sym, ap, subst, ◌∙◌}
+use Rattle.std.proofs.Common.{◌≡◌, List, [], ◌∷◌, ◌++◌, sym, ap, subst, ◌∙◌}
 use Rattle.dt_events.specs.declared.Event.{Event}
 use Rattle.dt_session.specs.Step.{IsLegal, next}
 use Rattle.dt_agreement.proofs.Callers.{more_legal, world_after_more}

@@ -9,6 +9,7 @@ use crate::listed::Listed;
 use crate::no_memory::NoMemory;
 use crate::spelling::Spelling;
 use crate::text::Str;
+use smallvec::SmallVec;
 use std::alloc::Global;
 
 /// A word of a line.
@@ -116,13 +117,16 @@ pub fn is_visible(byte: u8) -> bool
     matches!(byte, b'!'..=b'~')
 }
 
+/// The bytes of a text while it is read. Those of a short one take no memory.
+type Built = SmallVec<u8, 32>;
+
 /// Reads the text word that begins with the `"` at `at`, with the place after it.
 fn read_text(alloc: Global, line: &[u8], at: usize) -> Result<Option<(Word, usize)>, NoMemory>
     requires inside { at < length line.now }
     requires quote { slice_index line.now at ≡ 34 }
     ensures { IfOk result (WordAt line.now at) }
 {
-    let mut text = Spelling::empty(alloc);
+    let mut text = Built::new(alloc);
     let mut end = at + 1;
     while end < line.len() {
         if line[end] == b'"' {
@@ -131,7 +135,7 @@ fn read_text(alloc: Global, line: &[u8], at: usize) -> Result<Option<(Word, usiz
         let Some((byte, next)) = read_item(line, end) else {
             return Ok(None);
         };
-        if text.bytes().len() >= Str::LONGEST {
+        if text.len() >= Str::LONGEST {
             return Ok(None);
         }
         text.push(byte)?;
@@ -144,7 +148,7 @@ fn read_text(alloc: Global, line: &[u8], at: usize) -> Result<Option<(Word, usiz
 fn ended_text(
     alloc: Global,
     line: &[u8],
-    text: Spelling,
+    text: Built,
     end: usize,
 ) -> Result<Option<(Word, usize)>, NoMemory>
     requires text { IsStr text }
@@ -154,7 +158,7 @@ fn ended_text(
     if !may_end(line, end) {
         return Ok(None);
     }
-    Ok(Some((Word::Text(Str::spelled(alloc, text)?), end)))
+    Ok(Some((Word::Text(Str::spelled(alloc, Spelling::of(alloc, text.as_slice())?)?), end)))
 }
 
 /// Whether a word may end before `end`: at the line's end, or before a space.

@@ -1,7 +1,7 @@
 -- Rule 3 in a world: of the entries of a delivery, those that the region has not received are taken from the home's site and
 -- handed to the site of the region.
-use Rattle.std.proofs.Common.{◌≡◌, ◌<◌, ◌≤◌, ◌+◌, ℕ, zero, suc, Bool, true, false, List, [], ◌∷◌, ◌++◌, length, map, set, take, drop, slice_get, Ok, Some, refl, sym, ap, subst, ◌∙◌, arith}
-use Rattle.std.proofs.lemmas.List.{length-take-le, map_push, take_more}
+use Rattle.std.proofs.Common.{◌≡◌, ◌<◌, ◌≤◌, ◌+◌, ℕ, Bool, true, false, List, [], ◌∷◌, ◌++◌, length, map, set, take, drop, slice_get, Ok, Some, refl, sym, ap, subst, ◌∙◌, arith}
+use Rattle.std.proofs.lemmas.List.{drop-append-le, length-take-le, map_push, take_more}
 use Rattle.std.proofs.lemmas.Option.{get_or_from_slice_get, slice_get_within}
 use Rattle.dt_lists.specs.Lists.{AllIn}
 use Rattle.dt_lists.proofs.Callers.{all_map, all_more}
@@ -115,18 +115,13 @@ module _ {cluster : Cluster} {sessions : WorldSessions} {sites : List SiteView} 
 
 -- the entries of a log, one more at a time
 
-drop_push : {A : Type 0} (n : ℕ) (xs : List A) (y : A) → n ≤ length xs → drop n (xs ++ y ∷ []) ≡ drop n xs ++ y ∷ []
-drop_push zero xs y le = refl
-drop_push (suc n) [] y le = absurd (omega arith)
-drop_push (suc n) (x ∷ xs) y le = drop_push n xs y (omega arith)
-
 pub entries_more : (log : List Part) (first place : ℕ) (items new : List Entry) (e : Entry) → first ≤ place → slice_get log place ≡ Some e.part → map (λ x. x.part) items ≡ drop first (take place log)
     → new ≡ items ++ e ∷ [] → map (λ x. x.part) new ≡ drop first (take (place + 1) log)
 entries_more log first place items new e le at before is =
     let lt : place < length log = slice_get_within log place e.part at in
     let long : length (take place log) ≡ place = length-take-le place log (omega arith) in
     ap (map (λ x. x.part)) is ∙ map_push (λ x. x.part) items e ∙ ap (λ l. l ++ e.part ∷ []) before
-    ∙ sym (drop_push first (take place log) e.part (omega arith))
+    ∙ sym (drop-append-le first (take place log) (e.part ∷ []) (omega arith))
     ∙ ap (λ x. drop first (take place log ++ x ∷ [])) (sym (get_or_from_slice_get log place e.part e.part at))
     ∙ ap (drop first) (sym (take_more log place e.part lt))
 

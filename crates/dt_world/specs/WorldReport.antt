@@ -1,6 +1,6 @@
 -- What a report says of the events of a cluster and its workload. One learns here what each of its sections has: a reply
--- for each answer, an attempt for each executed id in the serial order, and each region's rows. Outcomes are shown twice:
--- as the serial order gives them, and as the regions keep them. That no look-up comes back empty is a clause of
+-- for each answer, an attempt for each executed id in the serial order, and each region's rows. What an outcome is, is said twice:
+-- as the serial order gives it, and as the regions keep it. That no look-up comes back empty is a clause of
 -- `World::report`. Read next: `Report` of dt_report, for its text.
 use Rattle.std.specs.Prelude.{◌≡◌, ◌<◌, ◌+◌, ℕ, List, [], ◌∷◌, ◌++◌, map, filter_map, Option, Some, None, option_map, option_and_then, option_to_list}
 use Rattle.std.specs.List.{range_with_len}

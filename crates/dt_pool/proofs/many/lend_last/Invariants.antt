@@ -1,4 +1,4 @@
-use Rattle.std.proofs.Common.{◌≡◌, ◌<◌, ◌≤◌, ◌+◌, ◌-◌, ℕ, Some, length, slice_get, slice_index_or, vec_capacity, vec_len}
+use Rattle.std.proofs.Common.{◌≡◌, ◌<◌, ◌≤◌, ◌+◌, ℕ, Some, length, slice_get, slice_index_or, vec_capacity, vec_len}
 use Rattle.dt_pool.proofs.many.lend_last.Given as goal
 
 -- the helpers from `place` on have the last items, and the list has those before them

@@ -1,13 +1,10 @@
-use Rattle.std.proofs.Common.{ap, ◌∙◌, map}
-use Rattle.std.proofs.lemmas.List.{take_all}
+use Rattle.std.proofs.Common.{Ok, rules, tests}
+use Rattle.std.proofs.lemmas.Iterator.{YieldsList-from_map_by, YieldsList-from_slice}
+use Rattle.std.proofs.lemmas.Iterator.Consumers.{map_from_collect}
 use Rattle.dt_run.specs.SeatsInner.{SeatView}
-use Rattle.dt_run.proofs.KeptLists.{lent_more}
 use Rattle.dt_run.proofs.sites.sites_of.Goals as goal
 
-pub loop-seat-preserved : goal.loop-seat-preserved
-loop-seat-preserved g c =
-    lent_more (λ (s : SeatView). s.node.site) c.loop-seat.sites.items c.push.new.self.items c.site.result c.args.seats.now c.loop-seat.seat-index c.seat-item.result c.seat-item.is c.loop-seat-test.true
-    c.in_ok-push.ensures.items (c.site.ensures ∙ ap (λ (s : SeatView). s.node.site) c.seat.view_is) c.loop-seat.invariant
-
 pub returns : goal.returns
-returns g c = c.loop-seat.invariant ∙ ap (map (λ (s : SeatView). s.node.site)) (take_all c.loop-seat.seat-index c.args.seats.now c.loop-seat-test.false)
+returns g c =
+    map_from_collect {E = Unit {0}} (Ok c.in_ok-collect.field-0) c.in_ok-collect.ensures.ran
+    (YieldsList-from_map_by _ (λ site. site.now) (λ (s : SeatView). s.node.site) (YieldsList-from_slice c.args.seats.now cc) c.map.ensures.closure (λ x r q k. search (rules, tests)))

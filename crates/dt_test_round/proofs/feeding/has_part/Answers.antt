@@ -1,4 +1,4 @@
-use Rattle.std.proofs.Common.{ℕ, ◌+◌, take, add-one, sym, ap, subst, ◌∙◌}
+use Rattle.std.proofs.Common.{ℕ, take, add-one, sym, ap, subst, ◌∙◌}
 use Rattle.std.specs.Prelude.{option_copied}
 use Rattle.std.proofs.lemmas.Bool.{false≢true}
 use Rattle.dt_sched.specs.Views.{HasPart}

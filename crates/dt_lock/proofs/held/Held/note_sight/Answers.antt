@@ -1,4 +1,4 @@
-use Rattle.std.proofs.Common.{◌≡◌, ◌+◌, [], ◌∷◌, ◌++◌, sym, ap₂, subst, ◌∙◌}
+use Rattle.std.proofs.Common.{◌≡◌, [], ◌∷◌, ◌++◌, sym, ap₂, subst, ◌∙◌}
 use Rattle.dt_sched.specs.Sched.{CanExecute}
 use Rattle.dt_txn.specs.Execution.{see}
 use Rattle.dt_region.specs.Region.{sched_of}

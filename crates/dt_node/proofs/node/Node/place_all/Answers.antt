@@ -1,14 +1,9 @@
-use Rattle.std.proofs.Common.{◌≡◌, [], ◌∷◌, List, length, sym, ◌∙◌, arith}
-use Rattle.dt_txn.specs.declared.Txn.{Txn}
+use Rattle.std.proofs.Common.{[], ◌∷◌, sym, ◌∙◌, arith}
 use Rattle.dt_node.specs.TurnInner.{asking_packet}
 use Rattle.dt_node.proofs.SmallNumbers.{taken_counted}
 use Rattle.dt_node.proofs.RequestByRequest.{can_place_next, placing_as, placing_breaks, placing_goes, placing_starts}
 use Rattle.dt_node.proofs.TruePackets.{can_again}
 use Rattle.dt_node.proofs.node.Node.place_all.Goals as goal
-
-none_left : (txns : List Txn) → length txns ≡ 0 → txns ≡ []
-none_left [] e = cc
-none_left (txn ∷ txns) e = absurd (omega arith)
 
 pub loop-txn-init : goal.loop-txn-init
 loop-txn-init g c =

@@ -3,19 +3,15 @@ use Rattle.dt_node.proofs.CallConditions.{can_round}
 use Rattle.dt_node.proofs.PassesOfTurn.{round_asked, round_rests, round_taken}
 use Rattle.dt_node.proofs.node.Node.round.Goals as goal
 
--- src/node.rt:199:20
 pub round-made-requires-clause-can : goal.round-made-requires-clause-can
 round-made-requires-clause-can g c = rw (← c.self.view_is, ← c.self-inside.view_is) at (can_round c.requires.can)
 
--- src/node.rt:184:5
 pub returns-clause-moved : goal.returns-clause-moved
 returns-clause-moved g c = rw (← c.self.view_is, ← c.self-inside.view_is) (round_moves c.round-made.new.region c.round-made.ensures.continues c.number-number.ensures.sound)
 
--- src/node.rt:184:5
 pub returns-clause-asked : goal.returns-clause-asked
 returns-clause-asked g c = rw (← c.self.view_is, ← c.self-inside.view_is) (round_asked c.round-made.ensures.continues)
 
--- src/node.rt:184:5
 pub returns-clause-taken : goal.returns-clause-taken
 returns-clause-taken g c = rw (← c.self.view_is, ← c.self-inside.view_is) (round_taken c.round-made.ensures.continues)
 

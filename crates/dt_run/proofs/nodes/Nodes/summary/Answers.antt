@@ -4,12 +4,12 @@ use Rattle.dt_table.specs.Table.{shown}
 use Rattle.dt_run.specs.EndOfRun.{IsAllDone}
 use Rattle.dt_run.specs.NodesView.{NodesView, marks_at}
 use Rattle.dt_run.specs.Run.{IsRunSummary}
-use Rattle.dt_run.specs.SeatsInner.{answers_at, events_at, seat_at}
-use Rattle.dt_run.proofs.Summaries.{answers_seen, kept_fits, first_shown, some_seat, summary_told}
+use Rattle.dt_run.specs.SeatsInner.{answers_at, seat_at}
+use Rattle.dt_run.proofs.Summaries.{answers_fit, answers_seen, first_shown, some_seat, summary_told}
 use Rattle.dt_run.proofs.nodes.Nodes.summary.Goals as goal
 
 pub answers_by-answers-requires : goal.answers_by-answers-requires
-answers_by-answers-requires g c = subst (λ l. sum_by events_at l < 2 ^ 64) (sym c.as_slice.ensures.value) (kept_fits c.self.invariant.seated)
+answers_by-answers-requires g c = subst (λ l. sum_by answers_at l < 2 ^ 64) (sym c.as_slice.ensures.value) (answers_fit c.self.invariant.seated)
 
 pub first_rows-requires : goal.first_rows-requires
 first_rows-requires g c = subst (λ l. 0 < length l) (sym c.as_slice-2.ensures.value) (some_seat c.self.invariant.seated)

@@ -1,5 +1,5 @@
 use Rattle.std.proofs.lemmas.Grind.{common_steps}
-use Rattle.std.proofs.Common.{◌<◌, true, false, refl, length, sym, ap, subst, ◌∙◌, arith}
+use Rattle.std.proofs.Common.{◌≡◌, ◌<◌, Bool, refl, length, sym, ap, subst, ◌∙◌, arith}
 use Rattle.dt_sched.specs.Views.{log_at}
 use Rattle.dt_region.specs.Region.{RegionView}
 use Rattle.dt_events.specs.declared.Event.TheVariants.{Deliver}
