@@ -1,30 +1,16 @@
 ghost use Rattle.std.specs.Prelude.{◌≡◌, [], ◌∷◌, ◌++◌, IfOk, OnOk, OnErr};
 ghost use Rattle.dt_access.specs.Orders.{AreAscendingHomes};
 
-use dt_text::{Common, NoMemory};
+use dt_text::NoMemory;
+use smallvec::SmallVec;
 use std::alloc::Global;
 use std::marker::Model;
-
-/// How many homes lie in a list itself.
-const FEW: usize = 8;
 
 /// Homes in ascending order; so none stands twice. Up to eight of them lie in the list itself, and take no memory when they
 /// are copied.
 #[derive(Debug, Drop)]
 pub struct Homes {
-    alloc: Global,
-    items: Items,
-}
-
-/// The items of a list.
-#[derive(Debug, Drop)]
-enum Items {
-    /// The first so many of these; the others are 0.
-    Few {
-        len: u8,
-        homes: [u8; 8],
-    },
-    Many(Common<Vec<u8>>),
+    items: SmallVec<u8, 8>,
 }
 
 impl Model for Homes {
@@ -40,68 +26,46 @@ impl Model for Homes {
 
 impl Homes {
     /// The empty list. Takes no memory.
-    pub fn new(alloc: Global) -> Self {
+    pub fn new(alloc: Global) -> Self
+        ensures { result ≡ [] }
+    {
         Homes {
-            alloc,
-            items: Items::Few {
-                len: 0,
-                homes: [0; 8],
-            },
+            items: SmallVec::new(alloc),
         }
     }
 
     /// The homes of a slice, which stand in ascending order there.
-    #[inline(always)]
-    pub fn from_slice(alloc: Global, homes: &[u8]) -> Result<Self, NoMemory> {
-        let items = if homes.len() <= FEW {
-            few(homes)
-        } else {
-            let many = Vec::from_slice(alloc, homes)?;
-            Items::Many(Common::new(alloc, many)?)
-        };
-        Ok(Homes { alloc, items })
+    pub fn from_slice(alloc: Global, homes: &[u8]) -> Result<Self, NoMemory>
+        requires { AreAscendingHomes homes.now }
+        ensures { IfOk result (λ made. made ≡ homes.now) }
+    {
+        Ok(Homes {
+            items: SmallVec::from_slice(alloc, homes)?,
+        })
     }
 
     /// Adds a home that is greater than all held ones; after `NoMemory` the list is as before.
-    pub fn push(&mut self, home: u8) -> Result<(), NoMemory> {
-        let mut homes = Vec::from_slice(self.alloc, self.as_slice())?;
-        homes.push(home)?;
-        *self = Homes::from_slice(self.alloc, homes.as_slice())?;
+    pub fn push(&mut self, home: u8) -> Result<(), NoMemory>
+        requires { AreAscendingHomes (self.old ++ home ∷ []) }
+        ensures added { OnOk result (self.new ≡ self.old ++ home ∷ []) }
+        ensures same { OnErr result (self.new ≡ self.old) }
+    {
+        self.items.push(home)?;
         Ok(())
     }
 
     /// The homes, in order. Takes no memory.
-    #[inline(always)]
-    pub fn as_slice(&self) -> &[u8] {
-        match &self.items {
-            Items::Few { len, homes } => &homes[..*len as usize],
-            Items::Many(many) => many.get().as_slice(),
-        }
+    pub fn as_slice(&self) -> &[u8]
+        ensures same { result.now ≡ self.now }
+        ensures ascending { AreAscendingHomes self.now }
+    {
+        self.items.as_slice()
     }
 
-    /// An equal list. Takes no memory.
-    #[inline(always)]
-    pub fn copy(&self, alloc: Global) -> Result<Self, NoMemory> {
-        let items = match &self.items {
-            Items::Few { len, homes } => Items::Few {
-                len: *len,
-                homes: *homes,
-            },
-            Items::Many(many) => Items::Many(many.copy()?),
-        };
-        Ok(Homes { alloc, items })
-    }
-}
-
-/// A list of few homes.
-#[inline(always)]
-fn few(homes: &[u8]) -> Items {
-    let mut few = [0; 8];
-    for (place, home) in homes.iter().enumerate() {
-        few[place] = *home;
-    }
-    Items::Few {
-        len: homes.len() as u8,
-        homes: few,
+    /// An equal list.
+    pub fn copy(&self, alloc: Global) -> Result<Self, NoMemory>
+        ensures { IfOk result (λ copied. copied ≡ self.now) }
+    {
+        Homes::from_slice(alloc, self.as_slice())
     }
 }

@@ -2,26 +2,15 @@ ghost use Rattle.std.specs.Prelude.{◌≡◌, [], ◌∷◌, ◌++◌, IfOk, On
 ghost use Rattle.dt_access.specs.Orders.{HasAscendingKeys};
 
 use crate::access::Mode;
-use crate::copies::copy_items;
+use crate::shared::Shared;
 use dt_text::{Key, NoMemory};
 use std::alloc::Global;
 use std::marker::Model;
-use std::mem::replace;
-use std::slice::from_ref;
 
-/// Keys with their modes, in ascending order of the keys' bytes; so no key stands twice. One key alone, as most parts have, lies
-/// in the list itself.
+/// Keys with their modes, in ascending order of the keys' bytes; so no key stands twice.
 #[derive(Debug, Drop)]
 pub struct Keys {
-    alloc: Global,
-    items: Items,
-}
-
-/// The items of a list.
-#[derive(Debug, Drop)]
-enum Items {
-    One((Key, Mode)),
-    Many(Vec<(Key, Mode)>),
+    items: Shared<(Key, Mode)>,
 }
 
 impl Model for Keys {
@@ -38,72 +27,47 @@ impl Model for Keys {
 
 impl Keys {
     /// The empty list. Takes no memory.
-    pub fn new(alloc: Global) -> Self {
+    pub fn new(alloc: Global) -> Self
+        ensures { result ≡ [] }
+    {
         Keys {
-            alloc,
-            items: Items::Many(Vec::new(alloc)),
+            items: Shared::new(alloc),
         }
     }
 
     /// The keys of a vector, which stand in order there.
-    pub fn from_vec(alloc: Global, mut items: Vec<(Key, Mode)>) -> Result<Self, NoMemory> {
-        if items.len() == 1 {
-            if let Some(only) = items.pop() {
-                return Ok(Keys {
-                    alloc,
-                    items: Items::One(only),
-                });
-            }
-        }
+    pub fn from_vec(alloc: Global, items: Vec<(Key, Mode)>) -> Result<Self, NoMemory>
+        requires { HasAscendingKeys items.items }
+        ensures { IfOk result (λ keys. keys ≡ items.items) }
+    {
         Ok(Keys {
-            alloc,
-            items: Items::Many(items),
+            items: Shared::from_vec(alloc, items)?,
         })
     }
 
-    /// One key.
-    #[inline(always)]
-    pub fn one(alloc: Global, item: (Key, Mode)) -> Self {
-        Keys {
-            alloc,
-            items: Items::One(item),
-        }
-    }
-
     /// Adds a key that is greater than all held ones; after `NoMemory` the list is as before.
-    pub fn push(&mut self, item: (Key, Mode)) -> Result<(), NoMemory> {
-        let mut items = Vec::with_capacity(self.alloc, 2)?;
-        match replace(&mut self.items, Items::Many(Vec::new(self.alloc))) {
-            Items::One(only) => {
-                items.push_reserved(only);
-                items.push_reserved(item);
-                self.items = Items::Many(items);
-                Ok(())
-            }
-            Items::Many(mut many) => {
-                if many.is_empty() {
-                    self.items = Items::One(item);
-                    return Ok(());
-                }
-                let pushed = many.push(item);
-                self.items = Items::Many(many);
-                pushed?;
-                Ok(())
-            }
-        }
+    pub fn push(&mut self, item: (Key, Mode)) -> Result<(), NoMemory>
+        requires { HasAscendingKeys (self.old ++ item ∷ []) }
+        ensures added { OnOk result (self.new ≡ self.old ++ item ∷ []) }
+        ensures same { OnErr result (self.new ≡ self.old) }
+    {
+        self.items.push(item)
     }
 
     /// The keys with their modes, in order. Takes no memory.
-    #[inline(always)]
-    pub fn as_slice(&self) -> &[(Key, Mode)] {
-        match &self.items {
-            Items::One(only) => from_ref(only),
-            Items::Many(many) => many.as_slice(),
-        }
+    pub fn as_slice(&self) -> &[(Key, Mode)]
+        ensures same { result.now ≡ self.now }
+        ensures ascending { HasAscendingKeys self.now }
+    {
+        self.items.as_slice()
     }
 
-    /// An equal list.
-    pub fn copy(&self, alloc: Global) -> Result<Self, NoMemory> {
-        Keys::from_vec(alloc, copy_items(alloc, self.as_slice())?)
+    /// An equal list. Takes no memory.
+    pub fn copy(&self, alloc: Global) -> Result<Self, NoMemory>
+        ensures { IfOk result (λ copied. copied ≡ self.now) }
+    {
+        Ok(Keys {
+            items: self.items.copy(alloc)?,
+        })
     }
 }

@@ -4,4 +4,3 @@ pub mod ReaderInner
 pub mod Laws
 pub mod Numbers
 pub mod Rows
-pub mod CauseTexts

@@ -10,7 +10,7 @@ use crate::status::{EventsCause, Status};
 use crate::words::ClusterWord;
 use dt_cluster::{Cluster, builtin};
 use dt_cluster_file::{ClusterCause, ClusterError, ClusterFault, ClusterPlace, read_cluster};
-use dt_events::{Event, EventsError, LineNumbers, read_apart};
+use dt_events::{Event, EventsError, read_events};
 use dt_outside::{Folder, LoadError};
 use dt_workload::{Workload, WorkloadCause, WorkloadError, read_workload};
 use std::alloc::Global;
@@ -118,7 +118,7 @@ pub fn load_events<F: Folder>(
     alloc: Global,
     files: &mut F,
     name: &str,
-) -> Result<(LineNumbers, Vec<Event>), Status>
+) -> Result<Vec<(u32, Event)>, Status>
     ensures events { IfOk result (λ events. HasFile (F.seen files.old).told name.now (HoldEvents events.items)) }
     ensures few { IfOk result (λ events. length events.items ≤ file_limit) }
     ensures refused { (status : _) → result ≡ Err status →
@@ -128,7 +128,7 @@ pub fn load_events<F: Folder>(
 {
     let too_long = Status::BadEvents(0, EventsCause::TooLong);
     let bytes = load(alloc, files, name, EVENTS_WORD, too_long)?;
-    match read_apart(alloc, bytes.as_slice()) {
+    match read_events(alloc, bytes.as_slice()) {
         Ok(events) => Ok(events),
         Err(EventsError::Form(line)) => Err(Status::BadEvents(line, EventsCause::Form)),
         Err(EventsError::NoMemory) => Err(Status::NoMemory),

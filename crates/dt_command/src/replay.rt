@@ -13,7 +13,7 @@ use crate::files::{load_both, load_events};
 use crate::status::{EventsCause, Status};
 use crate::words::ReplayWords;
 use dt_cluster::Cluster;
-use dt_events::{Event, LineNumbers};
+use dt_events::Event;
 use dt_graph::QueueSched;
 use dt_outside::Folder;
 use dt_text::NoMemory;
@@ -41,7 +41,7 @@ fn report_of(
     alloc: Global,
     cluster: Cluster,
     workload: Workload,
-    numbered: (LineNumbers, Vec<Event>),
+    events: Vec<(u32, Event)>,
 ) -> Result<Vec<u8>, Status>
     requires cluster { IsValidCluster cluster }
     requires workload { IsValidWorkload cluster workload }
@@ -51,12 +51,11 @@ fn report_of(
     ensures told { IfOk result (λ text. IsToldBy text.items (unnumbered events.items)) }
     ensures refused { (status : _) → result ≡ Err status → IsStepRefusal cluster workload events.items status }
 {
-    let (lines, events) = numbered;
+    let (lines, events) = apart(alloc, events)?;
     let world = world_after(alloc, cluster, workload, lines, events.as_slice())?;
     let (text, sites) = world.text(alloc, events.as_slice())?;
     // The program ends soon, and then gives back all memory at once, in a tenth of the time.
     forget(sites);
-    forget(events);
     Ok(text)
 }
 
@@ -65,7 +64,7 @@ fn world_after(
     alloc: Global,
     cluster: Cluster,
     workload: Workload,
-    lines: LineNumbers,
+    lines: Vec<u32>,
     events: &[Event],
 ) -> Result<World<QueueSched>, Status>
     requires cluster { IsValidCluster cluster }
@@ -83,7 +82,7 @@ fn world_after(
     let mut world = World::opening(alloc, cluster, workload)?;
     for (at, event) in events.iter().enumerate() {
         if let Err(error) = world.step(alloc, event) {
-            return Err(refusal(lines.get(at), error));
+            return Err(refusal(lines[at], error));
         }
     }
     Ok(world)
@@ -97,4 +96,14 @@ fn refusal(line: u32, error: StepError) -> Status
         StepError::Illegal(rule) => Status::BadEvents(line, EventsCause::Rule(rule)),
         StepError::NoMemory => Status::NoMemory,
     }
+}
+
+/// The numbers of the lines, and the events: apart they take less memory.
+fn apart(alloc: Global, events: Vec<(u32, Event)>) -> Result<(Vec<u32>, Vec<Event>), NoMemory>
+    ensures lines { IfOk result (λ both. both.0.items ≡ map (λ event. event.0) events.items) }
+    ensures events { IfOk result (λ both. both.1.items ≡ unnumbered events.items) }
+{
+    let lines: Vec<u32> = events.iter().map(|event| event.0).collect(alloc)?;
+    let events: Vec<Event> = events.into_iter().map(|(_, event)| event).collect(alloc)?;
+    Ok((lines, events))
 }

@@ -4,12 +4,11 @@ ghost use Rattle.dt_eval.specs.FrameInner.{ArePlaces, IsItemWithin};
 ghost use Rattle.dt_eval.specs.Keys.{HasKeys, keys_of, names_given, names_of};
 ghost use Rattle.dt_eval.specs.Meaning.{Fits, IsOfKind, meaning, unchanged};
 
-use crate::finish::{Finish, Reads};
+use crate::finish::{Finish, Reads, Values};
 use crate::frame::Frame;
 use crate::places::place_of;
 use crate::rows::{Places, Rows};
 use crate::stop::Stop;
-use crate::values::Values;
 use crate::variables::Variables;
 use dt_access::TryCopy;
 use dt_proc::{KeyDecl, Kind, Proc};
@@ -102,7 +101,7 @@ fn rows(alloc: Global, body: &Proc, args: &[Value], reads: Reads) -> Result<Rows
 
 /// For each declaration the place of its key among the reads.
 fn places(
-    _alloc: Global,
+    alloc: Global,
     declarations: &[KeyDecl],
     args: &[Value],
     reads: &[(Key, Option<Value>)],
@@ -111,9 +110,9 @@ fn places(
     requires read { AllIn (λ name. AnyIn (λ r. r.0 ≡ name) reads.now) (names_given args.now declarations.now) }
     ensures { IfOk result (λ places. ArePlaces (names_given args.now declarations.now) (map (λ r. r.0) reads.now) places.items) }
 {
-    let mut places: Places = [0; 16];
-    for (number, declared) in declarations.iter().enumerate() {
-        places[number] = place_of(reads, declared.items.as_slice(), args) as u8;
+    let mut places = Places::with_capacity(alloc, declarations.len())?;
+    for declared in declarations {
+        places.push(place_of(reads, declared.items.as_slice(), args))?;
     }
     Ok(places)
 }

@@ -54,18 +54,13 @@ pub fn keys_of(alloc: Global, body: &Proc, args: &[Value]) -> Result<Keys, KeysE
     ensures ok { IfOk result (λ keys. HasKeys body.now args.now) }
     ensures bad { (i : ℕ) → result ≡ Err (KeysError.BadKey i) → IsFirstBadKey (names_of body.now args.now) i }
 {
+    let mut uses = Vec::new(alloc);
     let declarations = body.keys();
-    let mut uses = list_for(alloc, declarations.len())?;
     for (number, declared) in declarations.iter().enumerate() {
         let (key, write) = use_of(alloc, number, declared, args)?;
         add_use(&mut uses, key, write)?;
     }
-    Ok(Keys::from_vec(alloc, uses)?)
-}
-
-/// A list with room for so many uses.
-fn list_for(alloc: Global, uses: usize) -> Result<Vec<(Key, Mode)>, NoMemory> {
-    Ok(Vec::with_capacity(alloc, uses)?)
+    Ok(Keys::from_vec(alloc, with_modes(alloc, uses)?)?)
 }
 
 /// The key of the declaration of this number, and whether it may be written.
@@ -131,26 +126,35 @@ fn add_argument(text: &mut Joined, argument: &Value) -> Result<(), NoMemory>
 
 /// Adds a use to uses in ascending order of keys: a key that is there already stays once, and may be written if either use
 /// of it writes.
-fn add_use(uses: &mut Vec<(Key, Mode)>, key: Key, write: bool) -> Result<(), NoMemory>
+fn add_use(uses: &mut Vec<(Key, bool)>, key: Key, write: bool) -> Result<(), NoMemory>
     ensures { OnOk result (uses.new.items ≡ with_use uses.old.items (key, write)) }
 {
     for place in 0..uses.len() {
         match key.cmp(&uses[place].0) {
             Ordering::Less => {
-                uses.insert(place, (key, mode_of(write)))?;
+                uses.insert(place, (key, write))?;
                 return Ok(());
             }
             Ordering::Equal => {
-                if write {
-                    uses[place].1 = Mode::Write;
-                }
+                uses[place].1 |= write;
                 return Ok(());
             }
             Ordering::Greater => {}
         }
     }
-    uses.push((key, mode_of(write)))?;
+    uses.push((key, write))?;
     Ok(())
+}
+
+/// The uses with their modes.
+fn with_modes(alloc: Global, uses: Vec<(Key, bool)>) -> Result<Vec<(Key, Mode)>, NoMemory>
+    ensures { IfOk result (λ keys. keys.items ≡ with_modes uses.items) }
+{
+    Ok(
+        uses.into_iter()
+            .map(|(key, write)| (key, mode_of(write)))
+            .collect(alloc)?,
+    )
 }
 
 /// `Write` where the key may be written, else `Read`.

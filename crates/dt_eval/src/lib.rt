@@ -6,7 +6,6 @@
 //! Read next: `specs/Cases.antt`, the meaning case by case; `specs/Keys.antt`, the rows that a call uses; `src/laws.rt`.
 #![tactic(auto)]
 
-mod args;
 mod calls;
 mod finish;
 mod frame;
@@ -17,12 +16,9 @@ mod places;
 mod rows;
 mod state;
 mod stop;
-mod values;
 mod variables;
 
 pub use calls::{fits, run, run_owned};
-pub use args::Args;
-pub use finish::{Cause, Finish, Reads};
-pub use values::Values;
+pub use finish::{Args, Cause, Finish, Reads, Values};
 pub use keys::{KeysError, keys_of};
 pub use laws::{keys_alone_count, meaning_is_by_cases, only_declared_are_written};

@@ -9,14 +9,15 @@ ghost use Rattle.std.specs.List.{list_all};
 
 use dt_access::Writes;
 use dt_text::{Key, NoMemory, Value};
+use smallvec::SmallVec;
 use std::alloc::Global;
 use std::marker::Model;
 
-/// For each declaration, of which a procedure has 16 at most, the place of the row that its key has.
-pub(crate) type Places = [u8; 16];
+/// For each declaration the place of the row that its key has. That of a few declarations takes no memory.
+pub(crate) type Places = SmallVec<usize, 4>;
 
-/// For each row, of which a run has 16 at most, whether it was set or cleared.
-type Marks = [bool; 16];
+/// For each row whether it was set or cleared. Those of a few rows take no memory.
+type Marks = SmallVec<bool, 8>;
 
 /// The rows of a run, and for each declaration which of them its key has. Contracts see the key of each declaration and
 /// the rows.
@@ -47,7 +48,7 @@ impl Model for Rows {
 impl Rows {
     /// These rows as they are read, the declarations being of the keys at these places.
     pub(crate) fn new(
-        _alloc: Global,
+        alloc: Global,
         items: Vec<(Key, Option<Value>)>,
         places: Places,
     ) -> Result<Self, NoMemory>
@@ -55,9 +56,10 @@ impl Rows {
         requires keys { EachThen KeyBefore (keys_in (map unchanged items.items)) }
         ensures { IfOk result (λ rows. rows ≡ (names_at places.items (map unchanged items.items), map unchanged items.items)) }
     {
+        let changed = Marks::from_elem(alloc, false, items.len())?;
         Ok(Rows {
             items,
-            changed: [false; 16],
+            changed,
             places,
         })
     }
@@ -85,8 +87,7 @@ impl Rows {
         ensures { IfOk result (λ writes. writes ≡ writes_of self.1) }
     {
         let Rows { items, changed, .. } = self;
-        let count = items.len();
-        Ok(Writes::from_vec(changed_rows(alloc, items, &changed[..count])?))
+        Ok(Writes::from_vec(changed_rows(alloc, items, changed.as_slice())?))
     }
 }
 
@@ -95,7 +96,7 @@ fn place_at(places: &Places, key: u32) -> usize
     requires { key < length places.now.items }
     ensures { result ≡ slice_index_or places.now.items key result }
 {
-    places[key as usize] as usize
+    places.as_slice()[key as usize]
 }
 
 /// Marks the row at this place.
@@ -103,7 +104,7 @@ fn mark(marks: &mut Marks, place: usize)
     requires { place < length marks.old.items }
     ensures { marks.new.items ≡ slice_set marks.old.items place true }
 {
-    marks[place] = true;
+    marks.as_mut_slice()[place] = true;
 }
 
 /// The keys and values of the rows that were set or cleared, in order. Takes no memory where all were.

@@ -6,10 +6,8 @@
 
 mod event;
 mod laws;
-mod line_numbers;
 mod printed;
 mod reader;
-mod recent;
 mod words;
 
 pub use event::{Event, Stamped};
@@ -18,5 +16,4 @@ pub use laws::{
     lines_are_one_event, printed_events_read_back,
 };
 pub use printed::{put_event, put_number};
-pub use line_numbers::LineNumbers;
-pub use reader::{EventsError, read_apart, read_events};
+pub use reader::{EventsError, read_events};

@@ -8,8 +8,6 @@ ghost use Rattle.dt_events.specs.Events.{AreEvents, FirstWithoutForm, IsEventLin
 ghost use Rattle.dt_events.specs.ReadingInner.{AreIds, AreShort, Reads, ReadsEvent, spelled};
 
 use crate::event::Event;
-use crate::line_numbers::LineNumbers;
-use crate::recent::Recent;
 use crate::words::bare_words;
 use dt_access::{Ids, read_id};
 use dt_text::{Common, Lines, Name, NoMemory, are_same, read_u32};
@@ -81,108 +79,6 @@ pub fn read_events(alloc: Global, bytes: &[u8]) -> Result<Vec<(u32, Event)>, Eve
     Ok(events)
 }
 
-/// Reads a file of events as `read_events` does: the numbers of the lines, and the events.
-pub fn read_apart(
-    alloc: Global,
-    bytes: &[u8],
-) -> Result<(LineNumbers, Vec<Event>), EventsError> {
-    // Most lines have more bytes than this, so the lists are not moved while they grow.
-    let room = bytes.len() / 12;
-    let mut numbers = LineNumbers::new(alloc);
-    let mut events = list_for(alloc, room)?;
-    let mut words = Vec::new(alloc);
-    let mut names = Recent::new(alloc)?;
-    let mut lines = Lines::new(bytes);
-    while let Some(line) = lines.next() {
-        if let Some(event) = named_event(alloc, line.bytes, &mut names)? {
-            numbers.push(line.number)?;
-            events.push(event)?;
-            continue;
-        }
-        match read_event(alloc, line.bytes, &mut words)? {
-            Some(event) => {
-                numbers.push(line.number)?;
-                events.push(event)?;
-            }
-            None => return Err(EventsError::Form(line.number)),
-        }
-    }
-    Ok((numbers, events))
-}
-
-/// A list with room for so many items.
-fn list_for<X>(alloc: Global, items: usize) -> Result<Vec<X>, NoMemory> {
-    Ok(Vec::with_capacity(alloc, items)?)
-}
-
-/// The event of a line of the commonest kinds that is written in the commonest way: with one space between words, and regions
-/// below 10. `None` for others.
-#[inline(always)]
-fn common_event(line: &[u8]) -> Option<Event> {
-    match line {
-        [b'i', b'n', b's', b'e', b'r', b't', b' ', region, b' ', home] => {
-            Some(Event::Insert {
-                region: digit(*region)?,
-                home: digit(*home)?,
-            })
-        }
-        [b'e', b'x', b'e', b'c', b'u', b't', b'e', b' ', region, b' ', id @ ..] => {
-            Some(Event::Execute {
-                region: digit(*region)?,
-                id: read_id(id)?,
-            })
-        }
-        [b'a', b'p', b'p', b'e', b'n', b'd', b' ', home, b' ', source, b' ', number @ ..] => {
-            Some(Event::Append {
-                home: digit(*home)?,
-                source: digit(*source)?,
-                number: read_u32(number)?,
-            })
-        }
-        _ => None,
-    }
-}
-
-/// The event of a line with a session that is written in the commonest way. `None` for others.
-#[inline(always)]
-fn named_event(
-    alloc: Global,
-    line: &[u8],
-    names: &mut Recent,
-) -> Result<Option<Event>, NoMemory> {
-    match line {
-        [b's', b'u', b'b', b'm', b'i', b't', b' ', region, b' ', session @ ..] => {
-            let Some(region) = digit(*region) else {
-                return Ok(None);
-            };
-            match names.read(alloc, session)? {
-                Some(session) => Ok(Some(Event::Submit { region, session })),
-                None => Ok(None),
-            }
-        }
-        [b'a', b'n', b's', b'w', b'e', b'r', b' ', region, b' ', session @ ..] => {
-            let Some(region) = digit(*region) else {
-                return Ok(None);
-            };
-            match names.read(alloc, session)? {
-                Some(session) => Ok(Some(Event::Answer { region, session })),
-                None => Ok(None),
-            }
-        }
-        _ => Ok(None),
-    }
-}
-
-/// The number of a digit.
-#[inline(always)]
-fn digit(byte: u8) -> Option<u8> {
-    if byte.is_ascii_digit() {
-        Some(byte - b'0')
-    } else {
-        None
-    }
-}
-
 /// Reads the event of a line. `None` exactly where the line is no event. Its words are left in `words`, so that one list serves
 /// all lines.
 fn read_event<'a>(
@@ -193,9 +89,6 @@ fn read_event<'a>(
     requires { length line.now < 2 ^ 32 }
     ensures { IfOk result (λ event. MatchOption event ((e : Event) → ¬ IsEventLine line.now e) (IsEventLine line.now)) }
 {
-    if let Some(event) = common_event(line) {
-        return Ok(Some(event));
-    }
     let made = bare_words(line, &mut *words)?;
     if !made {
         return Ok(None);

@@ -6,10 +6,10 @@ ghost use Rattle.dt_graph.specs.LinksInner.{IsSourceAt, IsSourceOf, HasLinked};
 ghost use Rattle.dt_waits.specs.Steps.{HaveSlots};
 
 use crate::group::Group;
-use crate::vertices::Vertices;
 use dt_class::Adj;
 use dt_queue::Queues;
 use dt_text::NoMemory;
+use dt_waits::Vertex;
 use std::alloc::Global;
 
 /// What vertices wait for among themselves, by their places in a list, and which of them wait for others too.
@@ -72,7 +72,7 @@ fn link(
 pub fn gather(
     alloc: Global,
     queues: &Queues,
-    vertices: &Vertices,
+    vertices: &[Vertex],
     list: &[u32],
 ) -> Result<Among, NoMemory>
     requires distinct { HasDistinctSlots queues.now }
@@ -85,7 +85,7 @@ pub fn gather(
     let mut graph = Adj::new(alloc, list.len() as u32)?;
     let mut blocked = Vec::new(alloc);
     for (place, vertex) in list.iter().enumerate() {
-        let slots = vertices.at(*vertex).slots.as_slice();
+        let slots = vertices[*vertex as usize].slots.as_slice();
         if link(alloc, queues, slots, &group, place as u32, &mut graph)? {
             blocked.push(place as u32)?;
         }

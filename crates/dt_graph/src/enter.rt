@@ -16,9 +16,9 @@ fn keep_slot(
     queues: &Queues,
     slot: usize,
     vertex: u32,
-    before: u64,
+    before: u128,
     slots: &mut Slots,
-) -> Result<u64, NoMemory>
+) -> Result<u128, NoMemory>
     requires waits { IsQueued queues.now slot }
     requires fits { raised before (map (λ w. w.vertex) (neighbours queues.now slot)) vertex < 2 ^ 128 }
     ensures raised { IfOk result (λ risen. risen ≡ raised before (map (λ w. w.vertex) (neighbours queues.now slot)) vertex) }
@@ -27,7 +27,7 @@ fn keep_slot(
 {
     let others = queues.count_others(alloc, slot, vertex)?;
     slots.push(slot)?;
-    Ok(before + others as u64)
+    Ok(before + others as u128)
 }
 
 /// Lets a vertex wait for the use of a key, and answers its degree; after `NoMemory` all is as before.
@@ -37,9 +37,9 @@ fn enter_use(
     home: u8,
     used: &(Key, Mode),
     vertex: u32,
-    before: u64,
+    before: u128,
     slots: &mut Slots,
-) -> Result<u64, NoMemory>
+) -> Result<u128, NoMemory>
     requires distinct { HasDistinctSlots queues.old }
     requires counted { before ≡ degree queues.old vertex }
     ensures entered { IfOk result (Enters home vertex (used.now ∷ []) queues.old queues.new slots.old slots.new) }
@@ -64,9 +64,9 @@ fn enter_uses(
     queues: &mut Queues,
     part: &Part,
     vertex: u32,
-    before: u64,
+    before: u128,
     slots: &mut Slots,
-) -> Result<u64, NoMemory>
+) -> Result<u128, NoMemory>
     requires distinct { HasDistinctSlots queues.old }
     requires counted { before ≡ degree queues.old vertex }
     ensures entered { IfOk result (Enters part.now.home vertex part.now.keys queues.old queues.new slots.old slots.new) }
@@ -98,9 +98,9 @@ pub fn enter(
     queues: &mut Queues,
     part: &Part,
     vertex: u32,
-    before: u64,
+    before: u128,
     slots: &mut Slots,
-) -> Result<u64, NoMemory>
+) -> Result<u128, NoMemory>
     requires distinct { HasDistinctSlots queues.old }
     requires counted { before ≡ degree queues.old vertex }
     ensures entered { IfOk result (Enters part.now.home vertex part.now.keys queues.old queues.new slots.old slots.new) }

@@ -14,12 +14,12 @@ ghost use Rattle.dt_waits.specs.Waits.{id_at};
 
 use crate::class::gather;
 use crate::names::Names;
-use crate::vertices::State;
 use crate::waits::Waits;
 use dt_access::{Ids, Part, TxnId};
 use dt_text::{Listed, NoMemory};
 use dt_waits::Open;
 use std::alloc::Global;
+use std::marker::Model;
 
 /// What is left in the graph.
 #[derive(Drop)]
@@ -27,6 +27,17 @@ pub struct Graph {
     names: Names,
     waits: Waits,
     classes: Vec<Open>,
+}
+
+impl Model for Graph {
+    ghost use Rattle.dt_waits.specs.Graph.{GraphView};
+    ghost use Rattle.dt_graph.specs.HeldInner.{IsFitted, kept_of};
+
+    ghost Value = { GraphView };
+
+    ghost view = { λ g. kept_of g.names.ids g.waits g.classes.items };
+
+    ghost invariant = { λ g. IsFitted g.names.ids g.waits };
 }
 
 /// A member of a class, which is compared as it runs: by rank, then by id.
@@ -74,17 +85,8 @@ impl Graph {
         ensures { IsTrue result ↔ (v : ℕ) × (slice_get self.now.ids v ≡ Some id) × Has self.now.ready v }
     {
         match self.names.number_of(id) {
-            Some(vertex) => self.state_of(vertex) == State::Ready,
+            Some(vertex) => self.waits.ready.has(vertex),
             None => false,
-        }
-    }
-
-    /// The state of the vertex of a number.
-    #[inline(always)]
-    fn state_of(&self, vertex: u32) -> State {
-        match self.waits.vertices.get(vertex) {
-            Some(kept) => kept.state,
-            None => State::Gone,
         }
     }
 
@@ -93,8 +95,8 @@ impl Graph {
         ensures { MatchOption result ((v : ℕ) → Has self.now.ready v → Has busy.now (id_at self.now.ids v))
             (λ id. ((v : ℕ) × Has self.now.ready v × (id_at self.now.ids v ≡ id)) × (Has busy.now id → ⊥)) }
     {
-        for vertex in self.waits.vertices.ready() {
-            let id = self.waits.vertices.at(*vertex).id;
+        for vertex in self.waits.ready.as_slice() {
+            let id = self.names.id_of(*vertex);
             if !busy.contains(&id) {
                 return Some(id);
             }
@@ -109,7 +111,7 @@ impl Graph {
         let mut vertices = Vec::new(alloc);
         for id in ids {
             match self.names.number_of(*id) {
-                Some(vertex) if self.state_of(vertex) == State::Stuck => vertices.push(vertex)?,
+                Some(vertex) if self.waits.stuck.has(vertex) => vertices.push(vertex)?,
                 _ => return Ok(None),
             }
         }
@@ -132,7 +134,7 @@ impl Graph {
         let among = gather(
             alloc,
             &self.waits.queues,
-            &self.waits.vertices,
+            self.waits.vertices.as_slice(),
             vertices.as_slice(),
         )?;
         if !among.blocked.is_empty() {
@@ -148,14 +150,14 @@ impl Graph {
         ensures { (view : View) (resolved : List (List TxnId)) (done : List TxnId) → IsOrderly view resolved done → KeepsGraph view resolved done self.now →
             IfOk result (λ answer. MatchOption answer ((ids : List TxnId) → IsResolvable view resolved done ids → ⊥) (λ ids. IsResolvable view resolved done ids)) }
     {
-        let stuck = self.waits.vertices.stuck();
+        let stuck = self.waits.stuck.as_slice();
         if stuck.len() < 2 {
             return Ok(None);
         }
         let among = gather(
             alloc,
             &self.waits.queues,
-            &self.waits.vertices,
+            self.waits.vertices.as_slice(),
             stuck,
         )?;
         match among.graph.source_class(alloc, among.blocked.as_slice())? {
@@ -172,7 +174,7 @@ impl Graph {
     {
         let mut ids = Vec::with_capacity(alloc, places.len())?;
         for place in places {
-            ids.push(self.waits.vertices.at(list[*place as usize]).id)?;
+            ids.push(self.names.id_of(list[*place as usize]))?;
         }
         ids.sort()?;
         Ok(Ids::from_vec(ids))
@@ -187,7 +189,7 @@ impl Graph {
         let mut members = Vec::with_capacity(alloc, ids.len())?;
         for id in ids {
             if let Some(vertex) = self.names.number_of(*id) {
-                let rank = self.waits.vertices.at(vertex).rank;
+                let rank = self.waits.vertices[vertex as usize].rank;
                 members.push(Member {
                     rank,
                     id: *id,
@@ -223,8 +225,8 @@ impl Graph {
         ensures { FinishesId id self.old self.new }
     {
         if let Some(vertex) = self.names.number_of(id) {
-            self.waits.vertices.take_ready(vertex);
-            match self.waits.vertices.at(vertex).class.get() {
+            self.waits.ready.remove(vertex);
+            match self.waits.vertices[vertex as usize].class.get() {
                 None => self.waits.leave(&[vertex]),
                 Some(class) => self.finish_in(class),
             }
@@ -239,7 +241,7 @@ impl Graph {
         let kept = &mut self.classes[class as usize];
         kept.next += 1;
         match kept.members.as_slice().get(kept.next) {
-            Some(vertex) => self.waits.vertices.add_ready(*vertex),
+            Some(vertex) => self.waits.ready.add(*vertex),
             None => self.waits.leave(kept.members.as_slice()),
         }
     }

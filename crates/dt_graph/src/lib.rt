@@ -22,9 +22,10 @@ mod group;
 mod leave;
 mod names;
 mod numbers;
+mod room;
 mod sched;
 mod seen;
-mod vertices;
+mod subset;
 mod waits;
 
 pub use sched::QueueSched;

@@ -14,7 +14,7 @@ pub trait Gate: Sync {
 }
 
 /// The gate that lets everyone pass.
-#[derive(Clone, Copy, Debug)]
+#[derive(Drop)]
 pub struct NoGate;
 
 impl Gate for NoGate {

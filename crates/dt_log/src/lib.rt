@@ -52,12 +52,6 @@ impl Log {
         }
     }
 
-    /// Makes room for n more parts, where so many are expected. Nothing else changes.
-    pub fn expect(&mut self, parts: usize) -> Result<(), NoMemory> {
-        self.parts.reserve_exact(parts)?;
-        Ok(())
-    }
-
     /// Adds a part at the end; after `NoMemory` the log is as before.
     pub fn push(&mut self, part: Common<Part>) -> Result<(), NoMemory>
         requires { length self.old + 1 < 2 ^ 32 }

@@ -1,6 +1,16 @@
+ghost use Rattle.std.specs.Prelude.{◌≡◌, ◌<◌, ◌↔◌, ◌==◌, ◌-◌, ◌^◌, [], ◌∷◌, ◌++◌, length, not, option_to_list, IsTrue, None, IfOk, OnOk, OnErr};
+ghost use Rattle.std.specs.List.{filter};
+ghost use Rattle.slab.specs.Slab.{ContainsKey, Updates};
+ghost use Rattle.dt_lists.specs.Lists.{AllIn, IsFront};
+ghost use Rattle.dt_queue.specs.LanesInner.{AreMarks};
+ghost use Rattle.dt_queue.specs.NextInner.{IsFirstAfter, IsKnownNext};
+
 use crate::cell::Cell;
+use crate::in_use::InUse;
+use crate::lane::Lane;
+use crate::lanes::{first_between, is_empty, last_between, push_mark, remove_mark};
 use crate::mark::{Mark, Marks};
-use crate::nearest::{near_row, near_rows, number_or, only};
+use crate::nearest::{near_row, near_rows, near_write, number_or, only};
 use crate::next::Next;
 use crate::rows::Rows;
 use dt_access::Mode;
@@ -8,21 +18,34 @@ use dt_text::{Key, NoMemory};
 use slab::Slab;
 use std::alloc::Global;
 
-/// All entries that wait, as they are kept: a cell for each at its slot, its row, and a mark in the lane of its mode, which is
-/// that of its row, or, for the mode `Whole`, of its granule.
+/// All entries that wait, as they are kept: a cell for each at its slot, its row, and a mark in the lane of its mode at the
+/// place of its row, or, for the mode `Whole`, of its granule.
 #[derive(Drop)]
 pub struct Kept {
     pub cells: Slab<Cell>,
     pub rows: Rows,
+    pub in_use: InUse,
+    pub reads: Vec<Lane>,
+    pub writes: Vec<Lane>,
+    pub wholes: Vec<Lane>,
     pub next_number: u64,
 }
 
 impl Kept {
+    ghost use Rattle.dt_queue.specs.KeptInner.{AddsCell, ChangesLaneOf, AreQueuesKept, HasOneNear, IsNearInMode, IsNearMark, IsNextInMode, IsInUse, IsNextMark, KeepsLanes, LeavesRow, lane, place_at};
+
     /// No entry waits. Takes no memory.
-    pub fn new(alloc: Global) -> Self {
+    pub fn new(alloc: Global) -> Self
+        ensures kept { AreQueuesKept result }
+        ensures empty { result.cells.slots ≡ [] }
+    {
         Kept {
             cells: Slab::new(alloc),
             rows: Rows::new(alloc),
+            in_use: InUse::new(alloc),
+            reads: Vec::new(alloc),
+            writes: Vec::new(alloc),
+            wholes: Vec::new(alloc),
             next_number: 1,
         }
     }
@@ -35,89 +58,63 @@ impl Kept {
         key: &Key,
         mode: Mode,
         vertex: u32,
-    ) -> Result<usize, NoMemory> {
+    ) -> Result<usize, NoMemory>
+        requires kept { AreQueuesKept self.old }
+        requires left { self.old.next_number < 2 ^ 64 - 1 }
+        ensures kept { AreQueuesKept self.new }
+        ensures rows { IsFront self.old.rows.names.keys self.new.rows.names.keys }
+        ensures added { IfOk result (λ slot. AddsCell self.old self.new slot (home, key.now) mode vertex) }
+        ensures same { OnErr result (self.new.cells.slots ≡ self.old.cells.slots) }
+    {
         let number = self.next_number;
         let row = self.rows.row(alloc, home, key)?;
+        let granule = self.rows.granule_of(row);
+        self.in_use.reserve(alloc, granule, row)?;
         self.cells.reserve(1)?;
         let slot = self.cells.vacant_key();
-        let mark = Mark { number, slot };
-        match mode {
-            Mode::Read | Mode::Write => {
-                self.rows.enter(row)?;
-                self.rows.push_mark(alloc, row, mode, mark)?;
-            }
-            Mode::Whole => self.push_whole(row, mark)?,
-        }
+        self.add_mark(
+            alloc,
+            row,
+            mode,
+            Mark {
+                number,
+                slot,
+                vertex,
+            },
+        )?;
+        self.in_use.add_in_mode(granule, row, mode);
         self.next_number = number + 1;
         Ok(
             self.cells.insert_reserved(Cell {
                 row,
-                number,
-                vertex,
                 mode,
+                vertex,
+                number,
             }),
         )
     }
 
-    /// Adds a mark of one that takes the granule of a row whole, behind all others; after `NoMemory` all is as before.
-    #[inline(never)]
-    fn push_whole(&mut self, row: usize, mark: Mark) -> Result<(), NoMemory> {
-        let granule = self.rows.at(row).granule;
-        self.rows.take(granule);
-        self.rows.granules[granule as usize].wholes.push(mark)
-    }
-
     /// Takes out the entry at a slot. Takes no memory.
-    #[inline(always)]
-    pub fn remove(&mut self, slot: usize) {
-        let Cell {
-            row, number, mode, ..
-        } = self.cells.remove(slot);
-        match mode {
-            Mode::Read | Mode::Write => self.rows.remove_mark(row, mode, number),
-            Mode::Whole => {
-                let granule = self.rows.at(row).granule;
-                self.rows.granules[granule as usize].wholes.remove(number);
-            }
-        }
-    }
-
-    /// The last mark of those that take the granule of an entry whole, before it.
-    #[inline(always)]
-    fn last_whole(&self, cell: &Cell) -> Option<Mark> {
-        if self.is_apart(cell) {
-            return None;
-        }
-        self.rows
-            .granule_of(cell.row)
-            .wholes
-            .last_between(0, cell.number)
-    }
-
-    /// The first mark of those that take the granule of an entry whole, after it.
-    #[inline(always)]
-    fn first_whole(&self, cell: &Cell) -> Option<Mark> {
-        if self.is_apart(cell) {
-            return None;
-        }
-        self.rows
-            .granule_of(cell.row)
-            .wholes
-            .first_between(cell.number, u64::MAX)
-    }
-
-    /// Whether it is seen at once that nothing else takes the granule of an entry whole.
-    #[inline(always)]
-    fn is_apart(&self, cell: &Cell) -> bool {
-        match cell.mode {
-            Mode::Read | Mode::Write => !self.rows.at(cell.row).may_be_taken,
-            Mode::Whole => false,
-        }
+    pub fn remove(&mut self, slot: usize)
+        requires kept { AreQueuesKept self.old }
+        requires there { ContainsKey self.old.cells slot }
+        ensures kept { AreQueuesKept self.new }
+        ensures updates { Updates self.old.cells self.new.cells slot None }
+        ensures rows { self.new.rows ≡ self.old.rows }
+    {
+        let cell = self.cells.remove(slot);
+        self.remove_mark(cell.row, cell.mode, cell.number);
+        self.leave_row(cell.row);
     }
 
     /// The marks of the neighbours of an entry, in the order of their pushes.
-    pub fn near(&self, alloc: Global, cell: &Cell) -> Result<Marks, NoMemory> {
-        let whole = self.last_whole(cell);
+    pub fn near(&self, alloc: Global, cell: &Cell) -> Result<Marks, NoMemory>
+        requires kept { AreQueuesKept self.now }
+        requires row_in { cell.now.row < length self.now.rows.names.keys }
+        ensures { IfOk result (λ marks. AreMarks (IsNearMark self.now cell.now) marks.items) }
+    {
+        let granule = self.rows.granule_of(cell.row);
+        let whole = last_between(self.wholes.as_slice(), granule, 0, cell.number);
         let marks = self.near_in_rows(alloc, cell, number_or(whole, 0))?;
         if marks.is_empty() {
             return only(alloc, whole);
@@ -127,30 +124,38 @@ impl Kept {
 
     /// Whether it is seen at once that an entry has one neighbour at most: it reads a row, or it writes one that nothing else waits
     /// to read.
-    #[inline(always)]
-    pub fn has_one_near(&self, cell: &Cell) -> bool {
+    pub fn has_one_near(&self, cell: &Cell) -> bool
+        ensures { IsTrue result → HasOneNear self.now cell.now }
+    {
         match cell.mode {
             Mode::Read => true,
-            Mode::Write => !self.rows.at(cell.row).read.is_some(),
+            Mode::Write => is_empty(self.reads.as_slice(), cell.row),
             Mode::Whole => false,
         }
     }
 
     /// The mark of the neighbour of such an entry, if it has one. Takes no memory.
-    #[inline(always)]
-    pub fn near_one(&self, cell: &Cell) -> Option<Mark> {
-        let whole = self.last_whole(cell);
-        let row = self.rows.at(cell.row);
-        let write = self
-            .rows
-            .last_write(row, number_or(whole, 0), cell.number);
+    pub fn near_one(&self, cell: &Cell) -> Option<Mark>
+        requires kept { AreQueuesKept self.now }
+        requires row_in { cell.now.row < length self.now.rows.names.keys }
+        requires one { HasOneNear self.now cell.now }
+        ensures { AreMarks (IsNearMark self.now cell.now) (option_to_list result) }
+    {
+        let granule = self.rows.granule_of(cell.row);
+        let whole = last_between(self.wholes.as_slice(), granule, 0, cell.number);
+        let low = number_or(whole, 0);
+        let write = last_between(self.writes.as_slice(), cell.row, low, cell.number);
         write.or(whole)
     }
 
     /// The mark of the first follower of an entry after a number.
-    #[inline(always)]
-    pub fn next(&self, cell: &Cell, after: u64) -> Option<Mark> {
-        let whole = self.first_whole(cell);
+    pub fn next(&self, cell: &Cell, after: u64) -> Option<Mark>
+        requires kept { AreQueuesKept self.now }
+        requires row_in { cell.now.row < length self.now.rows.names.keys }
+        ensures { IsFirstAfter (IsNextMark self.now cell.now) after result }
+    {
+        let granule = self.rows.granule_of(cell.row);
+        let whole = first_between(self.wholes.as_slice(), granule, cell.number, u64::MAX);
         let next = self.next_in_rows(cell, number_or(whole, u64::MAX), after);
         let any = next.any;
         if any {
@@ -159,29 +164,87 @@ impl Kept {
         Next::one(whole, after).first
     }
 
+    /// Adds a mark at the back of the lane of its mode and row; after `NoMemory` all lanes are as before.
+    fn add_mark(
+        &mut self,
+        alloc: Global,
+        row: usize,
+        mode: Mode,
+        mark: Mark,
+    ) -> Result<(), NoMemory>
+        requires row_in { row < length self.old.rows.granule_of.items }
+        requires last { AllIn (λ m. m.number < mark.number) (lane self.old mode (place_at self.old.rows mode row)) }
+        ensures added { OnOk result (ChangesLaneOf self.old mode (place_at self.old.rows mode row) (lane self.old mode (place_at self.old.rows mode row) ++ mark ∷ []) self.new) }
+        ensures same { OnErr result (KeepsLanes self.old self.new) }
+    {
+        match mode {
+            Mode::Read => push_mark(alloc, &mut self.reads, row, mark),
+            Mode::Write => push_mark(alloc, &mut self.writes, row, mark),
+            Mode::Whole => push_mark(alloc, &mut self.wholes, self.rows.granule_of(row), mark),
+        }
+    }
+
+    /// Takes a mark out of the lane of its mode and row. Takes no memory.
+    fn remove_mark(&mut self, row: usize, mode: Mode, number: u64)
+        requires { row < length self.old.rows.granule_of.items }
+        ensures { ChangesLaneOf self.old mode (place_at self.old.rows mode row) (filter (λ m. not (m.number == number)) (lane self.old mode (place_at self.old.rows mode row))) self.new }
+    {
+        match mode {
+            Mode::Read => remove_mark(&mut self.reads, row, number),
+            Mode::Write => remove_mark(&mut self.writes, row, number),
+            Mode::Whole => remove_mark(&mut self.wholes, self.rows.granule_of(row), number),
+        }
+    }
+
+    /// Takes a row out of those in use, where nothing waits to read or write it. Takes no memory.
+    fn leave_row(&mut self, row: usize)
+        ensures left { LeavesRow row self.old self.new }
+        ensures same { self.new ≡ record self.old { in_use = self.new.in_use } }
+    {
+        if !self.is_in_use(row) {
+            self.in_use.remove(row);
+        }
+    }
+
+    /// Whether something waits to read or write a row.
+    fn is_in_use(&self, row: usize) -> bool
+        ensures { IsTrue result ↔ IsInUse self.now row }
+    {
+        !is_empty(self.reads.as_slice(), row) || !is_empty(self.writes.as_slice(), row)
+    }
+
     /// Of the marks of reads and writes above a number those of neighbours of an entry.
-    fn near_in_rows(&self, alloc: Global, cell: &Cell, low: u64) -> Result<Marks, NoMemory> {
-        let row = self.rows.at(cell.row);
+    fn near_in_rows(&self, alloc: Global, cell: &Cell, low: u64) -> Result<Marks, NoMemory>
+        requires kept { AreQueuesKept self.now }
+        requires row_in { cell.now.row < length self.now.rows.names.keys }
+        ensures { IfOk result (λ marks. AreMarks (IsNearInMode self.now cell.now low) marks.items) }
+    {
+        let reads = self.reads.as_slice();
+        let writes = self.writes.as_slice();
         match cell.mode {
-            Mode::Read => only(alloc, self.rows.last_write(row, low, cell.number)),
-            Mode::Write => near_row(alloc, &self.rows, row, low, cell.number),
+            Mode::Read => near_write(alloc, writes, cell.row, low, cell.number),
+            Mode::Write => near_row(alloc, reads, writes, cell.row, low, cell.number),
             Mode::Whole => {
-                let places = self.rows.granule_of(cell.row).rows.as_slice();
-                near_rows(alloc, &self.rows, places, low, cell.number)
+                let rows = self.in_use.of_granule(self.rows.granule_of(cell.row));
+                near_rows(alloc, reads, writes, rows, low, cell.number)
             }
         }
     }
 
     /// What is known of the followers of an entry that read or write rows, below a number.
-    #[inline(always)]
-    fn next_in_rows(&self, cell: &Cell, high: u64, after: u64) -> Next {
-        let row = self.rows.at(cell.row);
+    fn next_in_rows(&self, cell: &Cell, high: u64, after: u64) -> Next
+        requires kept { AreQueuesKept self.now }
+        requires row_in { cell.now.row < length self.now.rows.names.keys }
+        ensures { IsKnownNext (IsNextInMode self.now cell.now high) after result }
+    {
+        let reads = self.reads.as_slice();
+        let writes = self.writes.as_slice();
         match cell.mode {
-            Mode::Read => Next::in_writes(&self.rows, row, cell.number, high, after),
-            Mode::Write => Next::in_row(&self.rows, row, cell.number, high, after),
+            Mode::Read => Next::in_lane(writes, cell.row, cell.number, high, after),
+            Mode::Write => Next::in_row(reads, writes, cell.row, cell.number, high, after),
             Mode::Whole => {
-                let places = self.rows.granule_of(cell.row).rows.as_slice();
-                Next::in_rows(&self.rows, places, cell.number, high, after)
+                let rows = self.in_use.of_granule(self.rows.granule_of(cell.row));
+                Next::in_rows(reads, writes, rows, cell.number, high, after)
             }
         }
     }

@@ -66,11 +66,6 @@ impl Lane {
         }
     }
 
-    /// Takes out the first mark. Takes no memory.
-    pub fn pop_first(&mut self) -> Option<Mark> {
-        self.marks.pop_front()
-    }
-
     /// Takes out the first mark, if it is of this number, and says whether it was. Takes no memory.
     fn remove_first(&mut self, number: u64) -> bool
         ensures taken { IsTrue result → self.new ≡ filter (λ m. not (m.number == number)) self.old }
@@ -115,11 +110,6 @@ impl Lane {
     pub fn last_between(&self, low: u64, high: u64) -> Option<Mark>
         ensures { IsLastBetween low high self.now result }
     {
-        // Mostly it is the last of all, as that which was just pushed stands behind them.
-        let last = *self.marks.back()?;
-        if last.number < high {
-            return if low < last.number { Some(last) } else { None };
-        }
         let place = self.below(high).checked_sub(1)?;
         let mark = *self.marks.get(place)?;
         if low < mark.number { Some(mark) } else { None }

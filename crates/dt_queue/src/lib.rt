@@ -8,15 +8,17 @@
 
 mod cell;
 mod follower;
+mod in_use;
 mod kept;
 mod lane;
+mod lanes;
 mod mark;
 mod nearest;
 mod next;
 mod numbers;
 mod queues;
-mod row;
 mod rows;
+mod spot;
 mod used;
 
 pub use follower::Follower;

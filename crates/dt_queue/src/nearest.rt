@@ -1,13 +1,18 @@
+ghost use Rattle.std.specs.Prelude.{◌≡◌, ◌++◌, [], get_or, option_to_list, IfOk, OnOk};
+ghost use Rattle.dt_lists.specs.Lists.{AnyIn, Distinct};
+ghost use Rattle.dt_queue.specs.LanesInner.{AddsMarks, AreApart, AreMarks, HasRisingNumbers, IsLastIn, IsNearInRow, number_or};
+
+use crate::lane::Lane;
+use crate::lanes::{add_between, last_between};
 use crate::mark::{Mark, Marks};
-use crate::row::Row;
-use crate::rows::Rows;
 use dt_text::NoMemory;
 use smallvec::SmallVec;
 use std::alloc::Global;
 
 /// The number of a mark, or the other one where there is no mark.
-#[inline(always)]
-pub fn number_or(mark: Option<Mark>, other: u64) -> u64 {
+pub fn number_or(mark: Option<Mark>, other: u64) -> u64
+    ensures { result ≡ number_or mark other }
+{
     match mark {
         Some(mark) => mark.number,
         None => other,
@@ -15,7 +20,9 @@ pub fn number_or(mark: Option<Mark>, other: u64) -> u64 {
 }
 
 /// Appends the mark, if there is one.
-pub fn add(mark: Option<Mark>, marks: &mut Marks) -> Result<(), NoMemory> {
+pub fn add(mark: Option<Mark>, marks: &mut Marks) -> Result<(), NoMemory>
+    ensures { OnOk result (marks.new.items ≡ marks.old.items ++ option_to_list mark) }
+{
     if let Some(mark) = mark {
         marks.push(mark)?;
     }
@@ -23,24 +30,44 @@ pub fn add(mark: Option<Mark>, marks: &mut Marks) -> Result<(), NoMemory> {
 }
 
 /// The mark, if there is one.
-pub fn only(alloc: Global, mark: Option<Mark>) -> Result<Marks, NoMemory> {
+pub fn only(alloc: Global, mark: Option<Mark>) -> Result<Marks, NoMemory>
+    ensures { IfOk result (λ marks. marks.items ≡ option_to_list mark) }
+{
     let mut marks = SmallVec::new(alloc);
     add(mark, &mut marks)?;
     Ok(marks)
 }
 
+/// Of the marks of a lane between two numbers the last one, if there is one.
+pub fn near_write(
+    alloc: Global,
+    writes: &[Lane],
+    row: usize,
+    low: u64,
+    high: u64,
+) -> Result<Marks, NoMemory>
+    requires { HasRisingNumbers (get_or writes.now row []) }
+    ensures { IfOk result (λ marks. AreMarks (IsLastIn (get_or writes.now row []) low high) marks.items) }
+{
+    only(alloc, last_between(writes, row, low, high))
+}
+
 /// Appends, of the marks of a row between two numbers, those that are nearest to an entry after them that writes the row: those
 /// that read it and after which none writes it, or, where there are none, the last one that writes it.
 pub fn add_row(
-    rows: &Rows,
-    row: &Row,
+    reads: &[Lane],
+    writes: &[Lane],
+    row: usize,
     low: u64,
     high: u64,
     marks: &mut Marks,
-) -> Result<(), NoMemory> {
-    let write = rows.last_write(row, low, high);
+) -> Result<(), NoMemory>
+    requires { AreApart reads.now writes.now }
+    ensures { OnOk result (AddsMarks (IsNearInRow (get_or reads.now row []) (get_or writes.now row []) low high) marks.old.items marks.new.items) }
+{
+    let write = last_between(writes, row, low, high);
     let had = marks.len();
-    rows.add_reads(row, number_or(write, low), high, marks)?;
+    add_between(reads, row, number_or(write, low), high, marks)?;
     if marks.len() == had {
         add(write, marks)?;
     }
@@ -50,27 +77,36 @@ pub fn add_row(
 /// The same marks of one row alone.
 pub fn near_row(
     alloc: Global,
-    rows: &Rows,
-    row: &Row,
+    reads: &[Lane],
+    writes: &[Lane],
+    row: usize,
     low: u64,
     high: u64,
-) -> Result<Marks, NoMemory> {
+) -> Result<Marks, NoMemory>
+    requires { AreApart reads.now writes.now }
+    ensures { IfOk result (λ marks. AreMarks (IsNearInRow (get_or reads.now row []) (get_or writes.now row []) low high) marks.items) }
+{
     let mut marks = SmallVec::new(alloc);
-    add_row(rows, row, low, high, &mut marks)?;
+    add_row(reads, writes, row, low, high, &mut marks)?;
     Ok(marks)
 }
 
 /// The same marks of several rows, in the order of their pushes.
 pub fn near_rows(
     alloc: Global,
-    rows: &Rows,
-    places: &[usize],
+    reads: &[Lane],
+    writes: &[Lane],
+    rows: &[usize],
     low: u64,
     high: u64,
-) -> Result<Marks, NoMemory> {
+) -> Result<Marks, NoMemory>
+    requires apart { AreApart reads.now writes.now }
+    requires once { Distinct rows.now }
+    ensures { IfOk result (λ marks. AreMarks (λ m. AnyIn (λ row. IsNearInRow (get_or reads.now row []) (get_or writes.now row []) low high m) rows.now) marks.items) }
+{
     let mut marks = SmallVec::new(alloc);
-    for place in places {
-        add_row(rows, rows.at(*place), low, high, &mut marks)?;
+    for row in rows {
+        add_row(reads, writes, *row, low, high, &mut marks)?;
     }
     marks.as_mut_slice().sort_by_key(alloc, |mark| mark.number)?;
     Ok(marks)

@@ -1,7 +1,11 @@
+ghost use Rattle.std.specs.Prelude.{◌≡◌, [], get_or, is_some, ◌||◌};
+ghost use Rattle.dt_lists.specs.Lists.{AnyIn};
+ghost use Rattle.dt_queue.specs.LanesInner.{AreApart, HasRisingNumbers, IsFirstIn, IsNextInRow, earlier, later_than};
+
+use crate::lane::Lane;
+use crate::lanes::first_between;
 use crate::mark::Mark;
 use crate::nearest::number_or;
-use crate::row::Row;
-use crate::rows::Rows;
 
 /// What is known of some entries: whether there are any, and which is the first after some number.
 #[derive(Clone, Copy)]
@@ -11,9 +15,13 @@ pub struct Next {
 }
 
 impl Next {
+    ghost use Rattle.dt_queue.specs.NextInner.{IsKnownNext};
+
     /// What is known where there is one entry at most.
-    #[inline(always)]
-    pub fn one(mark: Option<Mark>, after: u64) -> Self {
+    pub fn one(mark: Option<Mark>, after: u64) -> Self
+        ensures any { result.any ≡ is_some mark }
+        ensures first { result.first ≡ later_than after mark }
+    {
         let first = match mark {
             Some(found) if after < found.number => mark,
             _ => None,
@@ -25,50 +33,76 @@ impl Next {
     }
 
     /// What is known of entries of both kinds.
-    pub fn or(self, other: Next) -> Self {
+    pub fn or(self, other: Next) -> Self
+        ensures any { result.any ≡ (self.any || other.any) }
+        ensures first { result.first ≡ earlier self.first other.first }
+    {
         Next {
             any: self.any || other.any,
             first: earlier(self.first, other.first),
         }
     }
 
-    /// Of the marks of those that write a row between two numbers the first one, if there is one.
-    #[inline(always)]
-    pub fn in_writes(rows: &Rows, row: &Row, low: u64, high: u64, after: u64) -> Self {
-        Next::one(rows.first_write(row, low, high), after)
+    /// Of the marks of a lane between two numbers the first one, if there is one.
+    pub fn in_lane(lanes: &[Lane], place: usize, low: u64, high: u64, after: u64) -> Self
+        requires { HasRisingNumbers (get_or lanes.now place []) }
+        ensures { IsKnownNext (IsFirstIn (get_or lanes.now place []) low high) after result }
+    {
+        Next::one(first_between(lanes, place, low, high), after)
     }
 
     /// Of the marks of a row between two numbers those that are nearest to an entry before them that writes the row: those that
     /// read it and before which none writes it, or, where there are none, the first one that writes it.
-    #[inline(always)]
-    pub fn in_row(rows: &Rows, row: &Row, low: u64, high: u64, after: u64) -> Self {
-        let write = rows.first_write(row, low, high);
+    pub fn in_row(
+        reads: &[Lane],
+        writes: &[Lane],
+        row: usize,
+        low: u64,
+        high: u64,
+        after: u64,
+    ) -> Self
+        requires { AreApart reads.now writes.now }
+        ensures { IsKnownNext (IsNextInRow (get_or reads.now row []) (get_or writes.now row []) low high) after result }
+    {
+        let write = first_between(writes, row, low, high);
         let limit = number_or(write, high);
-        if rows.first_read(row, low, limit).is_none() {
+        if first_between(reads, row, low, limit).is_none() {
             return Next::one(write, after);
         }
         let start = if after < low { low } else { after };
         Next {
             any: true,
-            first: rows.first_read(row, start, limit),
+            first: first_between(reads, row, start, limit),
         }
     }
 
     /// The same of several rows.
-    pub fn in_rows(rows: &Rows, places: &[usize], low: u64, high: u64, after: u64) -> Self {
+    pub fn in_rows(
+        reads: &[Lane],
+        writes: &[Lane],
+        rows: &[usize],
+        low: u64,
+        high: u64,
+        after: u64,
+    ) -> Self
+        requires { AreApart reads.now writes.now }
+        ensures { IsKnownNext (λ m. AnyIn (λ row. IsNextInRow (get_or reads.now row []) (get_or writes.now row []) low high m) rows.now) after result }
+    {
         let mut next = Next {
             any: false,
             first: None,
         };
-        for place in places {
-            next = next.or(Next::in_row(rows, rows.at(*place), low, high, after));
+        for row in rows {
+            next = next.or(Next::in_row(reads, writes, *row, low, high, after));
         }
         next
     }
 }
 
 /// The mark with the lesser number, of those that there are.
-fn earlier(left: Option<Mark>, right: Option<Mark>) -> Option<Mark> {
+fn earlier(left: Option<Mark>, right: Option<Mark>) -> Option<Mark>
+    ensures { result ≡ earlier left right }
+{
     match (left, right) {
         (Some(one), Some(other)) => if one.number < other.number {
             left

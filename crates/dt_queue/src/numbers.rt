@@ -3,6 +3,7 @@ ghost use Rattle.dt_lists.specs.Lists.{AllIn};
 ghost use Rattle.dt_queue.specs.NumbersInner.{IsFirstFrom, IsGap, IsNumberAt, Renumbers, ShowsSame, renumbered};
 
 use crate::kept::Kept;
+use crate::lanes::renumber_mark;
 use dt_access::Mode;
 use dt_text::NoMemory;
 
@@ -90,13 +91,9 @@ impl Kept {
         ensures { ChangesLaneOf self.old mode (place_at self.old.rows mode row) (map (renumbered number new) (lane self.old mode (place_at self.old.rows mode row))) self.new }
     {
         match mode {
-            Mode::Read | Mode::Write => self.rows.renumber_mark(row, mode, number, new),
-            Mode::Whole => {
-                let granule = self.rows.at(row).granule;
-                self.rows.granules[granule as usize]
-                    .wholes
-                    .renumber(number, new);
-            }
+            Mode::Read => renumber_mark(&mut self.reads, row, number, new),
+            Mode::Write => renumber_mark(&mut self.writes, row, number, new),
+            Mode::Whole => renumber_mark(&mut self.wholes, self.rows.granule_of(row), number, new),
         }
     }
 }

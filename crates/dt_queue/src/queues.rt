@@ -67,7 +67,7 @@ impl Queues {
         ensures { IfOk result (λ found. found.items ≡ map (λ w. w.vertex) (neighbours self.now slot)) }
     {
         let marks = self.kept.near(alloc, &self.kept.cells[slot])?;
-        self.vertices(alloc, marks.as_slice())
+        vertices(alloc, marks.as_slice())
     }
 
     /// How many of the neighbours of an entry are of other vertices than this one.
@@ -77,10 +77,10 @@ impl Queues {
     {
         let cell = &self.kept.cells[slot];
         if self.kept.has_one_near(cell) {
-            return Ok(self.other(self.kept.near_one(cell), vertex));
+            return Ok(other(self.kept.near_one(cell), vertex));
         }
         let marks = self.kept.near(alloc, cell)?;
-        Ok(self.others(marks.as_slice(), vertex))
+        Ok(others(marks.as_slice(), vertex))
     }
 
     /// The first follower of the entry at a slot that was pushed after the one at another slot. So its followers are found one
@@ -98,7 +98,7 @@ impl Queues {
         let mark = self.kept.next(entry, last.number)?;
         Some(Follower {
             slot: mark.slot,
-            vertex: self.kept.cells[mark.slot].vertex,
+            vertex: mark.vertex,
         })
     }
 
@@ -109,30 +109,32 @@ impl Queues {
     {
         self.kept.remove(slot);
     }
+}
 
-    /// The vertices of marks, in order.
-    fn vertices(&self, alloc: Global, marks: &[Mark]) -> Result<Vec<u32>, NoMemory> {
-        let mut vertices = Vec::with_capacity(alloc, marks.len())?;
-        for mark in marks {
-            vertices.push(self.kept.cells[mark.slot].vertex)?;
-        }
-        Ok(vertices)
+/// The vertices of marks, in order.
+fn vertices(alloc: Global, marks: &[Mark]) -> Result<Vec<u32>, NoMemory>
+    ensures { IfOk result (λ found. found.items ≡ map (λ m. m.vertex) marks.now) }
+{
+    let mut vertices = Vec::with_capacity(alloc, marks.len())?;
+    for mark in marks {
+        vertices.push(mark.vertex)?;
     }
+    Ok(vertices)
+}
 
-    /// How many marks there are of another vertex than this one, where there is one mark at most.
-    #[inline(always)]
-    fn other(&self, mark: Option<Mark>, vertex: u32) -> usize {
-        match mark {
-            Some(mark) if self.kept.cells[mark.slot].vertex != vertex => 1,
-            _ => 0,
-        }
+/// How many marks there are of another vertex than this one, where there is one mark at most.
+fn other(mark: Option<Mark>, vertex: u32) -> usize
+    ensures { result ≡ count_by (λ m. not (m.vertex == vertex)) (option_to_list mark) }
+{
+    match mark {
+        Some(mark) => others(&[mark], vertex),
+        None => 0,
     }
+}
 
-    /// How many marks are of other vertices than this one.
-    fn others(&self, marks: &[Mark], vertex: u32) -> usize {
-        marks
-            .iter()
-            .filter(|mark| self.kept.cells[mark.slot].vertex != vertex)
-            .count()
-    }
+/// How many marks are of other vertices than this one.
+fn others(marks: &[Mark], vertex: u32) -> usize
+    ensures { result ≡ count_by (λ m. not (m.vertex == vertex)) marks.now }
+{
+    marks.iter().filter(|mark| mark.vertex != vertex).count()
 }

@@ -83,13 +83,6 @@ impl<V> ById<V> {
         Ok(())
     }
 
-    /// Makes room for n more at once, where so many are expected. Nothing that contracts see changes but that there may be more
-    /// room.
-    pub fn expect(&mut self, values: usize) -> Result<(), NoMemory> {
-        self.entries.reserve_exact(values)?;
-        Ok(())
-    }
-
     /// Sees to it that an id will be found fast once it has a value. Nothing that contracts see changes.
     pub fn prepare(&mut self, alloc: Global, id: TxnId) -> Result<(), NoMemory>
         ensures { self.new ≡ self.old }

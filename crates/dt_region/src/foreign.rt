@@ -49,11 +49,6 @@ impl Foreign {
         self.txns.get(id)
     }
 
-    /// Makes room for n at once, where so many are expected.
-    pub fn expect(&mut self, txns: usize) -> Result<(), NoMemory> {
-        self.txns.expect(txns)
-    }
-
     /// Makes room for one more, that of this id.
     pub fn reserve_for(&mut self, alloc: Global, id: TxnId) -> Result<(), NoMemory>
         ensures same { self.new.txns ≡ self.old.txns }

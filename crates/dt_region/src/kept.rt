@@ -39,12 +39,6 @@ impl Kept {
         self.events.as_slice()
     }
 
-    /// Makes room for n at once, where so many are expected.
-    pub fn expect(&mut self, events: usize) -> Result<(), NoMemory> {
-        self.events.reserve_exact(events)?;
-        Ok(())
-    }
-
     /// Makes room for n more. Nothing else changes.
     pub fn reserve(&mut self, places: usize) -> Result<(), NoMemory>
         ensures same { self.new.events ≡ self.old.events }

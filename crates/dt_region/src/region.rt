@@ -110,19 +110,6 @@ impl<S: Scheduler> Region<S> {
         })
     }
 
-    /// Makes room at once for what comes of so many calls in all regions, where so many are expected: so its lists are not moved
-    /// while they grow. Nothing that contracts see changes.
-    pub fn expect(&mut self, calls: usize) -> Result<(), NoMemory> {
-        self.events.expect(calls * 4)?;
-        self.done.expect(calls + calls / 8)?;
-        self.foreign.expect(calls)?;
-        self.submitted.reserve_exact(calls / 2)?;
-        for log in self.logs.iter_mut() {
-            log.expect(calls)?;
-        }
-        Ok(())
-    }
-
     /// Its number. Takes no memory.
     pub fn number(&self) -> u8
         ensures number { result ≡ self.now.state.number }
@@ -396,9 +383,10 @@ impl<S: Scheduler> Region<S> {
         let stamp = self.next_stamp();
         let region = self.number;
         let place = self.inserted(home);
-        let Some(part) = self.logs[home as usize].get(place) else {
+        let Some(part) = self.log(home).get(place) else {
             return Ok(false);
         };
+        let part = part.copy(alloc)?;
         self.events.reserve(self.room + 1)?;
         self.scheduler.insert(alloc, part)?;
         self.inserted[home as usize] = place + 1;

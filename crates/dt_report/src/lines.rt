@@ -3,38 +3,20 @@ ghost use Rattle.dt_report.specs.Report.{ran_line, reply_line, row_line};
 
 use crate::report::{Ran, Reply};
 use crate::words::{put_outcome, put_value_word, put_word};
-use dt_access::{TxnId, put_id};
+use dt_access::put_id;
 use dt_events::put_number;
 use dt_table::Shown;
-use dt_text::{Name, NoMemory};
-use dt_txn::Outcome;
+use dt_text::NoMemory;
 use std::alloc::Global;
 
 /// Appends the line of a reply.
 pub fn put_reply(alloc: Global, out: &mut Vec<u8>, reply: &Reply) -> Result<(), NoMemory>
     ensures { OnOk result (out.new.items ≡ out.old.items ++ reply_line reply.now) }
 {
-    put_reply_to(
-        alloc,
-        out,
-        &reply.session,
-        reply.call,
-        &reply.outcome,
-    )
-}
-
-/// Appends the line of a reply of these.
-pub fn put_reply_to(
-    alloc: Global,
-    out: &mut Vec<u8>,
-    session: &Name,
-    call: u32,
-    outcome: &Outcome,
-) -> Result<(), NoMemory> {
     out.extend_from_slice(b"reply")?;
-    put_word(out, session.bytes())?;
-    put_number(alloc, out, u64::from(call))?;
-    put_outcome(alloc, out, outcome)?;
+    put_word(out, reply.session.bytes())?;
+    put_number(alloc, out, u64::from(reply.call))?;
+    put_outcome(alloc, out, &reply.outcome)?;
     out.push(b'\n')?;
     Ok(())
 }
@@ -43,32 +25,11 @@ pub fn put_reply_to(
 pub fn put_ran(alloc: Global, out: &mut Vec<u8>, ran: &Ran) -> Result<(), NoMemory>
     ensures { OnOk result (out.new.items ≡ out.old.items ++ ran_line ran.now) }
 {
-    put_ran_of(
-        alloc,
-        out,
-        ran.id,
-        &ran.session,
-        ran.call,
-        ran.attempt,
-        &ran.outcome,
-    )
-}
-
-/// Appends the line of an executed attempt of these.
-pub fn put_ran_of(
-    alloc: Global,
-    out: &mut Vec<u8>,
-    id: TxnId,
-    session: &Name,
-    call: u32,
-    attempt: u32,
-    outcome: &Outcome,
-) -> Result<(), NoMemory> {
-    put_id(alloc, out, id)?;
-    put_word(out, session.bytes())?;
-    put_number(alloc, out, u64::from(call))?;
-    put_number(alloc, out, u64::from(attempt))?;
-    put_outcome(alloc, out, outcome)?;
+    put_id(alloc, out, ran.id)?;
+    put_word(out, ran.session.bytes())?;
+    put_number(alloc, out, u64::from(ran.call))?;
+    put_number(alloc, out, u64::from(ran.attempt))?;
+    put_outcome(alloc, out, &ran.outcome)?;
     out.push(b'\n')?;
     Ok(())
 }

@@ -18,7 +18,7 @@ use std::collections::BTreeMap;
 use std::marker::Model;
 
 /// An attempt that a session waits for.
-#[derive(Clone, Copy, Debug, PartialEq, Eq)]
+#[derive(Clone, Copy)]
 pub struct Waiting {
     pub id: TxnId,
     /// The number of the attempt in its call, from 1.
@@ -69,7 +69,9 @@ impl Sessions {
     {
         let sessions = workload.sessions.as_slice();
         let mut seats = BTreeMap::new(alloc);
-        for session in sessions.iter().rev() {
+        // From the last one to the first.
+        for behind in 0..sessions.len() {
+            let session = &sessions[sessions.len() - 1 - behind];
             if session.region == region {
                 let seat = Seat {
                     calls: session.calls.copy(alloc)?,
@@ -91,12 +93,6 @@ impl Sessions {
         ensures sound { AreSoundSeats self.now.seats }
     {
         self.seats.get(session)
-    }
-
-    /// The place, from 0, in byte order of names, of the session of this name, if it is here.
-    pub fn place_of(&self, session: &Name) -> Option<u32> {
-        let place = self.seats.get_index_of(session)?;
-        Some(place as u32)
     }
 
     /// The session at this place, from 0, in byte order of names, if one stands there.

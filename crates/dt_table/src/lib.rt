@@ -11,7 +11,6 @@ mod opening;
 mod rows;
 mod shown;
 mod stored;
-mod stored_set;
 mod table;
 mod units;
 

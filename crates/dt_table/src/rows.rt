@@ -12,31 +12,11 @@ ghost use Rattle.dt_access.specs.Orders.{HasDistinctKeys};
 ghost use Rattle.dt_table.specs.RowsInner.{first_values, unchanged_keys};
 ghost use Rattle.dt_table.specs.StoredUnitInner.{has_value, keys_with_value};
 
-use dt_text::{Key, NoMemory, Sign, Value};
+use dt_text::{Key, NoMemory, Value};
 use indexmap::IndexMap;
 use std::alloc::Global;
+use std::marker::Model;
 use std::sync::Arc;
-
-/// How many of the opening's rows have a place at hand in each table.
-const NEAR: usize = 65_536;
-
-/// What a table has of a key that has changed: its value or none, and where its unit was last found among those that are stored.
-#[derive(Drop)]
-pub struct Changed {
-    /// The sign of the key.
-    sign: Sign,
-    /// Whether it has changed at all.
-    is_changed: bool,
-    unit: u32,
-    value: Option<Value>,
-}
-
-/// What a table has of a key: what has changed of it, or else its value in the opening, if it has one.
-#[derive(Clone, Copy)]
-enum Found<'a> {
-    Changed(&'a Changed),
-    Opening(Option<&'a Value>),
-}
 
 /// The values of keys in a table.
 ///
@@ -45,179 +25,81 @@ enum Found<'a> {
 #[derive(Drop)]
 pub struct Rows {
     opening: Arc<IndexMap<Key, Value>>,
-    /// What has changed of the first rows of the opening, by their places there.
-    near: Vec<Changed>,
-    /// What has changed of all other keys.
-    others: IndexMap<Key, Changed>,
+    changed: IndexMap<Key, Option<Value>>,
+}
+
+impl Model for Rows {
+    ghost use Rattle.dt_table.specs.RowsInner.{RowsView};
+    ghost use Rattle.dt_table.specs.TableCode.{rows_view_code};
+
+    ghost Value = { RowsView };
+
+    ghost coded = { rows_view_code };
+
+    ghost use Rattle.indexmap.specs.IndexMap.{spare};
+    ghost use Rattle.dt_table.specs.RowsInner.{layered};
+
+    ghost view = { λ r. record { entries = layered r.changed.entries r.opening.value.entries; spare = spare r.changed } };
 }
 
 impl Rows {
     /// These rows, unchanged.
-    pub fn of(alloc: Global, rows: &Arc<IndexMap<Key, Value>>) -> Result<Self, NoMemory> {
-        let count = rows.len().min(NEAR);
-        let mut near = Vec::with_capacity(alloc, count)?;
-        for _place in 0..count {
-            near.push(Changed {
-                sign: Sign::NONE,
-                is_changed: false,
-                unit: 0,
-                value: None,
-            })?;
-        }
+    pub fn of(alloc: Global, rows: &Arc<IndexMap<Key, Value>>) -> Result<Self, NoMemory>
+        ensures { IfOk result (λ made. made.entries ≡ first_values rows.now.value.entries) }
+    {
         Ok(Rows {
             opening: Arc::try_clone(rows)?,
-            near,
-            others: IndexMap::new(alloc),
+            changed: IndexMap::new(alloc),
         })
     }
 
-    /// What there is of a key. Its hint is one more than its place in the opening, if it has a hint; where what is at this place has
-    /// its sign, it is found at once.
-    #[inline(always)]
-    fn find(&self, key: &Key) -> Found<'_> {
-        if let Some(place) = (key.hint() as usize).checked_sub(1) {
-            if let Some(row) = self.near.get(place) {
-                if key.has_sign(&row.sign) {
-                    return Found::Changed(row);
-                }
-            }
-        }
-        self.look_up(key)
-    }
-
-    #[inline(never)]
-    fn look_up(&self, key: &Key) -> Found<'_> {
-        let Some(place) = self.place_of(key) else {
-            return match self.others.get(key) {
-                Some(row) => Found::Changed(row),
-                None => Found::Opening(None),
-            };
-        };
-        let changed = match self.near.get(place) {
-            Some(row) if row.is_changed => Some(row),
-            Some(_) => None,
-            None => self.others.get(key),
-        };
-        match (changed, self.opening.get_index(place)) {
-            (Some(row), _) => Found::Changed(row),
-            (None, Some((_, value))) => Found::Opening(Some(value)),
-            (None, None) => Found::Opening(None),
-        }
-    }
-
-    /// The place of a key in the opening, if it is there.
-    #[inline(always)]
-    fn place_of(&self, key: &Key) -> Option<usize> {
-        if let Some(place) = (key.hint() as usize).checked_sub(1) {
-            if let Some((known, _)) = self.opening.get_index(place) {
-                if *known == *key {
-                    return Some(place);
-                }
-            }
-        }
-        self.opening.get_index_of(key)
-    }
-
     /// The value of a key. None exactly where it has none.
-    pub fn get(&self, key: &Key) -> Option<&Value> {
-        self.value_and_unit(key).0
-    }
-
-    /// The value of a key, and where its unit was last found.
-    #[inline(always)]
-    pub fn value_and_unit(&self, key: &Key) -> (Option<&Value>, usize) {
-        match self.find(key) {
-            Found::Changed(row) => (row.value.as_ref(), row.unit as usize),
-            Found::Opening(value) => (value, 0),
-        }
-    }
-
-    /// Where the unit of a key was last found.
-    #[inline(always)]
-    pub fn unit_place(&self, key: &Key) -> usize {
-        self.value_and_unit(key).1
-    }
-
-    /// The key with its hint, if it is in the opening.
-    pub fn hinted(&self, key: Key) -> Key
-        ensures { result ≡ key }
+    pub fn get(&self, key: &Key) -> Option<&Value>
+        ensures { option_copied result ≡ unwrap_or (lookup (same_key key.now) self.now.entries) None }
     {
-        let Some(place) = self.opening.get_index_of(&key) else {
-            return key;
-        };
-        match u32::try_from(place + 1) {
-            Ok(hint) => key.with_hint(hint),
-            Err(_) => key,
+        match self.changed.get(key) {
+            Some(value) => value.as_ref(),
+            None => self.opening.get(key),
         }
     }
 
     /// Whether a key has a value.
-    pub fn has_value(&self, key: &Key) -> bool {
+    pub fn has_value(&self, key: &Key) -> bool
+        ensures { result ≡ has_value self.now.entries key.now }
+    {
         self.get(key).is_some()
     }
 
     /// Makes room for n keys. Nothing else changes, whatever the answer.
-    pub fn reserve(&mut self, places: usize) -> Result<(), NoMemory> {
-        self.others.reserve(places)?;
+    pub fn reserve(&mut self, places: usize) -> Result<(), NoMemory>
+        ensures entries { self.new.entries ≡ self.old.entries }
+        ensures room { OnOk result (places ≤ self.new.spare) }
+        ensures spare { self.old.spare ≤ self.new.spare }
+        ensures succeeds { places ≤ self.old.spare → IsOk result }
+    {
+        self.changed.reserve(places)?;
         Ok(())
     }
 
-    /// Gives a key its value or none, which takes no memory where there is room. Its unit stands at this place, if it is stored.
-    pub fn put(&mut self, key: Key, value: Option<Value>, unit: usize) {
-        let unit = match u32::try_from(unit) {
-            Ok(unit) => unit,
-            Err(_) => 0,
-        };
-        if let Some(place) = (key.hint() as usize).checked_sub(1) {
-            if let Some(row) = self.near.get_mut(place) {
-                if key.has_sign(&row.sign) {
-                    row.value = value;
-                    row.unit = unit;
-                    return;
-                }
-            }
-        }
-        self.change(key, value, unit);
-    }
-
-    /// Gives a key its value or none, where it is not found at once.
-    #[inline(never)]
-    fn change(&mut self, key: Key, value: Option<Value>, unit: u32) {
-        let row = Changed {
-            sign: key.sign(),
-            is_changed: true,
-            unit,
-            value,
-        };
-        if let Some(place) = self.place_of(&key) {
-            if place < self.near.len() {
-                self.near[place] = row;
-                return;
-            }
-        }
-        match self.others.insert(key, row) {
+    /// Gives a key its value or none, which takes no memory where there is room.
+    pub fn put(&mut self, key: Key, value: Option<Value>)
+        requires { 0 < self.old.spare }
+        ensures entries { from_entries {R = slice_cmp nat_cmp} self.new.entries ≡ insert (from_entries self.old.entries) key value }
+        ensures room { self.old.spare ≤ self.new.spare + 1 }
+    {
+        match self.changed.insert(key, value) {
             Ok(_) => (),
             Err(_) => unreachable!(),
         }
     }
 
     /// The keys that have a value.
-    pub fn keys_with_value(&self, alloc: Global) -> Result<Vec<Key>, NoMemory> {
-        let mut keys = Vec::new(alloc);
-        for (place, (key, _)) in self.opening.iter().enumerate() {
-            let has_value = match self.near.get(place) {
-                Some(row) => !row.is_changed || row.value.is_some(),
-                None => self.others.get(key).is_none(),
-            };
-            if has_value {
-                keys.push(key.copy(alloc)?)?;
-            }
-        }
-        for (key, row) in &self.others {
-            if row.value.is_some() {
-                keys.push(key.copy(alloc)?)?;
-            }
-        }
+    pub fn keys_with_value(&self, alloc: Global) -> Result<Vec<Key>, NoMemory>
+        ensures keys { IfOk result (λ keys. keys.items ≡ keys_with_value self.now.entries) }
+        ensures once { OnOk result (IsDistinct same_key (keys_of self.now.entries)) }
+    {
+        let mut keys = changed_keys(alloc, &self.changed)?;
+        add_unchanged(alloc, &mut keys, &self.opening, &self.changed)?;
         Ok(keys)
     }
 }
@@ -235,4 +117,43 @@ pub fn opening_values(
         opened.insert(key.copy(alloc)?, value.copy(alloc)?)?;
     }
     Ok(opened)
+}
+
+/// The keys that have a value of those that changed.
+fn changed_keys(alloc: Global, changed: &IndexMap<Key, Option<Value>>) -> Result<Vec<Key>, NoMemory>
+    ensures keys { IfOk result (λ keys. keys.items ≡ keys_with_value changed.now.entries) }
+    ensures once { OnOk result (IsDistinct same_key (keys_of changed.now.entries)) }
+{
+    let mut keys = Vec::new(alloc);
+    for (key, value) in changed {
+        if value.is_some() {
+            keys.push(key.copy(alloc)?)?;
+        }
+    }
+    Ok(keys)
+}
+
+/// Adds the keys of the opening that have not changed.
+fn add_unchanged(
+    alloc: Global,
+    keys: &mut Vec<Key>,
+    opening: &IndexMap<Key, Value>,
+    changed: &IndexMap<Key, Option<Value>>,
+) -> Result<(), NoMemory>
+    ensures keys { OnOk result (keys.new.items ≡ keys.old.items ++ unchanged_keys changed.now.entries opening.now.entries) }
+    ensures once { OnOk result (IsDistinct same_key (keys_of opening.now.entries)) }
+{
+    for (key, _) in opening {
+        if !has_changed(changed, key) {
+            keys.push(key.copy(alloc)?)?;
+        }
+    }
+    Ok(())
+}
+
+/// Whether a key has changed.
+fn has_changed(changed: &IndexMap<Key, Option<Value>>, key: &Key) -> bool
+    ensures { result ≡ is_some (lookup (same_key key.now) changed.now.entries) }
+{
+    changed.get(key).is_some()
 }

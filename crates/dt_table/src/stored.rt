@@ -2,13 +2,10 @@ ghost use Rattle.std.specs.Prelude.{◌≡◌, length, option_map, slice_get};
 ghost use Rattle.dt_table.specs.StoredMovesInner.{history, mover_in, IsBelow, AreLinked};
 
 use dt_access::TxnId;
-use dt_text::Sign;
 
 /// A unit as a table keeps it.
 #[derive(Clone, Copy)]
 pub struct StoredUnit {
-    /// The sign of its name.
-    pub name: Sign,
     /// The target of the last move, or the opening home.
     pub home: u8,
     /// How many moves the unit has.

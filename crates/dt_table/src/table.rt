@@ -11,7 +11,6 @@ use crate::opening::Opening;
 use crate::rows::Rows;
 use crate::shown::{Shown, ShownList, add_moved_units};
 use crate::stored::{StoredMove, StoredUnit, mover_of, next_mover_of};
-use crate::stored_set::Stored;
 use crate::units::{put_unit, stored_or_fresh, stored_unit};
 use dt_access::{TxnId, unit_bytes};
 use dt_text::{Key, NoMemory, Value};
@@ -49,8 +48,6 @@ pub struct Table {
     homes: Homes,
     values: Rows,
     units: IndexMap<Vec<u8>, StoredUnit>,
-    /// Which units may be stored.
-    stored: Stored,
     moves: Vec<StoredMove>,
 }
 
@@ -100,7 +97,6 @@ impl Table {
             homes: first.homes.share()?,
             values: Rows::of(alloc, &first.rows)?,
             units: IndexMap::new(alloc),
-            stored: Stored::none(),
             moves: Vec::new(alloc),
         })
     }
@@ -125,7 +121,7 @@ impl Table {
         ensures counter { result.counter ≡ counter_of self.now.state key.now }
     {
         let unit = unit_bytes(self.version, key);
-        match self.unit_of(key, unit) {
+        match stored_unit(&self.units, unit) {
             Some(stored) => Mastership {
                 home: stored.home,
                 counter: stored.counter,
@@ -143,7 +139,7 @@ impl Table {
         ensures some { IsSome result ↔ ((0 < number) × (number ≤ counter_of self.now.state key.now)) }
         ensures few { counter_of self.now.state key.now < 2 ^ 32 }
     {
-        let stored = self.unit_of(key, unit_bytes(self.version, key))?;
+        let stored = stored_unit(&self.units, unit_bytes(self.version, key))?;
         mover_of(&self.moves, stored, number)
     }
 
@@ -153,8 +149,8 @@ impl Table {
         ensures counter { result.counter ≡ counter_of self.now.state key.now }
         ensures mover { result.mover ≡ next_mover self.now.state key.now had }
     {
-        let (value, place) = self.values.value_and_unit(key);
-        match self.unit_at(place, unit_bytes(self.version, key)) {
+        let value = self.get(key);
+        match stored_unit(&self.units, unit_bytes(self.version, key)) {
             Some(stored) => TableRow {
                 value,
                 counter: stored.counter,
@@ -180,53 +176,6 @@ impl Table {
         self.units.reserve(places)?;
         self.moves.reserve(places)?;
         Ok(())
-    }
-
-    // The stored unit of this name, if it is stored: maybe at this place.
-    #[inline(always)]
-    fn unit_at(&self, place: usize, unit: &[u8]) -> Option<&StoredUnit> {
-        if !self.stored.may_have(unit) {
-            return None;
-        }
-        if let Some((_, stored)) = self.units.get_index(place) {
-            if stored.name.is_of(unit) {
-                return Some(stored);
-            }
-        }
-        stored_unit(&self.units, unit)
-    }
-
-    // The stored unit of a key, if it is stored.
-    fn unit_of(&self, key: &Key, unit: &[u8]) -> Option<&StoredUnit> {
-        if !self.stored.may_have(unit) {
-            return None;
-        }
-        self.unit_at(self.values.unit_place(key), unit)
-    }
-
-    // The place of the unit of a key among those that are stored, or another one.
-    fn unit_place(&self, key: &Key) -> usize {
-        let unit = unit_bytes(self.version, key);
-        if !self.stored.may_have(unit) {
-            return 0;
-        }
-        let place = self.values.unit_place(key);
-        if let Some((_, stored)) = self.units.get_index(place) {
-            if stored.name.is_of(unit) {
-                return place;
-            }
-        }
-        match self.units.get_index_of(unit) {
-            Some(place) => place,
-            None => 0,
-        }
-    }
-
-    /// The same key, with a hint by which what is kept of it is found soon.
-    pub fn hinted(&self, key: Key) -> Key
-        ensures { result ≡ key }
-    {
-        self.values.hinted(key)
     }
 
     /// Makes the changes of a transaction. Takes no memory. All other keys and units stay as they were. What it moves is
@@ -293,8 +242,7 @@ impl Table {
         ensures state { self.new.state ≡ written self.old.state key value }
         ensures spare { self.old.spare ≤ self.new.spare + 1 }
     {
-        let unit = self.unit_place(&key);
-        self.values.put(key, value, unit);
+        self.values.put(key, value);
     }
 
     // Moves a unit.
@@ -309,12 +257,10 @@ impl Table {
         let bytes = unit.into_bytes();
         let before = stored_or_fresh(&self.units, bytes.as_slice(), target);
         let stored = StoredUnit {
-            name: before.name,
             home: target,
             counter: before.counter + 1,
             last: Some(self.moves.len()),
         };
-        self.stored.note(bytes.as_slice());
         put_unit(&mut self.units, bytes, stored);
         let added = StoredMove {
             target,

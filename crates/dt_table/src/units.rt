@@ -9,7 +9,7 @@ ghost use Rattle.dt_table.specs.Table.{opening_home as opening_home_of};
 ghost use Rattle.dt_table.specs.StoredUnitInner.{by_bytes, stored_of};
 
 use crate::stored::StoredUnit;
-use dt_text::{Key, NoMemory, Sign};
+use dt_text::{Key, NoMemory};
 use indexmap::IndexMap;
 use std::alloc::Global;
 
@@ -69,7 +69,6 @@ pub fn stored_or_fresh(units: &IndexMap<Vec<u8>, StoredUnit>, unit: &[u8], home:
     match stored_unit(units, unit) {
         Some(stored) => *stored,
         None => StoredUnit {
-            name: Sign::of(unit),
             home,
             counter: 0,
             last: None,

@@ -1,32 +1,19 @@
-ghost use Rattle.std.specs.Prelude.{refl, nat_eq};
-ghost use Rattle.std.specs.Ordering.{nat_cmp};
-ghost use Rattle.std.specs.Cmp.{partial_equiv_from_equiv};
-ghost use Rattle.std.specs.Cmp.Lexicographic.{pointwise, slice_cmp, nat_list_eq_equiv, nat_list_cmp_total, texts_ties, texts_po, bytes_decides};
-ghost use Rattle.std.specs.Hash as fed;
-ghost use Rattle.std.proofs.Common.{ap};
 ghost use Rattle.std.specs.Prelude.{◌≡◌, ◌↔◌, ◌<◌, ◌≤◌, ◌^◌, ℕ, [], List, length, IfOk, IsTrue, Some};
 ghost use Rattle.dt_text.specs.Texts.{IsKey, is_key_byte, first_outside};
 
 use crate::bytes::is_key_byte;
 use crate::errors::KeyError;
 use crate::no_memory::NoMemory;
-use crate::sign::Sign;
 use crate::spelling::Spelling;
 use std::alloc::Global;
-use std::cmp::Ordering;
-use std::hash::{Hash, Hasher};
 use std::marker::Model;
 
 /// The name of a row: 1 to 128 bytes out of `a-z`, `0-9`, `/`, `_`, `.` and `-`.
 ///
 /// Contracts see its bytes. Keys are ordered by their bytes, a proper prefix being less.
-///
-/// A key may have a hint besides: a number that is mostly its own among the keys of a cluster, so that what is kept of a key is
-/// found where the hint says, if it is there. Copies have it too; it says nothing else, and contracts do not see it.
-#[derive(Debug, Drop)]
+#[derive(Debug, PartialEq, Eq, PartialOrd, Ord, Hash, Drop)]
 pub struct Key {
     spelling: Spelling,
-    hint: u32,
 }
 
 impl Model for Key {
@@ -34,7 +21,7 @@ impl Model for Key {
 
     ghost view = { λ k. k.spelling };
 
-    ghost inverse = { λ bytes. record { spelling = bytes; hint = 0 } };
+    ghost inverse = { λ bytes. record { spelling = bytes } };
 
     ghost invariant = { λ k. IsKey k.spelling };
 }
@@ -67,7 +54,6 @@ impl Key {
             Some(place) => Err(KeyError::BadByte(place as u32)),
             None => Ok(Key {
                 spelling: Spelling::of(alloc, bytes)?,
-                hint: 0,
             }),
         }
     }
@@ -87,7 +73,6 @@ impl Key {
     {
         Ok(Key {
             spelling: Spelling::of(alloc, bytes)?,
-            hint: 0,
         })
     }
 
@@ -99,101 +84,14 @@ impl Key {
         self.spelling.bytes()
     }
 
-    /// Its hint, or 0 where it has none.
-    #[inline(always)]
-    pub fn hint(&self) -> u32 {
-        self.hint
-    }
-
-    /// The same key with this hint.
-    #[inline(always)]
-    pub fn with_hint(self, hint: u32) -> Self
-        ensures { result ≡ self }
-    {
-        let Key { spelling, .. } = self;
-        Key { spelling, hint }
-    }
-
-    /// Its sign.
-    #[inline(always)]
-    pub fn sign(&self) -> Sign {
-        match &self.spelling {
-            Spelling::Short { len, bytes } => Sign {
-                len: *len,
-                bytes: *bytes,
-            },
-            Spelling::Long(_) => Sign::NONE,
-        }
-    }
-
-    /// Whether this is its sign, and no other key has it.
-    #[inline(always)]
-    pub fn has_sign(&self, sign: &Sign) -> bool {
-        match &self.spelling {
-            Spelling::Short { len, bytes } => sign.has(*len, bytes),
-            Spelling::Long(_) => false,
-        }
-    }
-
     /// A key with the same bytes.
-    #[inline(always)]
-    pub fn copy(&self, _alloc: Global) -> Result<Self, NoMemory>
+    pub fn copy(&self, alloc: Global) -> Result<Self, NoMemory>
         ensures same { IfOk result (λ key. key ≡ self.now) }
         ensures key { IsKey self.now }
     {
         Ok(Key {
-            spelling: self.spelling.copy()?,
-            hint: self.hint,
+            spelling: self.spelling.copy(alloc)?,
         })
-    }
-}
-
-impl PartialEq for Key {
-    ghost eq = { pointwise nat_eq };
-
-    ghost laws = { partial_equiv_from_equiv nat_list_eq_equiv };
-
-    #[inline(always)]
-    fn eq(&self, other: &Self) -> bool {
-        self.spelling == other.spelling
-    }
-}
-
-impl Eq for Key {
-    ghost laws = { nat_list_eq_equiv };
-}
-
-impl PartialOrd for Key {
-    ghost partial_cmp = { λ a b. Some (slice_cmp nat_cmp a b) };
-
-    ghost laws = { texts_po };
-
-    fn partial_cmp(&self, other: &Self) -> Option<Ordering> {
-        Some(self.cmp(other))
-    }
-}
-
-impl Ord for Key {
-    ghost cmp = { slice_cmp nat_cmp };
-
-    ghost total = { nat_list_cmp_total };
-
-    ghost matches_partial_cmp = { λ a b. refl };
-
-    ghost matches_eq = { texts_ties };
-
-    fn cmp(&self, other: &Self) -> Ordering {
-        self.spelling.cmp(&other.spelling)
-    }
-}
-
-impl Hash for Key {
-    ghost hash_input = { fed.str };
-
-    ghost respects_eq = { λ a b e. ap fed.str ((bytes_decides a b).0 e) };
-
-    fn hash<H: Hasher>(&self, state: &mut H) {
-        self.spelling.hash(state);
     }
 }
 

@@ -1,7 +1,6 @@
 ghost use Rattle.std.specs.Prelude.{◌≡◌, ◌+◌, ◌<◌, ◌^◌, ◌==◌, List, [], ◌∷◌, length, position, MatchOption};
 ghost use Rattle.dt_text.specs.Lines.{FileLine, cut_lines, is_skipped, kept_lines, lines_of};
 
-use memchr::memchr;
 use std::marker::Model;
 
 /// A line of a file.
@@ -80,7 +79,7 @@ fn split_line(bytes: &[u8]) -> (&[u8], &[u8])
 fn line_end(bytes: &[u8]) -> Option<usize>
     ensures { result ≡ position (λ b. b == 10) bytes.now }
 {
-    memchr(b'\n', bytes)
+    bytes.iter().position(|byte| *byte == b'\n')
 }
 
 /// Whether a line has nothing but spaces, or `#` first after them.

@@ -9,7 +9,6 @@ use crate::listed::Listed;
 use crate::no_memory::NoMemory;
 use crate::spelling::Spelling;
 use crate::text::Str;
-use smallvec::SmallVec;
 use std::alloc::Global;
 
 /// A word of a line.
@@ -35,7 +34,6 @@ pub fn words(alloc: Global, line: &[u8]) -> Result<Option<Words>, NoMemory>
     ensures within { IfOk result (λ words. IfSome words (All (IsWordIn line.now))) }
 {
     let mut found = Listed::new(alloc);
-    found.reserve(6)?;
     let mut at = gap_end(line, 0);
     while at < line.len() {
         let Some((word, end)) = read_word(alloc, line, at)? else {
@@ -117,16 +115,13 @@ pub fn is_visible(byte: u8) -> bool
     matches!(byte, b'!'..=b'~')
 }
 
-/// The bytes of a text while it is read. Those of a short one take no memory.
-type Built = SmallVec<u8, 32>;
-
 /// Reads the text word that begins with the `"` at `at`, with the place after it.
 fn read_text(alloc: Global, line: &[u8], at: usize) -> Result<Option<(Word, usize)>, NoMemory>
     requires inside { at < length line.now }
     requires quote { slice_index line.now at ≡ 34 }
     ensures { IfOk result (WordAt line.now at) }
 {
-    let mut text = Built::new(alloc);
+    let mut text = Spelling::empty(alloc);
     let mut end = at + 1;
     while end < line.len() {
         if line[end] == b'"' {
@@ -135,7 +130,7 @@ fn read_text(alloc: Global, line: &[u8], at: usize) -> Result<Option<(Word, usiz
         let Some((byte, next)) = read_item(line, end) else {
             return Ok(None);
         };
-        if text.len() >= Str::LONGEST {
+        if text.bytes().len() >= Str::LONGEST {
             return Ok(None);
         }
         text.push(byte)?;
@@ -148,7 +143,7 @@ fn read_text(alloc: Global, line: &[u8], at: usize) -> Result<Option<(Word, usiz
 fn ended_text(
     alloc: Global,
     line: &[u8],
-    text: Built,
+    text: Spelling,
     end: usize,
 ) -> Result<Option<(Word, usize)>, NoMemory>
     requires text { IsStr text }
@@ -158,7 +153,7 @@ fn ended_text(
     if !may_end(line, end) {
         return Ok(None);
     }
-    Ok(Some((Word::Text(Str::spelled(alloc, Spelling::of(alloc, text.as_slice())?)?), end)))
+    Ok(Some((Word::Text(Str::spelled(alloc, text)?), end)))
 }
 
 /// Whether a word may end before `end`: at the line's end, or before a space.

@@ -1,26 +1,15 @@
 ghost use Rattle.std.specs.Prelude.{◌≡◌, [], ◌∷◌, ◌++◌, IfOk, OnOk, OnErr};
 ghost use Rattle.dt_txn.specs.Accesses.{AreAscendingAccesses};
 
-use dt_access::Access;
+use dt_access::{Access, Shared};
 use dt_text::NoMemory;
 use std::alloc::Global;
 use std::marker::Model;
-use std::slice::from_ref;
 
-/// The rows that a transaction uses, in ascending order of their keys' bytes; so no key stands twice. One or two, as most
-/// transactions have, lie in the list itself.
+/// The rows that a transaction uses, in ascending order of their keys' bytes; so no key stands twice.
 #[derive(Debug, Drop)]
 pub struct Accesses {
-    alloc: Global,
-    items: Items,
-}
-
-/// The items of a list.
-#[derive(Debug, Drop)]
-enum Items {
-    One(Access),
-    Two([Access; 2]),
-    Many(Vec<Access>),
+    items: Shared<Access>,
 }
 
 impl Model for Accesses {
@@ -37,64 +26,47 @@ impl Model for Accesses {
 
 impl Accesses {
     /// The empty list. Takes no memory.
-    pub fn new(alloc: Global) -> Self {
+    pub fn new(alloc: Global) -> Self
+        ensures { result ≡ [] }
+    {
         Accesses {
-            alloc,
-            items: Items::Many(Vec::new(alloc)),
+            items: Shared::new(alloc),
         }
     }
 
     /// The rows of a vector, whose keys stand in order there.
-    pub fn from_vec(alloc: Global, items: Vec<Access>) -> Result<Self, NoMemory> {
+    pub fn from_vec(alloc: Global, items: Vec<Access>) -> Result<Self, NoMemory>
+        requires { AreAscendingAccesses items.items }
+        ensures { IfOk result (λ accesses. accesses ≡ items.items) }
+    {
         Ok(Accesses {
-            alloc,
-            items: items_of(items),
+            items: Shared::from_vec(alloc, items)?,
         })
     }
 
     /// Adds a row whose key is greater than all held ones; after `NoMemory` the list is as before.
-    pub fn push(&mut self, access: Access) -> Result<(), NoMemory> {
-        let mut items = Vec::with_capacity(self.alloc, self.as_slice().len() + 1)?;
-        for item in self.as_slice() {
-            items.push(item.copy(self.alloc)?)?;
-        }
-        items.push(access)?;
-        self.items = items_of(items);
-        Ok(())
+    pub fn push(&mut self, access: Access) -> Result<(), NoMemory>
+        requires { AreAscendingAccesses (self.old ++ access ∷ []) }
+        ensures added { OnOk result (self.new ≡ self.old ++ access ∷ []) }
+        ensures same { OnErr result (self.new ≡ self.old) }
+    {
+        self.items.push(access)
     }
 
     /// The rows, in order. Takes no memory.
-    #[inline(always)]
-    pub fn as_slice(&self) -> &[Access] {
-        match &self.items {
-            Items::One(only) => from_ref(only),
-            Items::Two(two) => &two[..],
-            Items::Many(many) => many.as_slice(),
-        }
+    pub fn as_slice(&self) -> &[Access]
+        ensures same { result.now ≡ self.now }
+        ensures ascending { AreAscendingAccesses self.now }
+    {
+        self.items.as_slice()
     }
 
-    /// An equal list.
-    pub fn copy(&self, alloc: Global) -> Result<Self, NoMemory> {
-        let mut items = Vec::with_capacity(alloc, self.as_slice().len())?;
-        for item in self.as_slice() {
-            items.push(item.copy(alloc)?)?;
-        }
-        Accesses::from_vec(alloc, items)
+    /// An equal list. Takes no memory.
+    pub fn copy(&self, alloc: Global) -> Result<Self, NoMemory>
+        ensures { IfOk result (λ copied. copied ≡ self.now) }
+    {
+        Ok(Accesses {
+            items: self.items.copy(alloc)?,
+        })
     }
-}
-
-/// The items of a vector.
-fn items_of(mut items: Vec<Access>) -> Items {
-    if items.len() == 2 {
-        if let Some(second) = items.pop() {
-            if let Some(first) = items.pop() {
-                return Items::Two([first, second]);
-            }
-        }
-    } else if items.len() == 1 {
-        if let Some(only) = items.pop() {
-            return Items::One(only);
-        }
-    }
-    Items::Many(items)
 }

@@ -16,39 +16,14 @@ type HomeSet = SmallVec<u8, 8>;
 pub fn homes(alloc: Global, txn: &Txn) -> Result<Homes, NoMemory>
     ensures { IfOk result (λ homes. homes ≡ homes_of txn.now) }
 {
-    let access = txn.access.as_slice();
-    if let Some(few) = few_homes(alloc, &txn.body, access) {
-        return few;
-    }
     let mut homes = targets(alloc, &txn.body)?;
+    let access = txn.access.as_slice();
     let mut place = access.len();
     while place > 0 {
         place -= 1;
         add_home(&mut homes, access[place].home)?;
     }
     Homes::from_slice(alloc, homes.as_slice())
-}
-
-/// The homes of a call with one or two keys.
-#[inline(always)]
-fn few_homes(alloc: Global, body: &Body, access: &[Access]) -> Option<Result<Homes, NoMemory>> {
-    match (body, access) {
-        (Body::Call(_, _), [only]) => Some(Homes::from_slice(alloc, &[only.home])),
-        (Body::Call(_, _), [one, other]) => Some(two_homes(alloc, one.home, other.home)),
-        _ => None,
-    }
-}
-
-/// Two homes, which may be the same.
-#[inline(always)]
-fn two_homes(alloc: Global, one: u8, other: u8) -> Result<Homes, NoMemory> {
-    if one == other {
-        Homes::from_slice(alloc, &[one])
-    } else if one < other {
-        Homes::from_slice(alloc, &[one, other])
-    } else {
-        Homes::from_slice(alloc, &[other, one])
-    }
 }
 
 /// Where a move leads, if the body is one.
@@ -99,12 +74,6 @@ fn keys_at(alloc: Global, body: &Body, home: u8, access: &[Access]) -> Result<Ke
     ensures { IfOk result (λ keys. keys ≡ map used_of (entries_at body.now home access.now)) }
 {
     let is_move = matches!(body, Body::Move(_, _));
-    if let Some(entry) = only_entry(is_move, home, access) {
-        return Ok(Keys::one(
-            alloc,
-            (entry.key.copy(alloc)?, entry.mode),
-        ));
-    }
     let mut keys = Vec::with_capacity(alloc, access.len())?;
     for entry in access {
         if is_move || entry.home == home {
@@ -112,17 +81,6 @@ fn keys_at(alloc: Global, body: &Body, home: u8, access: &[Access]) -> Result<Ke
         }
     }
     Keys::from_vec(alloc, keys)
-}
-
-/// The only entry at a home, where that is seen at once.
-#[inline(always)]
-fn only_entry(is_move: bool, home: u8, access: &[Access]) -> Option<&Access> {
-    match access {
-        [only] if is_move || only.home == home => Some(only),
-        [one, other] if !is_move && one.home == home && other.home != home => Some(one),
-        [one, other] if !is_move && one.home != home && other.home == home => Some(other),
-        _ => None,
-    }
 }
 
 /// The part of a transaction at a home.

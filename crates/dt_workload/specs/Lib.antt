@@ -3,4 +3,3 @@ pub mod Lines
 pub mod ReaderInner
 pub mod Valid
 pub mod Laws
-pub mod CauseTexts

@@ -186,14 +186,14 @@ fn arguments(alloc: Global, line: &[u8], rest: &[Word]) -> Result<Option<Args>, 
         ((args : List AnyValue) → AllIn IsArgument args → map (said line.now) rest.now ≢ map argument_word args)
         (λ args. AllIn IsArgument args × (map (said line.now) rest.now ≡ map argument_word args))) }
 {
-    let mut args = Vec::with_capacity(alloc, rest.len())?;
+    let mut args = Args::new(alloc);
     for word in rest {
         match argument(alloc, line, word)? {
             Some(value) => args.push(value)?,
             None => return Ok(None),
         }
     }
-    Ok(Some(Args::from_vec(alloc, args)?))
+    Ok(Some(args))
 }
 
 /// The argument that a word says.

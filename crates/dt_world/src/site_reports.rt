@@ -19,14 +19,13 @@ ghost use Rattle.dt_world.specs.ReportSourceInner.{LedTo, world_told};
 ghost use Rattle.dt_world.specs.SitesAfter.{AreSitesAfter};
 ghost use Rattle.dt_world.specs.WorldReport.{report_of, replies_of, rans_of};
 
-use crate::marks::Marks;
 use crate::session_replay::SessionReplay;
 use dt_access::TxnId;
 use dt_cluster::Cluster;
 use dt_events::Event;
 use dt_report::{
     EventList, Ran, Rans, Replies, Reply, Report, Tables, begin_order, begin_text,
-    events_are_written, put_all_shown, put_events, put_ran_of, put_reply_to, ran_is_printable,
+    events_are_written, put_all_shown, put_events, put_ran, put_reply, ran_is_printable,
     reply_is_printable,
 };
 use dt_sched::Scheduler;
@@ -37,7 +36,6 @@ use dt_workload::Workload;
 use indexmap::IndexSet;
 use std::alloc::Global;
 use std::marker::Model;
-use std::mem::forget;
 
 /// Events, and the sites of all regions, each as it is after these, with the cluster and the workload.
 #[derive(Drop)]
@@ -106,8 +104,7 @@ pub fn text_of_sites<S: Scheduler + Drop>(
     let mut text = begin_text(alloc, events.len())?;
     put_replies_and_order(alloc, &mut text, &cluster, &workload, &*sites, &*events)?;
     drop(cluster);
-    // The program ends soon, and then gives back all memory at once.
-    forget(workload);
+    drop(workload);
     let tables = tables_lent(alloc, sites)?;
     put_all_shown(alloc, &mut text, tables.as_slice())?;
     put_events(alloc, &mut text, &*events)?;
@@ -202,7 +199,7 @@ impl<'a, 'b, S: Scheduler + Drop> ReportSource<'a, 'b, S> {
         ensures printable { OnOk result (AllIn IsPrintableRan (rans_of self.now.cluster self.now.workload self.now.events)) }
     {
         begin_order(out)?;
-        let mut seen = Marks::new(alloc);
+        let mut seen = IndexSet::new(alloc);
         self.put_rans(alloc, out, &mut seen)
     }
 
@@ -211,7 +208,7 @@ impl<'a, 'b, S: Scheduler + Drop> ReportSource<'a, 'b, S> {
         &self,
         alloc: Global,
         out: &mut Vec<u8>,
-        seen: &mut Marks,
+        seen: &mut IndexSet<TxnId>,
     ) -> Result<(), NoMemory>
         requires led { LedTo self.now }
         requires seen { seen.old.keys ≡ [] }
@@ -219,41 +216,11 @@ impl<'a, 'b, S: Scheduler + Drop> ReportSource<'a, 'b, S> {
         ensures printable { OnOk result (AllIn IsPrintableRan (rans_of self.now.cluster self.now.workload self.now.events)) }
     {
         for at in 0..self.events.len() {
-            self.put_noted(alloc, out, seen, self.events, at)?;
+            if let Some(ran) = self.note(alloc, seen, self.events, at)? {
+                put_ran(alloc, out, &ran)?;
+            }
         }
         Ok(())
-    }
-
-    /// Appends the line of the attempt that an event executes, if it is the first to do so, which is noted.
-    #[inline(always)]
-    fn put_noted(
-        &self,
-        alloc: Global,
-        out: &mut Vec<u8>,
-        seen: &mut Marks,
-        events: &[Event],
-        at: usize,
-    ) -> Result<(), NoMemory> {
-        let Event::Execute { region, id } = &events[at] else {
-            return Ok(());
-        };
-        if !seen.mark(*id)? {
-            return Ok(());
-        }
-        let executing = self.sites[*region as usize];
-        let Some(outcome) = executing.region.outcome(*id) else {
-            unreachable!()
-        };
-        let origin = self.sites[id.region as usize].origin(id.seq);
-        put_ran_of(
-            alloc,
-            out,
-            *id,
-            &origin.session,
-            origin.call,
-            origin.attempt,
-            outcome,
-        )
     }
 
     /// The attempt that an event executes, if it is the first to do so, which is noted.
@@ -392,43 +359,11 @@ impl<'a, 'b, S: Scheduler + Drop> ReportSource<'a, 'b, S> {
         ensures lines { OnOk result ((start : List ℕ) → out.old.items ≡ start ++ flat_map reply_line (replies_at self.now at)
             → out.new.items ≡ start ++ flat_map reply_line (replies_at self.now (at + 1))) }
     {
-        match &events[at] {
-            Event::Submit { region, session } => {
-                let Some(place) = self.find(names, *region, session) else {
-                    unreachable!()
-                };
-                replay.submit(place, *region);
-                Ok(())
-            }
-            Event::Answer { region, session } => {
-                let Some(place) = self.find(names, *region, session) else {
-                    unreachable!()
-                };
-                let Some(id) = replay.waits(place) else {
-                    unreachable!()
-                };
-                replay.answer(place);
-                self.put_reply(alloc, out, *region, session, id)
-            }
-            _ => Ok(()),
-        }
-    }
-
-    /// Appends the line of the reply to a session of a region that waited for this attempt.
-    fn put_reply(
-        &self,
-        alloc: Global,
-        out: &mut Vec<u8>,
-        region: u8,
-        session: &Name,
-        id: TxnId,
-    ) -> Result<(), NoMemory> {
-        let site = self.sites[region as usize];
-        let Some(outcome) = site.region.outcome(id) else {
-            unreachable!()
+        let Some(reply) = self.follow(alloc, names, replay, events, at)? else {
+            return Ok(());
         };
-        let call = site.origin(id.seq).call;
-        put_reply_to(alloc, out, session, call, outcome)
+        put_reply(alloc, out, &reply)?;
+        Ok(())
     }
 
     /// Follows what an event does to sessions. The reply that it gives, if it is an answer.

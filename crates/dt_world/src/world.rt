@@ -28,13 +28,12 @@ use dt_region::Region;
 use dt_report::Report;
 use dt_sched::Scheduler;
 use dt_session::Sessions;
-use dt_site::{Origin, Site, first_site, last_outcome_at, opening_of};
+use dt_site::{Origin, Site, first_site, last_outcome, opening_of};
 use dt_text::{Name, NoMemory};
 use dt_txn::{Body, Entry};
 use dt_workload::Workload;
 use std::alloc::Global;
 use std::marker::Model;
-use std::mem::forget;
 
 /// Why an event was not made.
 #[derive(Clone, Copy, Debug, PartialEq, Eq)]
@@ -101,17 +100,9 @@ impl<S: Scheduler + Drop> World<S> {
         requires workload { IsValidWorkload cluster workload }
         ensures { IfOk result (λ world. world ≡ opening_view cluster workload) }
     {
-        let mut sites: Vec<Site<S>> = sites(alloc, &cluster)?;
-        let mut calls = 0;
-        for session in workload.sessions.as_slice() {
-            calls += session.calls.len();
-        }
-        for site in sites.iter_mut() {
-            site.region.expect(calls)?;
-        }
         Ok(World {
             sessions: sessions(alloc, &cluster, &workload)?,
-            sites,
+            sites: sites(alloc, &cluster)?,
             cluster,
             workload,
             steps: 0,
@@ -170,10 +161,7 @@ impl<S: Scheduler + Drop> World<S> {
         if region >= self.cluster.regions {
             return Err(StepError::Illegal(1));
         }
-        let Some(place) = self.sessions[region as usize].place_of(name) else {
-            return Err(StepError::Illegal(1));
-        };
-        let Some((origin, rank, body)) = self.next_attempt(alloc, region, name, place)? else {
+        let Some((origin, rank, body)) = self.next_attempt(alloc, region, name)? else {
             return Err(StepError::Illegal(1));
         };
         let id = self.sites[region as usize].submit(
@@ -183,12 +171,12 @@ impl<S: Scheduler + Drop> World<S> {
             &self.cluster.procs,
             origin,
         )?;
-        let last = last_outcome_at(
+        let last = last_outcome(
             &self.sessions[region as usize],
             &self.sites[region as usize].region,
-            place,
+            name,
         );
-        self.sessions[region as usize].wait_at(place, id, last);
+        self.sessions[region as usize].wait(name, id, last);
         self.steps += 1;
         Ok(())
     }
@@ -305,19 +293,16 @@ impl<S: Scheduler + Drop> World<S> {
         if region >= self.cluster.regions {
             return Err(StepError::Illegal(7));
         }
-        let Some(place) = self.sessions[region as usize].place_of(name) else {
-            return Err(StepError::Illegal(7));
-        };
-        if !self.may_answer(region, place) {
+        if !self.may_answer(region, name) {
             return Err(StepError::Illegal(7));
         }
         self.sites[region as usize].region.answer(alloc, name)?;
-        let last = last_outcome_at(
+        let last = last_outcome(
             &self.sessions[region as usize],
             &self.sites[region as usize].region,
-            place,
+            name,
         );
-        self.sessions[region as usize].answer_at(place, last);
+        self.sessions[region as usize].answer(name, last);
         self.steps += 1;
         Ok(())
     }
@@ -328,17 +313,16 @@ impl<S: Scheduler + Drop> World<S> {
         alloc: Global,
         region: u8,
         name: &Name,
-        place: u32,
     ) -> Result<Option<(Origin, u8, Body)>, NoMemory>
         requires { region < self.now.cluster.regions }
         ensures { IfOk result (IsNextOf self.now region name.now) }
     {
         let sessions = &self.sessions[region as usize];
-        let last = last_outcome_at(sessions, &self.sites[region as usize].region, place);
-        let Some((call, attempt)) = sessions.next_at(place, last) else {
+        let last = last_outcome(sessions, &self.sites[region as usize].region, name);
+        let Some((call, attempt)) = sessions.next(name, last) else {
             return Ok(None);
         };
-        let (rank, body) = sessions.body_at(alloc, place, call)?;
+        let (rank, body) = sessions.body(alloc, name, call)?;
         let origin = Origin {
             session: name.copy(alloc)?,
             call,
@@ -348,11 +332,13 @@ impl<S: Scheduler + Drop> World<S> {
     }
 
     /// Whether a session of a region may be answered.
-    fn may_answer(&self, region: u8, place: u32) -> bool
+    fn may_answer(&self, region: u8, name: &Name) -> bool
+        requires { region < self.now.cluster.regions }
+        ensures { IsTrue result ↔ MayBeTold self.now region name.now }
     {
         let sessions = &self.sessions[region as usize];
-        let last = last_outcome_at(sessions, &self.sites[region as usize].region, place);
-        sessions.may_answer_at(place, last)
+        let last = last_outcome(sessions, &self.sites[region as usize].region, name);
+        sessions.may_answer(name, last)
     }
 
     /// The report of the events that led to this world, from its opening on.
@@ -407,7 +393,7 @@ impl<S: Scheduler + Drop> World<S> {
             sites,
             ..
         } = self;
-        forget(sessions);
+        drop(sessions);
         let lent = each_lent(alloc, sites.as_slice())?;
         let text = text_of_sites(alloc, cluster, workload, lent.as_slice(), events)?;
         drop(lent);
