@@ -4,3 +4,4 @@ pub mod ReaderInner
 pub mod Laws
 pub mod Numbers
 pub mod Rows
+pub mod CauseTexts

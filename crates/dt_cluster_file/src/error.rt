@@ -104,22 +104,33 @@ pub enum ClusterCause {
     TooMany,
 }
 
+impl ClusterCause {
+    ghost use Rattle.dt_cluster_file.specs.CauseTexts.{cluster_text};
+
+    /// The cause in words. Takes no memory.
+    pub fn text(self) -> &'static str
+        ensures { result.now ≡ cluster_text self }
+    {
+        match self {
+            ClusterCause::TooLong => "too long",
+            ClusterCause::NotToml => "no toml",
+            ClusterCause::Unknown => "unknown entry",
+            ClusterCause::Missing => "missing",
+            ClusterCause::Kind => "wrong kind",
+            ClusterCause::Range => "out of range",
+            ClusterCause::BadKey => "no key",
+            ClusterCause::BadText => "no text",
+            ClusterCause::Syntax => "syntax",
+            ClusterCause::UnknownName => "unknown name",
+            ClusterCause::Twice => "name used twice",
+            ClusterCause::TooMany => "too many",
+        }
+    }
+}
+
 impl fmt::Display for ClusterCause {
     fn fmt<W: fmt::Write>(&self, f: &mut fmt::Formatter<W>) -> fmt::Result {
-        match self {
-            ClusterCause::TooLong => write!(f, "too long"),
-            ClusterCause::NotToml => write!(f, "no toml"),
-            ClusterCause::Unknown => write!(f, "unknown entry"),
-            ClusterCause::Missing => write!(f, "missing"),
-            ClusterCause::Kind => write!(f, "wrong kind"),
-            ClusterCause::Range => write!(f, "out of range"),
-            ClusterCause::BadKey => write!(f, "no key"),
-            ClusterCause::BadText => write!(f, "no text"),
-            ClusterCause::Syntax => write!(f, "syntax"),
-            ClusterCause::UnknownName => write!(f, "unknown name"),
-            ClusterCause::Twice => write!(f, "name used twice"),
-            ClusterCause::TooMany => write!(f, "too many"),
-        }
+        f.write_str(self.text())
     }
 }
 

@@ -1,12 +1,14 @@
 -- Fault lines, as their pieces are written.
-use Rattle.std.proofs.Common.{◌≡◌, ℕ, ◌+◌, ◌<◌, List, [], ◌∷◌, ◌++◌, length, take, set, get_or, map, ap, sym, ◌∙◌, append_assoc, append-nil, codes}
+use Rattle.std.proofs.Common.{◌≡◌, ℕ, ◌+◌, ◌<◌, List, [], ◌∷◌, ◌++◌, length, take, set, get_or, map, ap, ap₂, sym, ◌∙◌, append_assoc, append-nil, codes}
 use Rattle.std.proofs.lemmas.List.{map-append, take_more, take_more_set}
 use Rattle.std.specs.Fmt.{decimal}
 use Rattle.dt_access.specs.Clash.{Bytes}
 use Rattle.dt_cluster_file.specs.declared.ClusterFault.{ClusterFault}
 use Rattle.dt_workload.specs.declared.WorkloadCause.{WorkloadCause}
-use Rattle.dt_command.specs.LineCode.{cluster_end, events_end, workload_end}
-use Rattle.dt_command.specs.Statuses.{cause_text, cluster_text, fault_line, place_text, workload_text}
+use Rattle.dt_cluster_file.specs.CauseTexts.{cluster_text}
+use Rattle.dt_workload.specs.CauseTexts.{workload_text}
+use Rattle.dt_command.specs.LineCode.{events_end}
+use Rattle.dt_command.specs.Statuses.{cause_text, fault_line, place_text}
 use Rattle.dt_command.specs.declared.status.Status.TheVariants.{CannotRead, BadCluster, BadWorkload, BadEvents}
 use Rattle.dt_command.specs.declared.status.EventsCause.{EventsCause}
 use Rattle.dt_command.specs.declared.status.EventsCause.TheVariants.{Rule}
@@ -27,16 +29,18 @@ pub rule_end : (digits : Bytes) (n : ℕ) → digits ≡ decimal n → codes ": 
 rule_end digits n is = ap (λ number. codes ": rule " ++ (number ++ (10 ∷ []))) is
 
 -- the line of a fault in a cluster's file
-pub cluster_line : (fault : ClusterFault) → (codes "detock: cluster" ++ place_text fault.place) ++ cluster_end fault.cause ≡ fault_line (BadCluster fault)
-cluster_line fault =
-    ap (λ rest. codes "detock: cluster" ++ rest) (sym (append_assoc (place_text fault.place ++ codes ": ") (cluster_text fault.cause) (10 ∷ [])
+pub cluster_line : (text : Bytes) (fault : ClusterFault) → text ≡ cluster_text fault.cause
+    → (codes "detock: cluster" ++ place_text fault.place) ++ (codes ": " ++ (text ++ (10 ∷ []))) ≡ fault_line (BadCluster fault)
+cluster_line text fault is =
+    ap (λ words. (codes "detock: cluster" ++ place_text fault.place) ++ (codes ": " ++ (words ++ (10 ∷ [])))) is
+    ∙ ap (λ rest. codes "detock: cluster" ++ rest) (sym (append_assoc (place_text fault.place ++ codes ": ") (cluster_text fault.cause) (10 ∷ [])
     ∙ append_assoc (place_text fault.place) (codes ": ") (cluster_text fault.cause ++ 10 ∷ [])))
 
 -- the line of a fault in a workload's file
-pub workload_line : (number : Bytes) (line : ℕ) (cause : WorkloadCause) → number ≡ decimal line
-    → (codes "detock: workload line " ++ (number ++ [])) ++ workload_end cause ≡ fault_line (BadWorkload line cause)
-workload_line number line cause is =
-    ap (λ digits. (codes "detock: workload line " ++ digits) ++ workload_end cause) (append-nil number ∙ is)
+pub workload_line : (number text : Bytes) (line : ℕ) (cause : WorkloadCause) → number ≡ decimal line → text ≡ workload_text cause
+    → codes "detock: workload line " ++ (number ++ (codes ": " ++ (text ++ (10 ∷ [])))) ≡ fault_line (BadWorkload line cause)
+workload_line number text line cause is said =
+    ap₂ (λ digits words. codes "detock: workload line " ++ (digits ++ (codes ": " ++ (words ++ (10 ∷ []))))) is said
     ∙ ap (λ rest. codes "detock: workload line " ++ rest)
     (sym (append_assoc (decimal line ++ codes ": ") (workload_text cause) (10 ∷ []) ∙ append_assoc (decimal line) (codes ": ") (workload_text cause ++ 10 ∷ [])))
 

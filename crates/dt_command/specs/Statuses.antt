@@ -1,8 +1,9 @@
 -- What the program ends with: its exit numbers and fault lines.
 --
--- A caller learns how a call ended by a number, and a person by one line, whose text is fixed here to the byte. A byte of
--- a name that is not a visible ASCII character is printed as `?`, so that a line is one line on every terminal. This is
--- the last of the files here. Read next: src/top.rt, the call that promises all this.
+-- A caller learns how a call ended by a number, and a person by one line, whose text is fixed to the byte: here, and for
+-- what is wrong with the file of a cluster or a workload in `CauseTexts` of that reader's crate. A byte of a name that is
+-- not a visible ASCII character is printed as `?`, so that a line is one line on every terminal. This is the last of the
+-- files here. Read next: src/top.rt, the call that promises all this.
 use Rattle.std.specs.Prelude.{Option, Some, None, ℕ, [], ◌∷◌, ◌++◌, codes, map, ◌&&◌, nat_le, if◌then◌else◌}
 use Rattle.std.specs.Fmt.{decimal}
 use Rattle.std.specs.declared.io.ErrorKind.{ErrorKind}
@@ -10,10 +11,8 @@ use Rattle.std.specs.declared.io.ErrorKind.TheVariants.{OutOfMemory, InvalidData
 use Rattle.dt_access.specs.Clash.{Bytes}
 use Rattle.dt_cluster_file.specs.declared.ClusterPlace.{ClusterPlace}
 use Rattle.dt_cluster_file.specs.declared.error.ClusterPlace.TheVariants as place
-use Rattle.dt_cluster_file.specs.declared.ClusterCause.{ClusterCause}
-use Rattle.dt_cluster_file.specs.declared.error.ClusterCause.TheVariants as cluster
-use Rattle.dt_workload.specs.declared.WorkloadCause.{WorkloadCause}
-use Rattle.dt_workload.specs.declared.error.WorkloadCause.TheVariants as workload
+use Rattle.dt_cluster_file.specs.CauseTexts.{cluster_text}
+use Rattle.dt_workload.specs.CauseTexts.{workload_text}
 use Rattle.dt_command.specs.declared.status.Status.{Status}
 use Rattle.dt_command.specs.declared.status.Status.TheVariants.{Done, NoMemory, BadWords, CannotRead, BadCluster, BadWorkload, BadEvents, CannotWrite}
 use Rattle.dt_command.specs.declared.status.EventsCause.{EventsCause}
@@ -52,34 +51,6 @@ place_text (place.Entry name) = codes " " ++ map visible_byte name
 place_text (place.Home name) = codes " homes." ++ map visible_byte name
 place_text (place.Row name) = codes " rows." ++ map visible_byte name
 place_text (place.Procs at) = codes " procs byte " ++ decimal at
-
--- what is wrong with a cluster file, in words
-abbrev pub cluster_text : ClusterCause → Bytes
-cluster_text cluster.TooLong = codes "too long"
-cluster_text cluster.NotToml = codes "no toml"
-cluster_text cluster.Unknown = codes "unknown entry"
-cluster_text cluster.Missing = codes "missing"
-cluster_text cluster.Kind = codes "wrong kind"
-cluster_text cluster.Range = codes "out of range"
-cluster_text cluster.BadKey = codes "no key"
-cluster_text cluster.BadText = codes "no text"
-cluster_text cluster.Syntax = codes "syntax"
-cluster_text cluster.UnknownName = codes "unknown name"
-cluster_text cluster.Twice = codes "name used twice"
-cluster_text cluster.TooMany = codes "too many"
-
--- what is wrong with a workload file, in words
-abbrev pub workload_text : WorkloadCause → Bytes
-workload_text workload.TooLong = codes "too long"
-workload_text workload.Form = codes "no line of a workload"
-workload_text workload.Name = codes "no name"
-workload_text workload.Twice = codes "name used twice"
-workload_text workload.Region = codes "no region"
-workload_text workload.TooMany = codes "too many"
-workload_text workload.NoSession = codes "no session"
-workload_text workload.Proc = codes "unknown procedure"
-workload_text workload.Args = codes "wrong arguments"
-workload_text workload.Key = codes "no key"
 
 -- what is wrong with a file of events, in words
 abbrev pub cause_text : EventsCause → Bytes

@@ -2,11 +2,11 @@ ghost use Rattle.std.specs.Prelude.{◌≡◌, ◌≤◌, ◌++◌, codes, map, 
 ghost use Rattle.std.specs.List.{flat_map};
 ghost use Rattle.dt_outside.specs.Sink.{Writes};
 ghost use Rattle.dt_command.specs.Answers.{IsTold};
-ghost use Rattle.dt_command.specs.LineCode.{cluster_end, events_end, workload_end};
+ghost use Rattle.dt_command.specs.LineCode.{events_end};
 ghost use Rattle.dt_command.specs.Statuses.{fault_line, place_text, visible_byte};
 
 use crate::status::{EventsCause, Status};
-use dt_cluster_file::{ClusterCause, ClusterFault, ClusterPlace};
+use dt_cluster_file::{ClusterFault, ClusterPlace};
 use dt_outside::{Failed, Sink, write_all};
 use dt_workload::WorkloadCause;
 use itoa::Buffer;
@@ -59,7 +59,7 @@ fn put_bad_cluster<E: Sink>(fault: &ClusterFault, err: &mut E) -> Result<(), Fai
     ensures { Writes (E.seen err.old) (E.seen err.new) (fault_line (Status.BadCluster fault.now)) result }
 {
     put_front(&fault.place, err)?;
-    write_all(err, cluster_end(fault.cause))
+    write_pieces(err, &[b": ", fault.cause.text().as_bytes(), b"\n"])
 }
 
 /// Writes that a cluster's file is at fault, and where.
@@ -95,52 +95,17 @@ fn put_named<E: Sink>(front: &[u8], name: &[u8], err: &mut E) -> Result<(), Fail
     write_name(err, name)
 }
 
-/// The end of the line of a fault in a cluster's file: what is wrong there.
-fn cluster_end(cause: ClusterCause) -> &'static [u8]
-    ensures { result.now ≡ cluster_end cause }
-{
-    match cause {
-        ClusterCause::TooLong => b": too long\n",
-        ClusterCause::NotToml => b": no toml\n",
-        ClusterCause::Unknown => b": unknown entry\n",
-        ClusterCause::Missing => b": missing\n",
-        ClusterCause::Kind => b": wrong kind\n",
-        ClusterCause::Range => b": out of range\n",
-        ClusterCause::BadKey => b": no key\n",
-        ClusterCause::BadText => b": no text\n",
-        ClusterCause::Syntax => b": syntax\n",
-        ClusterCause::UnknownName => b": unknown name\n",
-        ClusterCause::Twice => b": name used twice\n",
-        ClusterCause::TooMany => b": too many\n",
-    }
-}
-
 /// Writes the line of a fault in a workload's file.
 fn put_bad_workload<E: Sink>(line: u32, cause: WorkloadCause, err: &mut E) -> Result<(), Failed>
     ensures { Writes (E.seen err.old) (E.seen err.new) (fault_line (Status.BadWorkload line cause)) result }
 {
     let mut number = Buffer::new();
     let number = number.format(line).as_bytes();
-    write_pieces(err, &[b"detock: workload line ", number])?;
-    write_all(err, workload_end(cause))
-}
-
-/// The end of the line of a fault in a workload's file: what is wrong there.
-fn workload_end(cause: WorkloadCause) -> &'static [u8]
-    ensures { result.now ≡ workload_end cause }
-{
-    match cause {
-        WorkloadCause::TooLong => b": too long\n",
-        WorkloadCause::Form => b": no line of a workload\n",
-        WorkloadCause::Name => b": no name\n",
-        WorkloadCause::Twice => b": name used twice\n",
-        WorkloadCause::Region => b": no region\n",
-        WorkloadCause::TooMany => b": too many\n",
-        WorkloadCause::NoSession => b": no session\n",
-        WorkloadCause::Proc => b": unknown procedure\n",
-        WorkloadCause::Args => b": wrong arguments\n",
-        WorkloadCause::Key => b": no key\n",
-    }
+    let text = cause.text().as_bytes();
+    write_pieces(
+        err,
+        &[b"detock: workload line ", number, b": ", text, b"\n"],
+    )
 }
 
 /// Writes the line of a fault in a file of events.

@@ -19,8 +19,8 @@ const SESSIONS_AT_A_REGION: u32 = 16;
 
 /// The generated load of n calls: its cluster and its workload.
 ///
-/// 64 sessions at four regions make the calls in turn. Each transfers an amount of 1 to 50 between two of 100 accounts, but the
-/// last of every 50 calls moves an account to a region.
+/// 64 sessions at four regions make the calls in turn. Each transfers an amount of 1 to 50 from one of 100 accounts to one of
+/// them, which may be the same, but the last of every 50 calls moves an account to a region.
 pub fn generate(alloc: Global, calls: u32) -> Result<(Cluster, Workload), NoMemory>
     requires some { 1 ≤ calls }
     requires few { calls ≤ 20000 }

@@ -14,7 +14,7 @@ pub trait Gate: Sync {
 }
 
 /// The gate that lets everyone pass.
-#[derive(Drop)]
+#[derive(Clone, Copy, Debug)]
 pub struct NoGate;
 
 impl Gate for NoGate {

@@ -102,7 +102,7 @@ impl<S: Scheduler, N: Named> Held<S, N> {
         self.region.inserted(home) < self.region.log(home).len()
     }
 
-    // More steps than a round can have: each inserts a part of some log, resolves a class of such or executes one.
+    // A round has no more steps than these: each inserts a part of some log, resolves a class of such or executes one.
     pub(crate) fn most_steps(&self) -> u64 {
         let mut parts: u64 = 0;
         for home in 0..self.region.regions() {

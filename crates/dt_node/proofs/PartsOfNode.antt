@@ -52,31 +52,35 @@ no_name_at seats index lt none =
 pub same_own : (a : NodeView) (r : RegionView) → r ≡ a.site.region → IsPlacingOwn a (record a { site = in_region a.site r })
 same_own a r is = subst (λ (x : RegionView). IsPlacingOwn a (record a { site = in_region a.site x })) (sym is) (placing_none a)
 
--- a session was answered
-module _ (a : NodeView) (name : Bytes) {last : Option Outcome} (told : last ≡ last_at a name) (can : MayBeAnswered a.sessions name last) (r : RegionView)
-    (is : r ≡ with_event a.site.region a.site.region.state (Answer (number_of a) name)) {again : Option Outcome} (told_again : again ≡ option_and_then (outcome_of r.state) (waits_of a.sessions name))
-    (s : SessionsView) (answered : MayBeAnswered a.sessions name again → s ≡ after_answer a.sessions name) where
-  may : MayAnswerAt a name
-  may = subst (MayBeAnswered a.sessions name) told can
+-- a session was answered, as it might be
+pub record WasAnswered (a : NodeView) (name : Bytes) (r : RegionView) (s : SessionsView) : Type 0 where
+  pub may : MayAnswerAt a name
+  pub is : r ≡ with_event a.site.region a.site.region.state (Answer (number_of a) name)
+  pub then_is : s ≡ after_answer a.sessions name
 
-  then_is : s ≡ after_answer a.sessions name
-  then_is = answered (may_still a name may r is again told_again)
+pub was_answered : (a : NodeView) (name : Bytes) {last : Option Outcome} → last ≡ last_at a name → MayBeAnswered a.sessions name last
+    → (r : RegionView) → r ≡ with_event a.site.region a.site.region.state (Answer (number_of a) name) → {again : Option Outcome} → again ≡ option_and_then (outcome_of r.state) (waits_of a.sessions name)
+    → (s : SessionsView) → (MayBeAnswered a.sessions name again → s ≡ after_answer a.sessions name) → WasAnswered a name r s
+was_answered a name told can r is {again} told_again s answered =
+    let might : MayAnswerAt a name = subst (MayBeAnswered a.sessions name) told can in
+    record { may = might; is = is; then_is = answered (may_still a name might r is again told_again) }
 
+module _ {a : NodeView} {name : Bytes} {r : RegionView} {s : SessionsView} (answered : WasAnswered a name r s) where
   pub call_moves : (procs : List ProcTree) → MovesOn procs [] a (record a { site = in_region a.site r; sessions = s })
-  call_moves procs = answered_moves a name may r is s then_is procs
+  call_moves procs = answered_moves a name answered.may r answered.is s answered.then_is procs
 
   pub call_seats : length s.seats ≡ length a.sessions.seats
-  call_seats = seats_as_many answered_seat name a.sessions s then_is
+  call_seats = seats_as_many answered_seat name a.sessions s answered.then_is
 
   pub call_on : HasGoneOn a (record a { site = in_region a.site r; sessions = s })
-  call_on = answered_on a name may r is s then_is
+  call_on = answered_on a name answered.may r answered.is s answered.then_is
 
   pub call_step : IsAnswering a name (record a { site = in_region a.site r; sessions = s })
   call_step = record {
-    may = may;
-    step = λ procs. record { gone = (call_moves procs).gone; made = ap events_of (new_are a (record a { site = in_region a.site r; sessions = s }) (ap (λ (x : RegionView). x.events) is)) };
-    sessions = then_is;
-    done = ap (λ (x : RegionView). x.state.here.done) is;
+    may = answered.may;
+    step = λ procs. record { gone = (call_moves procs).gone; made = ap events_of (new_are a (record a { site = in_region a.site r; sessions = s }) (ap (λ (x : RegionView). x.events) answered.is)) };
+    sessions = answered.then_is;
+    done = ap (λ (x : RegionView). x.state.here.done) answered.is;
   }
 
 -- the next of the requests that the region asked of itself

@@ -7,7 +7,7 @@ use dt_gen::kept_answers;
 use dt_sched::Scheduler;
 
 /// How far all nodes have come.
-#[derive(Clone, Copy)]
+#[derive(Clone, Copy, Debug, PartialEq, Eq)]
 pub struct Counts {
     /// How many phases were made.
     pub made: u64,

@@ -1,10 +1,10 @@
 //! All nodes of a cluster at once: they run in phases over links that lose packets, until every call is answered.
 //!
-//! In a phase every node makes one turn. A run has helpers for them, threads that are kept over all its phases (`turns.rt`). A node
-//! knows nothing of what the others do meanwhile: what it sends waits on a link, and becomes known between two phases, when the
-//! ends of each link are brought beside each other (`links.rt`). [`run`] makes phases until all is done; there is a bound on
-//! their number, for every loss plan of a cluster (at most every second packet is lost): `specs/Silence`, and the laws of
-//! `end_laws.rt`.
+//! In a phase every node makes one turn (`turns.rt`). A run has helpers for them, threads that are kept over all its phases
+//! (`to_end.rt`). A node knows nothing of what the others do meanwhile: what it sends waits on a link, and becomes known between
+//! two phases, when the ends of each link are brought beside each other (`links.rt`). [`run`] makes phases until all is done;
+//! there is a bound on their number, for every loss plan of a cluster (at most every second packet is lost): `specs/Silence`,
+//! and the laws of `end_laws.rt`.
 //!
 //! Nobody has the events of all regions as one list while they are made. In the end they are put in the order of their stamps
 //! (`merge.rt`): this list is legal, and it leads to the world in which all nodes are, by the laws of `dt_merge`. So whatever

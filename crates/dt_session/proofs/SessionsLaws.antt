@@ -1,6 +1,6 @@
 -- The sessions of a region, gathered from a workload and found by their names.
 use Rattle.std.proofs.Common.{◌≡◌, ◌≢◌, ◌⊎◌, ◌<◌, ◌≤◌, ◌+◌, ◌-◌, ◌==◌, ℕ, zero, suc, Bool, true, false, cond, eq-eqb, eqb, eqb-true, List, [], ◌∷◌}
-use Rattle.std.proofs.Common.{length, map, get_or, drop, slice_get, ◌++◌, Some, None, refl, sym, ap, subst, ◌∙◌, inl, inr, arith}
+use Rattle.std.proofs.Common.{length, map, reverse, get_or, drop, slice_get, ◌++◌, Some, None, refl, sym, ap, subst, ◌∙◌, inl, inr, arith}
 use Rattle.std.specs.Prelude.{◌↔◌, Option, IsTrue, option_map}
 use Rattle.std.specs.List.{All, AllByRecursion}
 use Rattle.std.specs.List.Sorted.{IsStrictlySortedBy}
@@ -8,13 +8,13 @@ use Rattle.std.specs.declared.cmp.Ordering.{Ordering}
 use Rattle.std.specs.declared.cmp.Ordering.TheVariants.{Less, Equal, Greater}
 use Rattle.std.specs.Ordering.{is_lt, nat_cmp}
 use Rattle.std.specs.Cmp.Lexicographic.{bytes_decides, slice_cmp, texts_ties}
-use Rattle.std.specs.BTreeMap.{BTreeMap, insert_entry}
+use Rattle.std.specs.BTreeMap.{insert_entry}
 use Rattle.std.specs.Map.{keys_of, lookup, set_value}
 use Rattle.std.proofs.lemmas.Map.{keys-set_value}
 use Rattle.std.proofs.lemmas.Map.Steps.{set_value_same}
 use Rattle.std.proofs.lemmas.Bool.{cases_Bool, false_from_ne_true}
 use Rattle.std.proofs.lemmas.Option.{same_Some}
-use Rattle.std.proofs.lemmas.List.{append_assoc, drop_more}
+use Rattle.std.proofs.lemmas.List.{append_assoc, drop_more, get_or-reverse, length-append, length-reverse}
 use Rattle.std.proofs.lemmas.List.Sums.{sum_by-cons}
 use Rattle.indexmap.specs.IndexMap.{IndexMap, insert_entry as insert_last}
 use Rattle.indexmap.specs.Layout.{set_value_at}
@@ -94,39 +94,50 @@ names_after (s ∷ sessions) zero d once lt = go sessions once.0
     go (t ∷ ts) a = (a.0, go ts a.1)
 names_after (s ∷ sessions) (suc n) d once lt = names_after sessions n d once.1 (omega arith)
 
-module _ (region : ℕ) (sessions : List Session) (once : Distinct (session_names sessions)) (n behind : ℕ) (at : behind < length sessions) (place : n ≡ length sessions - 1 - behind)
-    (s : Session) (is : s ≡ get_or sessions n s) where
-  within : n < length sessions
-  within = omega (arith, at, place)
+-- the session of a turn, where they are taken from the last one to the first
+module _ {X : Type 0} (region : ℕ) (sessions : List Session) (once : Distinct (session_names sessions)) (so_far : List X) (one : X) (s : Session)
+    (turn : (length so_far < length (reverse sessions)) × (s ≡ get_or (reverse sessions) (length so_far) s)) where
+  abbrev n : ℕ
+  n = length sessions - 1 - length so_far
 
-  parts : drop (length sessions - (behind + 1)) sessions ≡ s ∷ drop (length sessions - behind) sessions
+  some_left : length so_far < length sessions
+  some_left = omega (arith, turn.0, length-reverse sessions)
+
+  within : n < length sessions
+  within = omega (arith, some_left)
+
+  is : s ≡ get_or sessions n s
+  is = turn.1 ∙ get_or-reverse sessions (length so_far) s some_left
+
+  after : suc n ≡ length sessions - length so_far
+  after = omega (arith, some_left)
+
+  parts : drop (length sessions - length (so_far ++ one ∷ [])) sessions ≡ s ∷ drop (length sessions - length so_far) sessions
   parts =
-      let here : length sessions - (behind + 1) ≡ n = omega (arith, at, place) in
-      let next : n + 1 ≡ length sessions - behind = omega (arith, at, place) in
+      let here : length sessions - length (so_far ++ one ∷ []) ≡ n = omega (arith, some_left, length-append so_far (one ∷ [])) in
+      let next : n + 1 ≡ length sessions - length so_far = omega (arith, after) in
       ap (λ k. drop k sessions) here ∙ drop_more sessions n s within ∙ ap (λ x. x ∷ drop (n + 1) sessions) (sym is) ∙ ap (λ k. s ∷ drop k sessions) next
 
   -- it is one of the region's
-  pub gathered : s.region ≡ region → insert_entry (slice_cmp nat_cmp) (map idle_seat (sessions_at region (drop (length sessions - behind) sessions))) s.name (idle_seat s).1
-      ≡ map idle_seat (sessions_at region (drop (length sessions - (behind + 1)) sessions))
+  pub gathered : s.region ≡ region → insert_entry (slice_cmp nat_cmp) (map idle_seat (sessions_at region (drop (length sessions - length so_far) sessions))) s.name (idle_seat s).1
+      ≡ map idle_seat (sessions_at region (drop (length sessions - length (so_far ++ one ∷ [])) sessions))
   gathered here =
-      let after : suc n ≡ length sessions - behind = omega (arith, at, place) in
-      let new : AllIn (λ t. s.name ≢ t.name) (drop (length sessions - behind) sessions) =
+      let new : AllIn (λ t. s.name ≢ t.name) (drop (length sessions - length so_far) sessions) =
       subst (λ k. AllIn (λ t. s.name ≢ t.name) (drop k sessions)) after
       (subst (λ x. AllIn (λ t. x.name ≢ t.name) (drop (suc n) sessions)) (sym is) (names_after sessions n s once within)) in
-      inserted s (sessions_at region (drop (length sessions - behind) sessions)) (sessions_at_all (λ t. s.name ≢ t.name) region (drop (length sessions - behind) sessions) new)
+      inserted s (sessions_at region (drop (length sessions - length so_far) sessions)) (sessions_at_all (λ t. s.name ≢ t.name) region (drop (length sessions - length so_far) sessions) new)
       ∙ sym (ap (λ l. map idle_seat (sessions_at region l)) parts ∙ rw (eq-eqb s.region region here) refl)
 
   -- with a copy of it put among them, the seats are those of one session more
-  pub put_among : (seats put : BTreeMap Bytes Seat) (old : List (Bytes × Seat)) (name : Bytes) (calls : List Ranked) → s.region ≡ region → old ≡ map idle_seat (sessions_at region (drop (length sessions - behind) sessions))
-      → name ≡ s.name → calls ≡ s.calls → put.entries ≡ insert_entry (slice_cmp nat_cmp) old name (record { calls = calls; answered = 0; waits = None })
-      → HasAscendingKeys put.entries → seats ≡ put → (seats.entries ≡ map idle_seat (sessions_at region (drop (length sessions - (behind + 1)) sessions))) × HasAscendingKeys seats.entries
-  put_among seats put old name calls here same named copied more ascending is = (
-    ap (λ m. m.entries) is ∙ more ∙ (λ j. insert_entry (slice_cmp nat_cmp) (same j) (named j) (record { calls = copied j; answered = 0; waits = None })) ∙ gathered here,
-    subst (λ m. HasAscendingKeys m.entries) (sym is) ascending,
-  )
+  pub put_among : (put old : List (Bytes × Seat)) (name : Bytes) (calls : List Ranked) → s.region ≡ region → old ≡ map idle_seat (sessions_at region (drop (length sessions - length so_far) sessions))
+      → name ≡ s.name → calls ≡ s.calls → put ≡ insert_entry (slice_cmp nat_cmp) old name (record { calls = calls; answered = 0; waits = None })
+      → put ≡ map idle_seat (sessions_at region (drop (length sessions - length (so_far ++ one ∷ [])) sessions))
+  put_among put old name calls here same named copied more =
+      more ∙ (λ j. insert_entry (slice_cmp nat_cmp) (same j) (named j) (record { calls = copied j; answered = 0; waits = None })) ∙ gathered here
 
   -- it is not
-  pub passed_over : s.region ≢ region → sessions_at region (drop (length sessions - behind) sessions) ≡ sessions_at region (drop (length sessions - (behind + 1)) sessions)
+  pub passed_over : s.region ≢ region
+      → sessions_at region (drop (length sessions - length so_far) sessions) ≡ sessions_at region (drop (length sessions - length (so_far ++ one ∷ [])) sessions)
   passed_over away =
       let not : eqb s.region region ≡ false = false_from_ne_true (eqb s.region region) (λ e. away (eqb-true s.region region e)) in
       sym (ap (sessions_at region) parts ∙ rw not refl)

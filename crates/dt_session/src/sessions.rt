@@ -18,7 +18,7 @@ use std::collections::BTreeMap;
 use std::marker::Model;
 
 /// An attempt that a session waits for.
-#[derive(Clone, Copy)]
+#[derive(Clone, Copy, Debug, PartialEq, Eq)]
 pub struct Waiting {
     pub id: TxnId,
     /// The number of the attempt in its call, from 1.
@@ -69,9 +69,7 @@ impl Sessions {
     {
         let sessions = workload.sessions.as_slice();
         let mut seats = BTreeMap::new(alloc);
-        // From the last one to the first.
-        for behind in 0..sessions.len() {
-            let session = &sessions[sessions.len() - 1 - behind];
+        for session in sessions.iter().rev() {
             if session.region == region {
                 let seat = Seat {
                     calls: session.calls.copy(alloc)?,

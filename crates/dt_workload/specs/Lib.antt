@@ -3,3 +3,4 @@ pub mod Lines
 pub mod ReaderInner
 pub mod Valid
 pub mod Laws
+pub mod CauseTexts

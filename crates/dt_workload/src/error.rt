@@ -1,3 +1,5 @@
+ghost use Rattle.std.specs.Prelude.{◌≡◌};
+
 use dt_text::NoMemory;
 use std::alloc::AllocFailed;
 use std::fmt;
@@ -27,20 +29,31 @@ pub enum WorkloadCause {
     Key,
 }
 
+impl WorkloadCause {
+    ghost use Rattle.dt_workload.specs.CauseTexts.{workload_text};
+
+    /// The cause in words. Takes no memory.
+    pub fn text(self) -> &'static str
+        ensures { result.now ≡ workload_text self }
+    {
+        match self {
+            WorkloadCause::TooLong => "too long",
+            WorkloadCause::Form => "no line of a workload",
+            WorkloadCause::Name => "no name",
+            WorkloadCause::Twice => "name used twice",
+            WorkloadCause::Region => "no region",
+            WorkloadCause::TooMany => "too many",
+            WorkloadCause::NoSession => "no session",
+            WorkloadCause::Proc => "unknown procedure",
+            WorkloadCause::Args => "wrong arguments",
+            WorkloadCause::Key => "no key",
+        }
+    }
+}
+
 impl fmt::Display for WorkloadCause {
     fn fmt<W: fmt::Write>(&self, f: &mut fmt::Formatter<W>) -> fmt::Result {
-        match self {
-            WorkloadCause::TooLong => write!(f, "too long"),
-            WorkloadCause::Form => write!(f, "no line of a workload"),
-            WorkloadCause::Name => write!(f, "no name"),
-            WorkloadCause::Twice => write!(f, "name used twice"),
-            WorkloadCause::Region => write!(f, "no region"),
-            WorkloadCause::TooMany => write!(f, "too many"),
-            WorkloadCause::NoSession => write!(f, "no session"),
-            WorkloadCause::Proc => write!(f, "unknown procedure"),
-            WorkloadCause::Args => write!(f, "wrong arguments"),
-            WorkloadCause::Key => write!(f, "no key"),
-        }
+        f.write_str(self.text())
     }
 }
 

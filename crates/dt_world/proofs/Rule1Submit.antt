@@ -85,58 +85,71 @@ module _ {cluster : Cluster} {sessions : WorldSessions} {sites : List SiteView} 
       (sessions_made k (Submit region name) lr (submit_made k.reached lr (k.stands region lr) submits id after m' sound) refl refl (later id')
       (length-set sessions.by_region region (after_wait (sessions_of sessions.by_region region) name id') ∙ k.listed) standing)
 
--- what the call has in hand: the region's site, and what the session submits next there
-pub record SubmitsAt (view : WorldView) (sites : List SiteView) (region : ℕ) (name : Bytes) (p : SiteView) (origin : Origin) (rank : ℕ) (body : Body) : Type 0 where
+-- what the call has in hand: the site of a region of a lawful world, and what the session submits next there
+pub record SubmitsAt (cluster : Cluster) (sessions : WorldSessions) (sites : List SiteView) (steps region : ℕ) (name : Bytes) (p : SiteView) (origin : Origin) (rank : ℕ) (body : Body) : Type 0 where
+  pub lawful : IsLawful cluster sessions sites steps
+  pub there : region < cluster.regions
   pub site : p ≡ site_at sites region
-  pub next : IsNextTry view region name origin rank body
+  pub next : IsNextTry (view_in cluster sessions sites steps) region name origin rank body
 
-module _ {cluster : Cluster} {sessions : WorldSessions} {sites : List SiteView} {steps : ℕ} (k : IsLawful cluster sessions sites steps) {region : ℕ} (lr : region < cluster.regions)
-    (name : Bytes) {origin : Origin} {rank : ℕ} {body : Body} {p : SiteView} where
-  pub submits_at : {now : WorldView} → view_in cluster sessions sites steps ≡ now → p ≡ get_or sites region p → IsNextOf now region name (Some (origin, rank, body))
-      → SubmitsAt (view_in cluster sessions sites steps) sites region name p origin rank body
-  submits_at view value seen = record { site = read_at sites region p (a_site k lr) value; next = subst (λ v. IsNextTry v region name origin rank body) (sym view) seen }
+pub submits_at : {cluster : Cluster} {sessions : WorldSessions} {sites : List SiteView} {steps : ℕ} → IsLawful cluster sessions sites steps → {region : ℕ} → region < cluster.regions → (name : Bytes)
+    → {now : WorldView} → view_in cluster sessions sites steps ≡ now → {p : SiteView} → p ≡ get_or sites region p → {origin : Origin} {rank : ℕ} {body : Body} → IsNextOf now region name (Some (origin, rank, body))
+    → SubmitsAt cluster sessions sites steps region name p origin rank body
+submits_at {sites = sites} k {region} lr name view {p} value {origin} {rank} {body} seen = record {
+  lawful = k;
+  there = lr;
+  site = read_at sites region p (a_site k lr) value;
+  next = subst (λ v. IsNextTry v region name origin rank body) (sym view) seen;
+}
 
-  module _ (at : SubmitsAt (view_in cluster sessions sites steps) sites region name p origin rank body) where
-    -- it may be submitted to the site
+module _ {cluster : Cluster} {sessions : WorldSessions} {sites : List SiteView} {steps region : ℕ} {name : Bytes} {p : SiteView} {origin : Origin} {rank : ℕ} {body : Body}
+    (at : SubmitsAt cluster sessions sites steps region name p origin rank body) where
+  abbrev k : IsLawful cluster sessions sites steps
+  k = at.lawful
 
-    pub submit_fits : BodyFits cluster.procs p.region.state.here.table.version p.region.state.regions body
-    submit_fits = subst (λ (x : SiteView). BodyFits cluster.procs x.region.state.here.table.version x.region.state.regions body) (sym at.site) (fits_here k lr name at.next)
+  abbrev lr : region < cluster.regions
+  lr = at.there
 
-    pub submit_rank : rank ≤ 9
-    submit_rank = rank_here k lr name at.next
+  -- it may be submitted to the site
 
-    pub submit_place : steps < 4294967295 → length p.region.state.submitted < 4294967295
-    submit_place few =
-        let submitted : length (site_at sites region).region.state.submitted ≤ steps = submitted_few k lr in
-        subst (λ (x : SiteView). length x.region.state.submitted < 4294967295) (sym at.site) (omega (arith, submitted, few))
+  pub submit_fits : BodyFits cluster.procs p.region.state.here.table.version p.region.state.regions body
+  submit_fits = subst (λ (x : SiteView). BodyFits cluster.procs x.region.state.here.table.version x.region.state.regions body) (sym at.site) (fits_here k lr name at.next)
 
-    -- the site became q, and the sessions of the region are those at its place
-    module _ (id : TxnId) (q : SiteView) (m : MakesAttempt cluster.procs p rank body origin (Ok id) q) (s : SessionsView) (s_at : s ≡ get_or sessions.by_region region s) where
-      here : region < length sessions.by_region
-      here = subst (λ n. region < n) (sym k.listed) lr
+  pub submit_rank : rank ≤ 9
+  submit_rank = rank_here k lr name at.next
 
-      sessions_are : (x : SessionsView) → x ≡ get_or sessions.by_region region x → x ≡ sessions_of sessions.by_region region
-      sessions_are x = sessions_at_place sessions.by_region region x here
+  pub submit_place : steps < 4294967295 → length p.region.state.submitted < 4294967295
+  submit_place few =
+      let submitted : length (site_at sites region).region.state.submitted ≤ steps = submitted_few k lr in
+      subst (λ (x : SiteView). length x.region.state.submitted < 4294967295) (sym at.site) (omega (arith, submitted, few))
 
-      -- the outcomes of the region are those that it had, so the session may go on by them
-      pub may_wait : {r : RegionView} {origins : List Origin} {y : SiteView} → y ≡ get_or (set sites region q) region y → record { region = r; origins = origins } ≡ y
-          → (read : SessionsView) → read ≡ get_or sessions.by_region region read → (last : Option Outcome) → last ≡ option_and_then (outcome_of r.state) (waits_of read name) → MayGo s name last
-      may_wait {r} value is read read_at last told =
-          let within : region < length (set sites region q) = subst (λ n. region < n) (sym (length-set sites region q)) (a_site k lr) in
-          let b = behind {sites = set sites region q} within value is in
-          let outcomes : outcome_of r.state ≡ outcome_of (site_at sites region).region.state =
-          ap (λ (x : RegionView). outcome_of x.state) (b.region_is ∙ ap (λ (x : SiteView). x.region) (get_or-set_same sites region q no_site (a_site k lr)))
-          ∙ ap (λ (x : SiteView). outcome_of x.region.state) m.1 ∙ ap (λ (x : SiteView). outcome_of x.region.state) at.site in
-          let here_told : last ≡ option_and_then (outcome_of (site_at sites region).region.state) (waits_of (sessions_of sessions.by_region region) name) =
-          told ∙ (λ j. option_and_then (outcomes j) (waits_of (sessions_are read read_at j) name)) in
-          let allowed : MaySubmit cluster (world_of sites (places_in sessions)) region (session_at sessions.workload.sessions (places_in sessions) region name) =
-          subst (MaySubmit cluster (world_of sites (places_in sessions)) region) (sym at.next.found) at.next.may in
-          subst (λ x. MayGo x name last) (sym (sessions_are s s_at)) (submit_go k lr name last here_told allowed)
+  -- the site became q, and the sessions of the region are those at its place
+  module _ (id : TxnId) (q : SiteView) (m : MakesAttempt cluster.procs p rank body origin (Ok id) q) (s : SessionsView) (s_at : s ≡ get_or sessions.by_region region s) where
+    here : region < length sessions.by_region
+    here = subst (λ n. region < n) (sym k.listed) lr
 
-      -- with the sessions that wait so, the event is made
-      pub waits_made : IsSoundRegion q.region.state → (new : SessionsView) → new ≡ after_wait s name id
-          → IsMade cluster sessions sites steps (Submit region name) (record sessions { by_region = set sessions.by_region region new }) (set sites region q)
-      waits_made sound new is =
-          let new_is : new ≡ after_wait (sessions_of sessions.by_region region) name id = is ∙ ap (λ x. after_wait x name id) (sessions_are s s_at) in
-          subst (λ x. IsMade cluster sessions sites steps (Submit region name) (record sessions { by_region = set sessions.by_region region x }) (set sites region q)) (sym new_is)
-          (submit_done k lr name at.next p q id at.site m sound)
+    sessions_are : (x : SessionsView) → x ≡ get_or sessions.by_region region x → x ≡ sessions_of sessions.by_region region
+    sessions_are x = sessions_at_place sessions.by_region region x here
+
+    -- the outcomes of the region are those that it had, so the session may go on by them
+    pub may_wait : {r : RegionView} {origins : List Origin} {y : SiteView} → y ≡ get_or (set sites region q) region y → record { region = r; origins = origins } ≡ y
+        → (read : SessionsView) → read ≡ get_or sessions.by_region region read → (last : Option Outcome) → last ≡ option_and_then (outcome_of r.state) (waits_of read name) → MayGo s name last
+    may_wait {r} value is read read_at last told =
+        let within : region < length (set sites region q) = subst (λ n. region < n) (sym (length-set sites region q)) (a_site k lr) in
+        let b = behind {sites = set sites region q} within value is in
+        let outcomes : outcome_of r.state ≡ outcome_of (site_at sites region).region.state =
+        ap (λ (x : RegionView). outcome_of x.state) (b.region_is ∙ ap (λ (x : SiteView). x.region) (get_or-set_same sites region q no_site (a_site k lr)))
+        ∙ ap (λ (x : SiteView). outcome_of x.region.state) m.1 ∙ ap (λ (x : SiteView). outcome_of x.region.state) at.site in
+        let here_told : last ≡ option_and_then (outcome_of (site_at sites region).region.state) (waits_of (sessions_of sessions.by_region region) name) =
+        told ∙ (λ j. option_and_then (outcomes j) (waits_of (sessions_are read read_at j) name)) in
+        let allowed : MaySubmit cluster (world_of sites (places_in sessions)) region (session_at sessions.workload.sessions (places_in sessions) region name) =
+        subst (MaySubmit cluster (world_of sites (places_in sessions)) region) (sym at.next.found) at.next.may in
+        subst (λ x. MayGo x name last) (sym (sessions_are s s_at)) (submit_go k lr name last here_told allowed)
+
+    -- with the sessions that wait so, the event is made
+    pub waits_made : IsSoundRegion q.region.state → (new : SessionsView) → new ≡ after_wait s name id
+        → IsMade cluster sessions sites steps (Submit region name) (record sessions { by_region = set sessions.by_region region new }) (set sites region q)
+    waits_made sound new is =
+        let new_is : new ≡ after_wait (sessions_of sessions.by_region region) name id = is ∙ ap (λ x. after_wait x name id) (sessions_are s s_at) in
+        subst (λ x. IsMade cluster sessions sites steps (Submit region name) (record sessions { by_region = set sessions.by_region region x }) (set sites region q)) (sym new_is)
+        (submit_done k lr name at.next p q id at.site m sound)

@@ -1,9 +1,23 @@
 use Rattle.std.proofs.Common.{refl, sym, subst}
 use Rattle.dt_session.specs.Sessions.{MayBeAnswered}
 use Rattle.dt_node.proofs.CallAfterCall.{made_nothing, same_moves}
-use Rattle.dt_node.proofs.PartsOfNode.{call_moves, call_on, call_seats, call_step, no_name_at, opened}
+use Rattle.dt_node.proofs.PartsOfNode.{WasAnswered, call_moves, call_on, call_seats, call_step, no_name_at, opened, was_answered}
 use Rattle.dt_node.proofs.CallConditions.{has_stamp}
+use Rattle.dt_node.proofs.node.Node.answer_one.Given.{Over}
 use Rattle.dt_node.proofs.node.Node.answer_one.Goals as goal
+use Rattle.dt_node.proofs.node.Node.answer_one.Goals.{After-answer_at}
+
+-- the session at the place was answered
+answered : (g : Over) (c : After-answer_at g) →
+    let is = rw (← c.self-inside.view_is) at c.self.view_is in
+    WasAnswered (opened is) c.in-Some.name.now c.answer.new.self c.answer_at.new.self
+answered g c =
+    let is = rw (← c.self-inside.view_is) at c.self.view_is in
+    let name = c.in-Some.name.now in
+    let stands = sym c.in-Some.ensures.place in
+    let might = (c.may_answer_at.ensures.may name stands).0 c.if-not-may_answer_at.false in
+    was_answered (opened is) name (c.last_outcome_at-last.ensures.outcome name stands) might c.answer.new.self c.in_ok-answer.ensures.makes
+    (c.last_outcome_at-last-2.ensures.outcome name stands) c.answer_at.new.self (λ m. c.answer_at.ensures.answered ((c.answer_at.ensures.legal name stands).1 m) name stands)
 
 pub answer-requires : goal.answer-requires
 answer-requires g c = record { stamp = rw (← c.self.view_is, ← c.self-inside.view_is) at (has_stamp c.requires.can.can) }
@@ -12,43 +26,16 @@ pub returns-in_err-answer-clause-moved : goal.returns-in_err-answer-clause-moved
 returns-in_err-answer-clause-moved g c = rw (← c.self.view_is, ← c.self-inside.view_is) (λ procs. same_moves _ c.answer.new.self c.in_err-answer.ensures.makes)
 
 pub returns-clause-moved : goal.returns-clause-moved
-returns-clause-moved g c =
-    let is = rw (← c.self-inside.view_is) at c.self.view_is in
-    let name = c.in-Some.name.now in
-    let stands = sym c.in-Some.ensures.place in
-    rw (← c.self.view_is, ← c.self-inside.view_is)
-    (call_moves (opened is) name (c.last_outcome_at-last.ensures.outcome name stands) ((c.may_answer_at.ensures.may name stands).0 c.if-not-may_answer_at.false) c.answer.new.self c.in_ok-answer.ensures.makes
-    (c.last_outcome_at-last-2.ensures.outcome name stands) c.answer_at.new.self (λ m. c.answer_at.ensures.answered ((c.answer_at.ensures.legal name stands).1 m) name stands))
+returns-clause-moved g c = rw (← c.self.view_is, ← c.self-inside.view_is) (call_moves (answered g (goal.at.returns-clause-moved g c).After-answer_at))
 
 pub returns-clause-seats : goal.returns-clause-seats
-returns-clause-seats g c =
-    let is = rw (← c.self-inside.view_is) at c.self.view_is in
-    let name = c.in-Some.name.now in
-    let stands = sym c.in-Some.ensures.place in
-    rw (← c.self.view_is, ← c.self-inside.view_is)
-    (call_seats (opened is) name (c.last_outcome_at-last.ensures.outcome name stands) ((c.may_answer_at.ensures.may name stands).0 c.if-not-may_answer_at.false) c.answer.new.self c.in_ok-answer.ensures.makes
-    (c.last_outcome_at-last-2.ensures.outcome name stands) c.answer_at.new.self (λ m. c.answer_at.ensures.answered ((c.answer_at.ensures.legal name stands).1 m) name stands))
+returns-clause-seats g c = rw (← c.self.view_is, ← c.self-inside.view_is) (call_seats (answered g (goal.at.returns-clause-seats g c).After-answer_at))
 
 pub returns-clause-ends : goal.returns-clause-ends
-returns-clause-ends g c =
-    let is = rw (← c.self-inside.view_is) at c.self.view_is in
-    let name = c.in-Some.name.now in
-    let stands = sym c.in-Some.ensures.place in
-    rw (← c.self.view_is, ← c.self-inside.view_is)
-    (call_on (opened is) name (c.last_outcome_at-last.ensures.outcome name stands) ((c.may_answer_at.ensures.may name stands).0 c.if-not-may_answer_at.false) c.answer.new.self c.in_ok-answer.ensures.makes
-    (c.last_outcome_at-last-2.ensures.outcome name stands) c.answer_at.new.self (λ m. c.answer_at.ensures.answered ((c.answer_at.ensures.legal name stands).1 m) name stands))
+returns-clause-ends g c = rw (← c.self.view_is, ← c.self-inside.view_is) (call_on (answered g (goal.at.returns-clause-ends g c).After-answer_at))
 
 pub returns-clause-one : goal.returns-clause-one
-returns-clause-one g c =
-    let is = rw (← c.self-inside.view_is) at c.self.view_is in
-    let name = c.in-Some.name.now in
-    let stands = sym c.in-Some.ensures.place in
-    rw (← c.self.view_is, ← c.self-inside.view_is) (
-      name,
-      stands,
-      call_step (opened is) name (c.last_outcome_at-last.ensures.outcome name stands) ((c.may_answer_at.ensures.may name stands).0 c.if-not-may_answer_at.false) c.answer.new.self c.in_ok-answer.ensures.makes
-          (c.last_outcome_at-last-2.ensures.outcome name stands) c.answer_at.new.self (λ m. c.answer_at.ensures.answered ((c.answer_at.ensures.legal name stands).1 m) name stands),
-    )
+returns-clause-one g c = rw (← c.self.view_is, ← c.self-inside.view_is) (c.in-Some.name.now, sym c.in-Some.ensures.place, call_step (answered g (goal.at.returns-clause-one g c).After-answer_at))
 
 pub unreachable-requires : goal.unreachable-requires
 unreachable-requires g c = no_name_at _ c.args.index (c.may_answer_at.ensures.there c.if-not-may_answer_at.false) c.in_default.ensures.place

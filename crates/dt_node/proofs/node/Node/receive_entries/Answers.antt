@@ -4,7 +4,17 @@ use Rattle.dt_node.proofs.PacketItems.{may_receive, receive_ends, receive_step, 
 use Rattle.dt_node.proofs.CallAfterCall.{same_moves}
 use Rattle.dt_node.proofs.PartsOfNode.{opened}
 use Rattle.dt_node.proofs.CallConditions.{has_stamp}
+use Rattle.dt_node.proofs.node.Node.receive_entries.Given.{Over}
 use Rattle.dt_node.proofs.node.Node.receive_entries.Goals as goal
+use Rattle.dt_node.proofs.node.Node.receive_entries.Goals.{In_ok-deliver}
+
+-- the region received the entries
+makes : (g : Over) (c : In_ok-deliver g) →
+    let is = rw (← c.self-inside.view_is) at c.self.view_is in
+    MakesDelivery (opened is).site.region c.args.source c.args.first c.args.first c.args.entries (Ok c.in_ok-deliver.field-0) c.deliver.new.self
+makes g c =
+    let is = rw (← c.self-inside.view_is) at c.self.view_is in
+    subst (λ l. MakesDelivery (opened is).site.region c.args.source c.args.first c.args.first l (Ok c.in_ok-deliver.field-0) c.deliver.new.self) c.into_vec.ensures c.in_ok-deliver.ensures.makes
 
 pub deliver-requires-clause-stamp : goal.deliver-requires-clause-stamp
 deliver-requires-clause-stamp g c = rw (← c.self.view_is, ← c.self-inside.view_is) at (has_stamp c.requires.can.can)
@@ -21,21 +31,15 @@ returns-in_err-deliver-clause-moved g c = rw (← c.self.view_is, ← c.self-ins
 pub returns-clause-moved : goal.returns-clause-moved
 returns-clause-moved g c =
     let can = rw (← c.self.view_is, ← c.self-inside.view_is) at c.requires.can in
-    let is = rw (← c.self-inside.view_is) at c.self.view_is in
-    let makes = subst (λ l. MakesDelivery (opened is).site.region c.args.source c.args.first c.args.first l (Ok c.in_ok-deliver.field-0) c.deliver.new.self) c.into_vec.ensures c.in_ok-deliver.ensures.makes in
     rw (← c.self.view_is, ← c.self-inside.view_is)
-    (λ procs. receive_ends c.args.source c.args.first c.args.entries can (Ok c.in_ok-deliver.field-0) c.deliver.new.self makes c.deliver.ensures.sound)
+    (λ procs. receive_ends c.args.source c.args.first c.args.entries can (Ok c.in_ok-deliver.field-0) c.deliver.new.self (makes g (goal.at.returns-clause-moved g c).In_ok-deliver) c.deliver.ensures.sound)
 
 pub returns-clause-taken : goal.returns-clause-taken
 returns-clause-taken g c =
     let can = rw (← c.self.view_is, ← c.self-inside.view_is) at c.requires.can in
-    let is = rw (← c.self-inside.view_is) at c.self.view_is in
-    let makes = subst (λ l. MakesDelivery (opened is).site.region c.args.source c.args.first c.args.first l (Ok c.in_ok-deliver.field-0) c.deliver.new.self) c.into_vec.ensures c.in_ok-deliver.ensures.makes in
-    receive_taken c.args.source c.args.first c.args.entries can c.in_ok-deliver.field-0 c.deliver.new.self makes
+    receive_taken c.args.source c.args.first c.args.entries can c.in_ok-deliver.field-0 c.deliver.new.self (makes g (goal.at.returns-clause-taken g c).In_ok-deliver)
 
 pub returns-clause-receives : goal.returns-clause-receives
 returns-clause-receives g c =
     let can = rw (← c.self.view_is, ← c.self-inside.view_is) at c.requires.can in
-    let is = rw (← c.self-inside.view_is) at c.self.view_is in
-    let makes = subst (λ l. MakesDelivery (opened is).site.region c.args.source c.args.first c.args.first l (Ok c.in_ok-deliver.field-0) c.deliver.new.self) c.into_vec.ensures c.in_ok-deliver.ensures.makes in
-    rw (← c.self.view_is, ← c.self-inside.view_is) (receive_step c.args.source c.args.first c.args.entries can c.in_ok-deliver.field-0 c.deliver.new.self makes)
+    rw (← c.self.view_is, ← c.self-inside.view_is) (receive_step c.args.source c.args.first c.args.entries can c.in_ok-deliver.field-0 c.deliver.new.self (makes g (goal.at.returns-clause-receives g c).In_ok-deliver))

@@ -1,36 +1,47 @@
-use Rattle.std.proofs.Common.{◌≡◌, ◌-◌, ◌≤◌, ◌∙◌, List, length, drop, map, refl, sym, ap, subst, arith}
-use Rattle.dt_lists.specs.Lists.{AllIn, Distinct}
+use Rattle.std.proofs.Common.{◌≡◌, ◌-◌, ◌∙◌, List, length, drop, map, sym, ap, subst, arith}
+use Rattle.std.proofs.lemmas.Iterator.Adapters.{YieldsList-from_rev_slice}
+use Rattle.std.proofs.lemmas.Iterator.Consumers.{YieldsList-end, YieldsList-turn}
+use Rattle.std.proofs.lemmas.List.{length-reverse}
+use Rattle.dt_lists.specs.Lists.{AllIn}
 use Rattle.dt_access.specs.Orders.{HasAscendingKeys}
-use Rattle.dt_workload.specs.Valid.{calls_in, session_names}
 use Rattle.dt_workload.specs.declared.Session.{Session}
 use Rattle.dt_session.specs.Eager.{sessions_at}
 use Rattle.dt_session.specs.Sessions.{IsSoundSeat, idle_seat}
 use Rattle.dt_session.proofs.SessionsLaws.{ascends, idle_sound, passed_over, put_among}
-use Rattle.dt_session.proofs.sessions.Sessions.new.Goals.{then-session-region+in_ok-copy+in_ok-copy-2+in_ok-insert+in-Some-1, then-session-region+in_ok-copy+in_ok-copy-2+in_ok-insert+in-None-1, else-session-region}
 use Rattle.dt_session.proofs.sessions.Sessions.new.Goals as goal
 
-pub loop-behind-preserved : goal.loop-behind-preserved
-loop-behind-preserved c =
-    let sessions : List Session = c.as_slice-sessions.result.now in
-    let once : Distinct (session_names sessions) = subst (λ l. Distinct (session_names l)) (sym c.as_slice-sessions.ensures) c.requires.names in
-    let put = put_among c.args.region sessions once _ c.loop-behind.behind c.loop-behind-test.true refl c.index-sessions-sessions.result c.index-sessions-sessions.is in
-    elim c.if-session-region.branch [
-      | then-session-region+in_ok-copy+in_ok-copy-2+in_ok-insert+in-Some-1 w ↦
-          put _ _ _ _ _ w.if-session-region.true c.loop-behind.invariant.0 w.in_ok-copy-2.ensures.same w.in_ok-copy.ensures w.in_ok-insert.ensures.entries (ascends _ w.in_ok-insert.ensures.ordered) w.seats-is
-      | then-session-region+in_ok-copy+in_ok-copy-2+in_ok-insert+in-None-1 w ↦
-          put _ _ _ _ _ w.if-session-region.true c.loop-behind.invariant.0 w.in_ok-copy-2.ensures.same w.in_ok-copy.ensures w.in_ok-insert.ensures.entries (ascends _ w.in_ok-insert.ensures.ordered) w.seats-is
-      | else-session-region w ↦ (
-        ap (λ m. m.entries) w.seats-is ∙ c.loop-behind.invariant.0
-            ∙ ap (map idle_seat) (passed_over c.args.region sessions once _ c.loop-behind.behind c.loop-behind-test.true refl c.index-sessions-sessions.result c.index-sessions-sessions.is w.if-session-region.false),
-        subst (λ m. HasAscendingKeys m.entries) (sym w.seats-is) c.loop-behind.invariant.1,
-      )
-    ]
+pub loop-session-preserved : goal.loop-session-preserved
+loop-session-preserved c =
+    let turn = YieldsList-turn (YieldsList-from_rev_slice {s = c.into_iter-session-iterator.result} c.args.workload.now.sessions cc) c.loop-session.yielded c.loop-session.session-iterator c.loop-session.yielded_by _ _
+    c.in-Some.session c.in-Some.is c.next.ensures.steps in (
+      c.loop-session.invariant.0
+          ∙ ap (map idle_seat) (passed_over c.args.region c.args.workload.now.sessions c.requires.names c.loop-session.yielded c.in-Some.session c.in-Some.session.now turn c.if-session-region.false),
+      c.loop-session.invariant.1,
+    )
+
+pub loop-session-preserved-in_ok-insert : goal.loop-session-preserved-in_ok-insert
+loop-session-preserved-in_ok-insert c =
+    let turn = YieldsList-turn (YieldsList-from_rev_slice {s = c.into_iter-session-iterator.result} c.args.workload.now.sessions cc) c.loop-session.yielded c.loop-session.session-iterator c.loop-session.yielded_by _ _
+    c.in-Some.session c.in-Some.is c.next.ensures.steps in (
+      put_among c.args.region c.args.workload.now.sessions c.requires.names c.loop-session.yielded c.in-Some.session c.in-Some.session.now turn _ _ _ _ c.if-session-region.true c.loop-session.invariant.0
+          c.in_ok-copy-2.ensures.same c.in_ok-copy.ensures c.in_ok-insert.ensures.entries,
+      ascends _ c.in_ok-insert.ensures.ordered,
+    )
+
+pub loop-session-preserved-in_ok-insert-2 : goal.loop-session-preserved-in_ok-insert-2
+loop-session-preserved-in_ok-insert-2 c =
+    let turn = YieldsList-turn (YieldsList-from_rev_slice {s = c.into_iter-session-iterator.result} c.args.workload.now.sessions cc) c.loop-session.yielded c.loop-session.session-iterator c.loop-session.yielded_by _ _
+    c.in-Some.session c.in-Some.is c.next.ensures.steps in (
+      put_among c.args.region c.args.workload.now.sessions c.requires.names c.loop-session.yielded c.in-Some.session c.in-Some.session.now turn _ _ _ _ c.if-session-region.true c.loop-session.invariant.0
+          c.in_ok-copy-2.ensures.same c.in_ok-copy.ensures c.in_ok-insert.ensures.entries,
+      ascends _ c.in_ok-insert.ensures.ordered,
+    )
 
 pub invariant_of-result : goal.invariant_of-result
 invariant_of-result c =
-    let sessions : List Session = c.as_slice-sessions.result.now in
-    let whole : length sessions - c.loop-behind.behind ≡ 0 = omega (arith, c.loop-behind-test.false) in
-    let few : calls_in sessions ≤ 20000 = subst (λ l. calls_in l ≤ 20000) (sym c.as_slice-sessions.ensures) c.requires.few in
-    let listed : c.in_ok-listed.field-0.entries ≡ c.loop-behind.seats.entries = c.in_ok-listed.ensures in
-    let each = subst (AllIn (λ p. IsSoundSeat p.1)) (sym (listed ∙ c.loop-behind.invariant.0 ∙ ap (λ k. map idle_seat (sessions_at c.args.region (drop k sessions))) whole)) (idle_sound c.args.region sessions few) in
-    record { ascending = subst HasAscendingKeys (sym listed) c.loop-behind.invariant.1; each = each }
+    let sessions : List Session = c.args.workload.now.sessions in
+    let all = YieldsList-end (YieldsList-from_rev_slice {s = c.into_iter-session-iterator.result} sessions cc) c.loop-session.yielded c.loop-session.session-iterator c.loop-session.yielded_by _ _ c.in-None.is c.next.ensures.steps in
+    let whole : length sessions - length c.loop-session.yielded ≡ 0 = omega (arith, all.1, length-reverse sessions) in
+    let listed : c.in_ok-listed.field-0.entries ≡ c.loop-session.seats.entries = c.in_ok-listed.ensures in
+    let each = subst (AllIn (λ p. IsSoundSeat p.1)) (sym (listed ∙ c.loop-session.invariant.0 ∙ ap (λ k. map idle_seat (sessions_at c.args.region (drop k sessions))) whole)) (idle_sound c.args.region sessions c.requires.few) in
+    record { ascending = subst HasAscendingKeys (sym listed) c.loop-session.invariant.1; each = each }
