@@ -38,9 +38,9 @@ impl Scheduler for QueueSched {
         })
     }
 
-    fn insert(&mut self, alloc: Global, part: Part) -> Result<(), NoMemory> {
-        self.graph.insert(alloc, &part)?;
-        self.seen = self.seen.after(&Change::Inserted(&part));
+    fn insert(&mut self, alloc: Global, part: &Part) -> Result<(), NoMemory> {
+        self.graph.insert(alloc, part)?;
+        self.seen = self.seen.after(&Change::Inserted(part));
         Ok(())
     }
 

@@ -50,9 +50,9 @@ impl Scheduler for PlainSched {
         })
     }
 
-    fn insert(&mut self, _alloc: Global, part: Part) -> Result<(), NoMemory> {
+    fn insert(&mut self, alloc: Global, part: &Part) -> Result<(), NoMemory> {
         let log = &mut self.logs[part.home as usize];
-        log.push(part)
+        log.push(part.copy(alloc)?)
     }
 
     fn executable(&self, alloc: Global, id: TxnId) -> Result<bool, NoMemory> {

@@ -383,10 +383,9 @@ impl<S: Scheduler> Region<S> {
         let stamp = self.next_stamp();
         let region = self.number;
         let place = self.inserted(home);
-        let Some(part) = self.log(home).get(place) else {
+        let Some(part) = self.logs[home as usize].get(place) else {
             return Ok(false);
         };
-        let part = part.copy(alloc)?;
         self.events.reserve(self.room + 1)?;
         self.scheduler.insert(alloc, part)?;
         self.inserted[home as usize] = place + 1;

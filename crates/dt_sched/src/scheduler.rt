@@ -20,9 +20,9 @@ pub trait Scheduler: Sized {
         ensures { IfOk result (λ s. seen s ≡ nothing_yet regions) };
 
     /// Adds the part at the back of the log of its home.
-    fn insert(&mut self, alloc: Global, part: Part) -> Result<(), NoMemory>
-        requires { CanInsert (seen self.old).logs part }
-        ensures ok { OnOk result (seen self.new ≡ after_insert (seen self.old) part) }
+    fn insert(&mut self, alloc: Global, part: &Part) -> Result<(), NoMemory>
+        requires { CanInsert (seen self.old).logs part.now }
+        ensures ok { OnOk result (seen self.new ≡ after_insert (seen self.old) part.now) }
         ensures err { OnErr result (seen self.new ≡ seen self.old) }
         ensures spare { spare self.old ≤ spare self.new };
 

@@ -125,8 +125,8 @@ fn insert(
     if !fits(logs.as_slice(), &part) {
         return Err(Fail::from("the part may be inserted"));
     }
-    plain.insert(alloc, part.copy(alloc)?)?;
-    queue.insert(alloc, part.copy(alloc)?)?;
+    plain.insert(alloc, &part)?;
+    queue.insert(alloc, &part)?;
     let log = &mut logs[part.home as usize];
     log.push(part)?;
     Ok(())
