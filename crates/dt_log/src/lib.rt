@@ -52,6 +52,14 @@ impl Log {
         }
     }
 
+    /// Makes room for just n more parts. Nothing else changes, whatever the answer.
+    pub fn reserve(&mut self, parts: usize) -> Result<(), NoMemory>
+        ensures { self.new ≡ self.old }
+    {
+        self.parts.reserve_exact(parts)?;
+        Ok(())
+    }
+
     /// Adds a part at the end; after `NoMemory` the log is as before.
     pub fn push(&mut self, part: Common<Part>) -> Result<(), NoMemory>
         requires { length self.old + 1 < 2 ^ 32 }

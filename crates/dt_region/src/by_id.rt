@@ -83,6 +83,16 @@ impl<V> ById<V> {
         Ok(())
     }
 
+    /// Makes room for n more in the list, where so many are expected. What is kept beside the lists gets none of it, since
+    /// few ids come to stand there.
+    pub fn expect(&mut self, values: usize) -> Result<(), NoMemory>
+        ensures same { self.new.entries ≡ self.old.entries }
+        ensures spare { self.old.spare ≤ self.new.spare }
+    {
+        self.entries.reserve_exact(values)?;
+        Ok(())
+    }
+
     /// Sees to it that an id will be found fast once it has a value. Nothing that contracts see changes.
     pub fn prepare(&mut self, alloc: Global, id: TxnId) -> Result<(), NoMemory>
         ensures { self.new ≡ self.old }

@@ -44,6 +44,16 @@ pub fn parts_and_txns_past(
     parts_and_txns(alloc, entries.split_off(known)?)
 }
 
+/// Makes room for n more parts in each log. Nothing else changes, whatever the answer.
+pub fn reserve(logs: &mut [Log], parts: usize) -> Result<(), NoMemory>
+    ensures { logs.new ≡ logs.old }
+{
+    for log in logs.iter_mut() {
+        log.reserve(parts)?;
+    }
+    Ok(())
+}
+
 /// Places a part at the end of its home's log; after `NoMemory` the logs are as before.
 pub fn place(logs: &mut Vec<Log>, part: Common<Part>) -> Result<(), NoMemory>
     requires home { part.home < vec_len logs.old }

@@ -49,6 +49,13 @@ impl Foreign {
         self.txns.get(id)
     }
 
+    /// Makes room for n more in the list, where so many are expected.
+    pub fn expect(&mut self, txns: usize) -> Result<(), NoMemory>
+        ensures { self.new.txns ≡ self.old.txns }
+    {
+        self.txns.expect(txns)
+    }
+
     /// Makes room for one more, that of this id.
     pub fn reserve_for(&mut self, alloc: Global, id: TxnId) -> Result<(), NoMemory>
         ensures same { self.new.txns ≡ self.old.txns }

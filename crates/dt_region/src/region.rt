@@ -17,7 +17,7 @@ ghost use Rattle.dt_region.specs.Conditions.{IsTableFor, CanAppend, CanDeliver, 
 ghost use Rattle.dt_region.specs.Sound.{IsSoundRegion};
 
 use crate::by_id::ById;
-use crate::entries::{add, keep_all, parts_and_txns_past, place};
+use crate::entries::{add, keep_all, parts_and_txns_past, place, reserve};
 use crate::foreign::Foreign;
 use crate::kept::Kept;
 use crate::opening::{Lists, no_lists};
@@ -108,6 +108,21 @@ impl<S: Scheduler> Region<S> {
             heard: 0,
             room: 0,
         })
+    }
+
+    /// Makes room for what comes of n calls that are expected in all regions together, so that the lists need not be moved
+    /// while they grow: of a call comes about one outcome, and a few events. Nothing that contracts see changes, whatever
+    /// the answer.
+    pub fn expect(&mut self, calls: u32) -> Result<(), NoMemory>
+        ensures same { self.new ≡ self.old }
+        ensures sound { IsSoundRegion self.new.state }
+    {
+        let calls = calls as usize;
+        self.events.reserve(calls * 4)?;
+        self.done.expect(calls + calls / 8)?;
+        self.foreign.expect(calls)?;
+        self.submitted.reserve_exact(calls / 2)?;
+        reserve(self.logs.as_mut_slice(), calls)
     }
 
     /// Its number. Takes no memory.
