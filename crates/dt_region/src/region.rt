@@ -22,7 +22,7 @@ use crate::foreign::Foreign;
 use crate::kept::Kept;
 use crate::opening::{Lists, no_lists};
 use crate::requests::ask;
-use dt_access::{Ids, TxnId, are_ascending};
+use dt_access::{Ids, Part, TxnId, are_ascending};
 use dt_events::{Event, Stamped};
 use dt_log::{Log, Taken};
 use dt_proc::Procs;
@@ -398,7 +398,7 @@ impl<S: Scheduler> Region<S> {
         let stamp = self.next_stamp();
         let region = self.number;
         let place = self.inserted(home);
-        let Some(part) = self.logs[home as usize].get(place) else {
+        let Some(part) = received_part(self.logs.as_slice(), home, place) else {
             return Ok(false);
         };
         self.events.reserve(self.room + 1)?;
@@ -601,4 +601,12 @@ fn add_last(txns: &mut Vec<Common<Txn>>, txn: Common<Txn>)
         Ok(()) => (),
         Err(_) => unreachable!(),
     }
+}
+
+/// The part at a place of the log of a home, if it was received. Takes no memory.
+fn received_part(logs: &[Log], home: u8, place: u32) -> Option<&Part>
+    requires { home < length logs.now }
+    ensures { option_copied result ≡ slice_get (log_at logs.now home) place }
+{
+    logs[home as usize].get(place)
 }
