@@ -1,4 +1,5 @@
 pub mod BareWords
+pub mod CommonLines
 pub mod EventWords
 pub mod EveryFile
 pub mod PrintedEvents

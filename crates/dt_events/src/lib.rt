@@ -4,10 +4,12 @@
 //! a region numbers its events. When an event may happen, and what it does, is stated in `dt_session`.
 #![tactic(auto)]
 
+mod common_lines;
 mod event;
 mod laws;
 mod printed;
 mod reader;
+mod recent_names;
 mod words;
 
 pub use event::{Event, Stamped};
