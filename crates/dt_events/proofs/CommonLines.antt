@@ -1,8 +1,9 @@
--- Lines that are printed with regions of one digit are their events.
-use Rattle.std.proofs.Common.{◌≡◌, ℕ, ◌+◌, ◌<◌, ◌^◌, List, [], ◌∷◌, ◌++◌, codes, ap, sym, ◌∙◌, subst, arith}
+-- Lines that are printed with regions of one digit: they are their events, and are printed as these.
+use Rattle.std.proofs.Common.{◌≡◌, ℕ, ◌+◌, ◌<◌, ◌^◌, List, [], ◌∷◌, ◌++◌, codes, ap, sym, ◌∙◌, subst, arith, append_assoc, append-nil}
 use Rattle.std.specs.Fmt.{decimal}
 use Rattle.std.proofs.lemmas.Fmt.{decimal_digit}
 use Rattle.dt_text.specs.Texts.{IsName}
+use Rattle.dt_text.specs.Words.{spaced}
 use Rattle.dt_access.specs.declared.TxnId.{TxnId}
 use Rattle.dt_access.specs.Ids.{IsCounted, id_text}
 use Rattle.dt_events.specs.declared.event.Event.{Event}
@@ -47,3 +48,25 @@ pub answer_line : (line word : List ℕ) (a region : ℕ) (session : List ℕ) �
 answer_line line word a region session is one read =
     let first = one_digit a region one in
     printed line (Answer region session) (omega (arith, one.0), read.0) ((λ i. codes "answer" ++ 32 ∷ (first i ++ 32 ∷ read.1 i)) ∙ sym is)
+
+-- ---- such events are printed
+
+pub insert_put : (before text : List ℕ) (region home : ℕ) → region < 10 → home < 10 → text ≡ before ++ (codes "insert " ++ (48 + region) ∷ 32 ∷ (48 + home) ∷ []) → text ≡ before ++ event_text (Insert region home)
+insert_put before text region home one other put =
+    let first = sym (decimal_digit region one) in
+    let second = sym (decimal_digit home other) in
+    put ∙ (λ i. before ++ (codes "insert" ++ 32 ∷ (first i ++ 32 ∷ second i)))
+
+pub execute_put : (before text after : List ℕ) (region : ℕ) (id : TxnId) → region < 10 → text ≡ before ++ (codes "execute " ++ (48 + region) ∷ 32 ∷ []) → after ≡ text ++ id_text id → after ≡ before ++ event_text (Execute region id)
+execute_put before text after region id one put more =
+    let first = sym (decimal_digit region one) in
+    more ∙ ap (λ t. t ++ id_text id) put ∙ append_assoc before (codes "execute " ++ (48 + region) ∷ 32 ∷ []) (id_text id) ∙ (λ i. before ++ (codes "execute" ++ 32 ∷ (first i ++ 32 ∷ id_text id)))
+
+pub append_put : (before text after : List ℕ) (home source number n : ℕ) → home < 10 → source < 10 → text ≡ before ++ (codes "append " ++ (48 + home) ∷ 32 ∷ (48 + source) ∷ []) → n ≡ number
+    → after ≡ text ++ spaced (decimal n ∷ []) → after ≡ before ++ event_text (Append home source number)
+append_put before text after home source number n one other put same more =
+    let first = sym (decimal_digit home one) in
+    let second = sym (decimal_digit source other) in
+    let third = append-nil (decimal n) ∙ ap decimal same in
+    more ∙ ap (λ t. t ++ 32 ∷ (decimal n ++ [])) put ∙ append_assoc before (codes "append " ++ (48 + home) ∷ 32 ∷ (48 + source) ∷ []) (32 ∷ (decimal n ++ []))
+    ∙ (λ i. before ++ (codes "append" ++ 32 ∷ (first i ++ 32 ∷ (second i ++ 32 ∷ third i))))

@@ -62,11 +62,7 @@ fn append(line: &[u8]) -> Option<Event>
     })
 }
 
-fn submit(
-    alloc: Global,
-    line: &[u8],
-    names: &mut RecentNames,
-) -> Result<Option<Event>, NoMemory>
+fn submit(alloc: Global, line: &[u8], names: &mut RecentNames) -> Result<Option<Event>, NoMemory>
     requires { length line.now < 2 ^ 32 }
     ensures { IfOk result (λ event. IfSome event (IsEventLine line.now)) }
 {
@@ -82,11 +78,7 @@ fn submit(
     Ok(Some(Event::Submit { region, session }))
 }
 
-fn answer(
-    alloc: Global,
-    line: &[u8],
-    names: &mut RecentNames,
-) -> Result<Option<Event>, NoMemory>
+fn answer(alloc: Global, line: &[u8], names: &mut RecentNames) -> Result<Option<Event>, NoMemory>
     requires { length line.now < 2 ^ 32 }
     ensures { IfOk result (λ event. IfSome event (IsEventLine line.now)) }
 {
@@ -116,7 +108,20 @@ fn after_insert(line: &[u8]) -> Option<(u8, u8)>
 fn after_execute(line: &[u8]) -> Option<(u8, &[u8])>
     ensures { IfSome result (λ found. line.now ≡ codes "execute " ++ found.0 ∷ 32 ∷ found.1.now) }
 {
-    let [b'e', b'x', b'e', b'c', b'u', b't', b'e', b' ', region, b' ', id @ ..] = line else {
+    let [
+        b'e',
+        b'x',
+        b'e',
+        b'c',
+        b'u',
+        b't',
+        b'e',
+        b' ',
+        region,
+        b' ',
+        id @ ..,
+    ] = line
+    else {
         return None;
     };
     Some((*region, id))
@@ -126,7 +131,20 @@ fn after_execute(line: &[u8]) -> Option<(u8, &[u8])>
 fn after_append(line: &[u8]) -> Option<(u8, u8, &[u8])>
     ensures { IfSome result (λ found. line.now ≡ codes "append " ++ found.0 ∷ 32 ∷ found.1 ∷ 32 ∷ found.2.now) }
 {
-    let [b'a', b'p', b'p', b'e', b'n', b'd', b' ', home, b' ', source, b' ', number @ ..] = line
+    let [
+        b'a',
+        b'p',
+        b'p',
+        b'e',
+        b'n',
+        b'd',
+        b' ',
+        home,
+        b' ',
+        source,
+        b' ',
+        number @ ..,
+    ] = line
     else {
         return None;
     };
@@ -137,7 +155,19 @@ fn after_append(line: &[u8]) -> Option<(u8, u8, &[u8])>
 fn after_submit(line: &[u8]) -> Option<(u8, &[u8])>
     ensures { IfSome result (λ found. line.now ≡ codes "submit " ++ found.0 ∷ 32 ∷ found.1.now) }
 {
-    let [b's', b'u', b'b', b'm', b'i', b't', b' ', region, b' ', session @ ..] = line else {
+    let [
+        b's',
+        b'u',
+        b'b',
+        b'm',
+        b'i',
+        b't',
+        b' ',
+        region,
+        b' ',
+        session @ ..,
+    ] = line
+    else {
         return None;
     };
     Some((*region, session))
@@ -147,7 +177,19 @@ fn after_submit(line: &[u8]) -> Option<(u8, &[u8])>
 fn after_answer(line: &[u8]) -> Option<(u8, &[u8])>
     ensures { IfSome result (λ found. line.now ≡ codes "answer " ++ found.0 ∷ 32 ∷ found.1.now) }
 {
-    let [b'a', b'n', b's', b'w', b'e', b'r', b' ', region, b' ', session @ ..] = line else {
+    let [
+        b'a',
+        b'n',
+        b's',
+        b'w',
+        b'e',
+        b'r',
+        b' ',
+        region,
+        b' ',
+        session @ ..,
+    ] = line
+    else {
         return None;
     };
     Some((*region, session))

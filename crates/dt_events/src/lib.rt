@@ -7,6 +7,7 @@
 mod common_lines;
 mod event;
 mod laws;
+mod numbered;
 mod printed;
 mod reader;
 mod recent_names;
@@ -17,5 +18,6 @@ pub use laws::{
     events_have_no_fault, files_are_one_list, files_have_an_outcome, files_have_one_fault,
     lines_are_one_event, printed_events_read_back,
 };
+pub use numbered::NumberedEvents;
 pub use printed::{put_event, put_number};
 pub use reader::{EventsError, read_events};

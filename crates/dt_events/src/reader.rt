@@ -8,6 +8,7 @@ ghost use Rattle.dt_events.specs.ReadingInner.{AreIds, AreShort, Reads, ReadsEve
 
 use crate::common_lines::common_event;
 use crate::event::Event;
+use crate::numbered::NumberedEvents;
 use crate::recent_names::RecentNames;
 use crate::words::bare_words;
 use dt_access::{Ids, read_id};
@@ -63,18 +64,19 @@ impl<T: Drop> From<AllocFailed<T>> for EventsError {
 /// `deliver R H A B`, `insert R H`, `resolve R ID ID` with two or more ids, `execute R ID` or
 /// `answer R S`. A region is a number at most 255, any other number is at most 4294967295, and a
 /// session is a name. `Form` names the first line that is neither skipped nor an event.
-pub fn read_events(alloc: Global, bytes: &[u8]) -> Result<Vec<(u32, Event)>, EventsError>
+pub fn read_events(alloc: Global, bytes: &[u8]) -> Result<NumberedEvents, EventsError>
     requires { length bytes.now < 2 ^ 32 }
-    ensures events { IfOk result (λ events. AreEvents bytes.now events.items) }
+    ensures events { IfOk result (λ events. AreEvents bytes.now events) }
     ensures form { (number : ℕ) → result ≡ Err (EventsError.Form number) → FirstWithoutForm (lines_of bytes.now) number }
 {
-    let mut events = Vec::new(alloc);
+    // Lines have more bytes than this on the mean, so that the lists are seldom moved while they grow.
+    let mut events = NumberedEvents::with_capacity(alloc, bytes.len() / 12)?;
     let mut names = RecentNames::new(alloc)?;
     let mut words = Vec::new(alloc);
     let mut lines = Lines::new(bytes);
     while let Some(line) = lines.next() {
         match read_event(alloc, line.bytes, &mut names, &mut words)? {
-            Some(event) => events.push((line.number, event))?,
+            Some(event) => events.push(line.number, event)?,
             None => return Err(EventsError::Form(line.number)),
         }
     }
