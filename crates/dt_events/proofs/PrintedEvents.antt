@@ -142,7 +142,7 @@ joined_bare w ws bare all =
     (Bare 0 (length w) ∷ placed (length w) ws, are_joined w ws bare all, λ i. Some (head i) ∷ tail i)
 
 -- the text of an event is the event
-text_is_event : (e : Event) → IsWritten e → IsEventLine (event_text e) e
+pub text_is_event : (e : Event) → IsWritten e → IsEventLine (event_text e) e
 text_is_event e written =
     let bare = bare_words e written in
     (written, subst (λ t. AreBareWords t (event_words e)) (sym (join_spaced (kind_word e) (decimal (region_of e) ∷ argument_words e))) (joined_bare (kind_word e) (decimal (region_of e) ∷ argument_words e) bare.0 bare.1))

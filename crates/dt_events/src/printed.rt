@@ -62,7 +62,7 @@ fn put_text(alloc: Global, out: &mut Vec<u8>, event: &Event) -> Result<(), NoMem
             *region,
             ids.get().as_slice(),
         ),
-        Event::Execute { region, id } => put_ids(alloc, out, b"execute", *region, &[*id]),
+        Event::Execute { region, id } => put_execute(alloc, out, *region, *id),
         Event::Answer { region, session } => put_session(alloc, out, b"answer", *region, session),
     }
 }
@@ -77,6 +77,12 @@ fn put_append(
     ensures added { OnOk result (out.new.items ≡ out.old.items ++ event_text (Event.Append home source number)) }
     ensures kept { OnErr result (Keeps out.old.items out.new.items) }
 {
+    if home < 10 && source < 10 {
+        // As nearly all regions are: so many bytes are best appended at once.
+        let (home, source) = (b'0' + home, b'0' + source);
+        out.extend_from_slice(&[b'a', b'p', b'p', b'e', b'n', b'd', b' ', home, b' ', source])?;
+        return put_number(alloc, out, u64::from(number));
+    }
     put_begin(alloc, &mut *out, b"append", home)?;
     put_number(alloc, &mut *out, u64::from(source))?;
     put_number(alloc, &mut *out, u64::from(number))
@@ -103,8 +109,25 @@ fn put_insert(alloc: Global, out: &mut Vec<u8>, region: u8, home: u8) -> Result<
     ensures added { OnOk result (out.new.items ≡ out.old.items ++ event_text (Event.Insert region home)) }
     ensures kept { OnErr result (Keeps out.old.items out.new.items) }
 {
+    if region < 10 && home < 10 {
+        let (region, home) = (b'0' + region, b'0' + home);
+        out.extend_from_slice(&[b'i', b'n', b's', b'e', b'r', b't', b' ', region, b' ', home])?;
+        return Ok(());
+    }
     put_begin(alloc, &mut *out, b"insert", region)?;
     put_number(alloc, &mut *out, u64::from(home))
+}
+
+fn put_execute(alloc: Global, out: &mut Vec<u8>, region: u8, id: TxnId) -> Result<(), NoMemory>
+    ensures added { OnOk result (out.new.items ≡ out.old.items ++ event_text (Event.Execute region id)) }
+    ensures kept { OnErr result (Keeps out.old.items out.new.items) }
+{
+    if region < 10 {
+        let region = b'0' + region;
+        out.extend_from_slice(&[b'e', b'x', b'e', b'c', b'u', b't', b'e', b' ', region, b' '])?;
+        return put_id(alloc, out, id);
+    }
+    put_ids(alloc, out, b"execute", region, &[id])
 }
 
 /// Appends the text of an event with a session.

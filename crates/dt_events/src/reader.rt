@@ -2,15 +2,17 @@ ghost use Rattle.std.specs.Prelude.{◌≡◌, ℕ, ◌<◌, ◌^◌, ◌∷◌,
 ghost use Rattle.std.specs.Fmt.{decimal};
 ghost use Rattle.dt_text.specs.Lines.{lines_of};
 ghost use Rattle.dt_text.specs.Numbers.{ReadsNumber};
-ghost use Rattle.dt_text.specs.Texts.{IsName};
 ghost use Rattle.dt_access.specs.Ids.{id_text};
 ghost use Rattle.dt_events.specs.Events.{AreEvents, FirstWithoutForm, IsEventLine};
 ghost use Rattle.dt_events.specs.ReadingInner.{AreIds, AreShort, Reads, ReadsEvent, spelled};
 
+use crate::common_lines::common_event;
 use crate::event::Event;
+use crate::numbered::NumberedEvents;
+use crate::recent_names::RecentNames;
 use crate::words::bare_words;
 use dt_access::{Ids, read_id};
-use dt_text::{Common, Lines, Name, NoMemory, are_same, read_u32};
+use dt_text::{Common, Lines, NoMemory, are_same, read_u32};
 use std::alloc::{AllocFailed, Global};
 use std::fmt;
 
@@ -62,17 +64,19 @@ impl<T: Drop> From<AllocFailed<T>> for EventsError {
 /// `deliver R H A B`, `insert R H`, `resolve R ID ID` with two or more ids, `execute R ID` or
 /// `answer R S`. A region is a number at most 255, any other number is at most 4294967295, and a
 /// session is a name. `Form` names the first line that is neither skipped nor an event.
-pub fn read_events(alloc: Global, bytes: &[u8]) -> Result<Vec<(u32, Event)>, EventsError>
+pub fn read_events(alloc: Global, bytes: &[u8]) -> Result<NumberedEvents, EventsError>
     requires { length bytes.now < 2 ^ 32 }
-    ensures events { IfOk result (λ events. AreEvents bytes.now events.items) }
+    ensures events { IfOk result (λ events. AreEvents bytes.now events) }
     ensures form { (number : ℕ) → result ≡ Err (EventsError.Form number) → FirstWithoutForm (lines_of bytes.now) number }
 {
-    let mut events = Vec::new(alloc);
+    // Lines have more bytes than this on the mean, so that the lists are seldom moved while they grow.
+    let mut events = NumberedEvents::with_capacity(alloc, bytes.len() / 12)?;
+    let mut names = RecentNames::new(alloc)?;
     let mut words = Vec::new(alloc);
     let mut lines = Lines::new(bytes);
     while let Some(line) = lines.next() {
-        match read_event(alloc, line.bytes, &mut words)? {
-            Some(event) => events.push((line.number, event))?,
+        match read_event(alloc, line.bytes, &mut names, &mut words)? {
+            Some(event) => events.push(line.number, event)?,
             None => return Err(EventsError::Form(line.number)),
         }
     }
@@ -84,20 +88,28 @@ pub fn read_events(alloc: Global, bytes: &[u8]) -> Result<Vec<(u32, Event)>, Eve
 fn read_event<'a>(
     alloc: Global,
     line: &'a [u8],
+    names: &mut RecentNames,
     words: &mut Vec<&'a [u8]>,
 ) -> Result<Option<Event>, NoMemory>
     requires { length line.now < 2 ^ 32 }
     ensures { IfOk result (λ event. MatchOption event ((e : Event) → ¬ IsEventLine line.now e) (IsEventLine line.now)) }
 {
+    if let Some(event) = common_event(alloc, line, &mut *names)? {
+        return Ok(Some(event));
+    }
     let made = bare_words(line, &mut *words)?;
     if !made {
         return Ok(None);
     }
-    event_of_words(alloc, words.as_slice())
+    event_of_words(alloc, words.as_slice(), names)
 }
 
 /// The event with these words.
-fn event_of_words(alloc: Global, words: &[&[u8]]) -> Result<Option<Event>, NoMemory>
+fn event_of_words(
+    alloc: Global,
+    words: &[&[u8]],
+    names: &mut RecentNames,
+) -> Result<Option<Event>, NoMemory>
     requires { AreShort (spelled words.now) }
     ensures { IfOk result (ReadsEvent (spelled words.now)) }
 {
@@ -110,7 +122,7 @@ fn event_of_words(alloc: Global, words: &[&[u8]]) -> Result<Option<Event>, NoMem
     let Some(region) = read_region(region) else {
         return Ok(None);
     };
-    event_of_kind(alloc, kind, region, arguments)
+    event_of_kind(alloc, kind, region, arguments, names)
 }
 
 /// The event of this kind and region with these arguments.
@@ -119,12 +131,13 @@ fn event_of_kind(
     kind: &[u8],
     region: u8,
     arguments: &[&[u8]],
+    names: &mut RecentNames,
 ) -> Result<Option<Event>, NoMemory>
     requires { AreShort (spelled arguments.now) }
     ensures { IfOk result (ReadsEvent (kind.now ∷ decimal region ∷ spelled arguments.now)) }
 {
     if are_same(kind, b"submit") {
-        submit(alloc, region, arguments)
+        submit(alloc, region, arguments, names)
     } else if are_same(kind, b"append") {
         Ok(append(region, arguments))
     } else if are_same(kind, b"deliver") {
@@ -136,20 +149,25 @@ fn event_of_kind(
     } else if are_same(kind, b"execute") {
         Ok(execute(region, arguments))
     } else if are_same(kind, b"answer") {
-        answer(alloc, region, arguments)
+        answer(alloc, region, arguments, names)
     } else {
         Ok(None)
     }
 }
 
-fn submit(alloc: Global, region: u8, arguments: &[&[u8]]) -> Result<Option<Event>, NoMemory>
+fn submit(
+    alloc: Global,
+    region: u8,
+    arguments: &[&[u8]],
+    names: &mut RecentNames,
+) -> Result<Option<Event>, NoMemory>
     requires { AreShort (spelled arguments.now) }
     ensures { IfOk result (ReadsEvent (codes "submit" ∷ decimal region ∷ spelled arguments.now)) }
 {
     let Some(session) = one_word(arguments) else {
         return Ok(None);
     };
-    let Some(session) = read_session(alloc, session)? else {
+    let Some(session) = names.read(alloc, session)? else {
         return Ok(None);
     };
     Ok(Some(Event::Submit { region, session }))
@@ -215,14 +233,19 @@ fn execute(region: u8, arguments: &[&[u8]]) -> Option<Event>
     Some(Event::Execute { region, id })
 }
 
-fn answer(alloc: Global, region: u8, arguments: &[&[u8]]) -> Result<Option<Event>, NoMemory>
+fn answer(
+    alloc: Global,
+    region: u8,
+    arguments: &[&[u8]],
+    names: &mut RecentNames,
+) -> Result<Option<Event>, NoMemory>
     requires { AreShort (spelled arguments.now) }
     ensures { IfOk result (ReadsEvent (codes "answer" ∷ decimal region ∷ spelled arguments.now)) }
 {
     let Some(session) = one_word(arguments) else {
         return Ok(None);
     };
-    let Some(session) = read_session(alloc, session)? else {
+    let Some(session) = names.read(alloc, session)? else {
         return Ok(None);
     };
     Ok(Some(Event::Answer { region, session }))
@@ -266,17 +289,6 @@ fn read_region(word: &[u8]) -> Option<u8>
     ensures { ReadsNumber (2 ^ 8) word.now result }
 {
     u8::try_from(read_u32(word)?).ok()
-}
-
-/// Reads the name of a session.
-fn read_session(alloc: Global, word: &[u8]) -> Result<Option<Name>, NoMemory>
-    requires { length word.now < 2 ^ 32 }
-    ensures { IfOk result (λ name. MatchOption name (¬ IsName word.now) (λ n. IsName n × (n ≡ word.now))) }
-{
-    if !Name::is_name(word) {
-        return Ok(None);
-    }
-    Ok(Some(Name::new(alloc, word)?))
 }
 
 /// Reads ids, one from each word.

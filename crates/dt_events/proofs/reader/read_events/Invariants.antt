@@ -9,7 +9,7 @@ use Rattle.dt_events.proofs.reader.read_events.Given as goal
 abbrev pub invariant-loop-line : goal.invariant-loop-line
 invariant-loop-line l =
     AllIn (IsLineWithin (length l.bytes)) l.lines
-    × ((rest : List (ℕ × Event)) → Pairwise IsNumberedEvent l.lines rest → Pairwise IsNumberedEvent (lines_of l.bytes) (l.events.items ++ rest))
+    × ((rest : List (ℕ × Event)) → Pairwise IsNumberedEvent l.lines rest → Pairwise IsNumberedEvent (lines_of l.bytes) (l.events ++ rest))
     × ((number : ℕ) → FirstWithoutForm l.lines number → FirstWithoutForm (lines_of l.bytes) number)
 
 abbrev pub decreases-loop-line : goal.decreases-loop-line
