@@ -1,7 +1,7 @@
 -- The sessions of a region, gathered from a workload and found by their names.
-use Rattle.std.proofs.Common.{◌≡◌, ◌≢◌, ◌⊎◌, ◌<◌, ◌≤◌, ◌+◌, ◌-◌, ◌==◌, ℕ, zero, suc, Bool, true, false, cond, eq-eqb, eqb, eqb-true, List, [], ◌∷◌}
+use Rattle.std.proofs.Common.{◌≡◌, ◌≢◌, ◌⊎◌, ◌<◌, ◌≤◌, ◌+◌, ◌-◌, ◌^◌, ◌==◌, ℕ, zero, suc, Bool, true, false, cond, eq-eqb, eqb, eqb-true, List, [], ◌∷◌}
 use Rattle.std.proofs.Common.{length, map, reverse, get_or, drop, slice_get, ◌++◌, Some, None, refl, sym, ap, subst, ◌∙◌, inl, inr, arith}
-use Rattle.std.specs.Prelude.{◌↔◌, Option, IsTrue, option_map}
+use Rattle.std.specs.Prelude.{◌↔◌, Option, IsTrue, is_some, option_map, position}
 use Rattle.std.specs.List.{All, AllByRecursion}
 use Rattle.std.specs.List.Sorted.{IsStrictlySortedBy}
 use Rattle.std.specs.declared.cmp.Ordering.{Ordering}
@@ -10,10 +10,11 @@ use Rattle.std.specs.Ordering.{is_lt, nat_cmp}
 use Rattle.std.specs.Cmp.Lexicographic.{bytes_decides, slice_cmp, texts_ties}
 use Rattle.std.specs.BTreeMap.{insert_entry}
 use Rattle.std.specs.Map.{keys_of, lookup, set_value}
-use Rattle.std.proofs.lemmas.Map.{keys-set_value}
+use Rattle.std.proofs.lemmas.Map.{keys-set_value, length-set_value}
 use Rattle.std.proofs.lemmas.Map.Steps.{set_value_same}
 use Rattle.std.proofs.lemmas.Bool.{cases_Bool, false_from_ne_true}
-use Rattle.std.proofs.lemmas.Option.{same_Some}
+use Rattle.std.proofs.lemmas.List.Quantifiers.{position-Some}
+use Rattle.std.proofs.lemmas.Option.{same_Some, slice_get-get_or}
 use Rattle.std.proofs.lemmas.List.{append_assoc, drop_more, get_or-reverse, length-append, length-reverse}
 use Rattle.std.proofs.lemmas.List.Sums.{sum_by-cons}
 use Rattle.indexmap.specs.IndexMap.{IndexMap, insert_entry as insert_last}
@@ -142,15 +143,7 @@ module _ {X : Type 0} (region : ℕ) (sessions : List Session) (once : Distinct 
       let not : eqb s.region region ≡ false = false_from_ne_true (eqb s.region region) (λ e. away (eqb-true s.region region e)) in
       sym (ap (sessions_at region) parts ∙ rw not refl)
 
--- a session that is found stands soundly, and where one that stands soundly is put in its place, all do
-
-pub found_sound : (entries : List (Bytes × Seat)) (name : Bytes) (seat : Seat) → AllIn (λ p. IsSoundSeat p.1) entries → lookup (is_named name) entries ≡ Some seat → IsSoundSeat seat
-found_sound [] name seat a e = cc
-found_sound (p ∷ entries) name seat a e = go (cases_Bool (is_named name p.0)) (found_sound entries name seat a.1)
-  where
-    go : (is_named name p.0 ≡ true) ⊎ (is_named name p.0 ≡ false) → (lookup (is_named name) entries ≡ Some seat → IsSoundSeat seat) → IsSoundSeat seat
-    go (inl y) f = let here : ◌≡◌ {A = Option Seat} (Some p.1) (Some seat) = rw y at e in let same : p.1 ≡ seat = cc in subst IsSoundSeat same a.0
-    go (inr n) f = f (rw n at e)
+-- where a session that stands soundly is put in the place of another, all do
 
 pub put_sound : (entries : List (Bytes × Seat)) (name : Bytes) (seat : Seat) → AllIn (λ p. IsSoundSeat p.1) entries → IsSoundSeat seat → AllIn (λ p. IsSoundSeat p.1) (set_value (is_named name) entries seat)
 put_sound [] name seat a sound = tt
@@ -180,7 +173,11 @@ put_ascends entries name seat a =
     (subst (EachThen KeyBefore) (sym (keys-set_value (is_named name) entries seat)) (each_image KeyBefore (λ p. p.0) entries a))
 
 pub put_sound_seat : (entries : List (Bytes × Seat)) (name : Bytes) (seat : Seat) → AreSoundSeats entries → IsSoundSeat seat → AreSoundSeats (set_value (is_named name) entries seat)
-put_sound_seat entries name seat a sound = record { ascending = put_ascends entries name seat a.ascending; each = put_sound entries name seat a.each sound }
+put_sound_seat entries name seat a sound = record {
+  few = subst (λ n. n < 2 ^ 32) (sym (length-set_value (is_named name) entries seat)) a.few;
+  ascending = put_ascends entries name seat a.ascending;
+  each = put_sound entries name seat a.each sound;
+}
 
 -- a session is found by its name
 pub seat_found : (entries : List (Bytes × Seat)) (p : Bytes × Seat) → HasAscendingKeys entries → Has entries p → lookup (is_named p.0) entries ≡ Some p.1
@@ -237,12 +234,19 @@ written_there (q ∷ entries) (suc i) p seat a e =
 pub looked_up : (entries : List (Bytes × Seat)) (name : Bytes) → lookup (same_key name) entries ≡ lookup (is_named name) entries
 looked_up entries name = ap (λ test. lookup test entries) (λ j other. texts_ties name other j)
 
-pub seat_written : (entries : List (Bytes × Seat)) (name : Bytes) (seat : Seat) → set_value (same_key name) entries seat ≡ set_value (is_named name) entries seat
-seat_written entries name seat = ap (λ test. set_value test entries seat) (λ j other. texts_ties name other j)
+-- where the map finds a name, the name stands
+pub placed : (entries : List (Bytes × Seat)) (name : Bytes) (i : ℕ) → position (same_key name) (keys_of entries) ≡ Some i → slice_get (keys_of entries) i ≡ Some name
+placed entries name i e =
+    let p = position-Some (same_key name) (keys_of entries) i [] e in
+    slice_get-get_or (keys_of entries) i [] p.0 ∙ ap Some (sym ((bytes_decides name (get_or (keys_of entries) i [])).0 p.1))
 
--- so the map finds the session of a name
-pub mapped : (s : SessionsView) (name : Bytes) (o : Option Seat) → o ≡ lookup (same_key name) s.seats → seat_of s name ≡ o
-mapped s name o e = sym (e ∙ looked_up s.seats name)
+-- where it finds none, there is no session of that name
+pub not_placed : (entries : List (Bytes × Seat)) (name : Bytes) → false ≡ is_some (lookup (same_key name) entries) → lookup (is_named name) entries ≡ None
+not_placed entries name e = sym (looked_up entries name) ∙ none (lookup (same_key name) entries) e
+  where
+    none : (o : Option Seat) → false ≡ is_some o → o ≡ None
+    none None e = refl
+    none (Some seat) e = cc
 
 -- what follows where the session of a name is found, and another is put in its place
 module _ (s v : SessionsView) (is : s ≡ v) (name : Bytes) (seat : Seat) (found : seat_of s name ≡ Some seat) where
@@ -297,11 +301,6 @@ names_answered s a name seat found = found_answered s.seats name seat a found
 
 pub answered_of_names : (s : SessionsView) → HasAscendingKeys s.seats → EachNameIsAnswered s → AreAllAnswered s
 answered_of_names s a each = all_put _ s.seats (λ p h. each p.0 p.1 (seat_found s.seats p a h))
-
--- what is allowed of a session, by what it waits for
-
-pub not_here : (s : SessionsView) (name : Bytes) (last : Option Outcome) → seat_of s name ≡ None → MayBeAnswered s name last → ⊥
-not_here s name last e m = subst (λ o. MaySeatEnd s.tries o last) e m
 
 -- what holds of each place holds along the sessions, and back
 

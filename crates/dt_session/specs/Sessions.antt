@@ -126,8 +126,10 @@ pub record IsSoundSeat (seat : Seat) : Type 0 where
   pub few : length seat.calls < 2 ^ 32
   pub within : StandsWithin (length seat.calls) seat.answered seat.waits
 
--- what the type keeps of all sessions: they stand in byte order of their names, so that no two have one name
+-- what the type keeps of all sessions: their places are counted by 32 bits, and they stand in byte order of their names, so
+-- that no two have one name
 pub record AreSoundSeats (seats : List (Bytes × Seat)) : Type 0 where
+  pub few : length seats < 2 ^ 32
   pub ascending : HasAscendingKeys seats
   pub each : AllIn (λ p. IsSoundSeat p.1) seats
 

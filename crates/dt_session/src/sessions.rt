@@ -1,4 +1,4 @@
-ghost use Rattle.std.specs.Prelude.{◌≡◌, ◌↔◌, ◌≤◌, ◌<◌, ◌+◌, ◌-◌, length, map, option_and_then, option_map, slice_get, IfOk, IfSome, IsSome, IsTrue, Some};
+ghost use Rattle.std.specs.Prelude.{◌≡◌, ◌↔◌, ◌≤◌, ◌<◌, ◌+◌, ◌-◌, length, map, option_and_then, option_map, slice_get, ◌^◌, IfOk, IfSome, IsSome, IsTrue, MatchOption, None, Some};
 ghost use Rattle.std.specs.Option.{option_copied};
 ghost use Rattle.dt_lists.specs.Lists.{Distinct};
 ghost use Rattle.dt_access.specs.Clash.{Bytes};
@@ -85,12 +85,11 @@ impl Sessions {
         })
     }
 
-    /// The session of this name, if it is here.
-    fn seat(&self, session: &Name) -> Option<&Seat>
-        ensures found { option_copied result ≡ seat_of self.now session.now }
-        ensures sound { AreSoundSeats self.now.seats }
+    /// The place, from 0, in byte order of names, of the session of this name. `None` exactly where it is not here.
+    pub fn place_of(&self, session: &Name) -> Option<u32>
+        ensures { MatchOption result (seat_of self.now session.now ≡ None) (λ place. StandsAt self.now place session.now) }
     {
-        self.seats.get(session)
+        Some(self.seats.get_index_of(session)? as u32)
     }
 
     /// The session at this place, from 0, in byte order of names, if one stands there.
@@ -103,32 +102,14 @@ impl Sessions {
         Some(seat)
     }
 
-    /// The numbers of the call and of the attempt, both from 1, that the session of this name may submit next. `last` is the
-    /// outcome here of the attempt that it waits for, if there is one. `None` exactly where it may submit nothing.
-    pub fn next(&self, session: &Name, last: Option<&Outcome>) -> Option<(u32, u32)>
-        ensures { IsNext self.now session.now (option_copied last.entry) result }
-    {
-        next_numbers(self.tries, self.seat(session)?, last)
-    }
-
-    /// The numbers that `next` gives for the session at this place, from 0, in byte order of names. `None` too where no session
-    /// stands there.
+    /// The numbers of the call and of the attempt, both from 1, that the session at this place, from 0, in byte order of names,
+    /// may submit next. `last` is the outcome here of the attempt that it waits for, if there is one. `None` exactly where it may
+    /// submit nothing, or no session stands there.
     pub fn next_at(&self, index: u32, last: Option<&Outcome>) -> Option<(u32, u32)>
         ensures numbers { (name : Bytes) → StandsAt self.now index name → IsNext self.now name (option_copied last.entry) result }
         ensures there { IsSome result → index < length self.now.seats }
     {
         next_numbers(self.tries, self.seat_at(index)?, last)
-    }
-
-    /// Lets the session of this name wait for its next attempt, which got this id. `next` gives its numbers.
-    pub fn wait(&mut self, session: &Name, id: TxnId, last: Option<&Outcome>)
-        requires { MayGo self.old session.now (option_copied last) }
-        ensures { self.new ≡ after_wait self.old session.now id }
-    {
-        let Some(seat) = self.seats.get_mut(session) else {
-            unreachable!()
-        };
-        begin_try(self.tries, seat, id, last);
     }
 
     /// Lets the session at this place, from 0, in byte order of names, wait for its next attempt, which got this id. `next_at`
@@ -143,26 +124,8 @@ impl Sessions {
         begin_try(self.tries, seat, id, last);
     }
 
-    /// The attempt that the session of this name waits for. `None` exactly where it is idle or not here.
-    pub fn waits(&self, session: &Name) -> Option<TxnId>
-        ensures { result ≡ waits_of self.now session.now }
-    {
-        waited_for(self.seat(session)?)
-    }
-
-    /// The rank of the call of this number, from 1, of the session of this name, and what it is to do.
-    pub fn body(&self, alloc: Global, session: &Name, call: u32) -> Result<(u8, Body), NoMemory>
-        requires from { 1 ≤ call }
-        requires there { IsSome (wanted_of self.now session.now call) }
-        ensures { IfOk result (λ answer. option_map ranked_body (wanted_of self.now session.now call) ≡ Some answer) }
-    {
-        let Some(seat) = self.seat(session) else {
-            unreachable!()
-        };
-        call_body(alloc, seat, call)
-    }
-
-    /// What `body` gives for the session at this place, from 0, in byte order of names.
+    /// The rank of the call of this number, from 1, of the session at this place, from 0, in byte order of names, and what it is
+    /// to do.
     pub fn body_at(&self, alloc: Global, index: u32, call: u32) -> Result<(u8, Body), NoMemory>
         requires from { 1 ≤ call }
         requires there { (name : Bytes) × StandsAt self.now index name × IsSome (wanted_of self.now name call) }
@@ -203,17 +166,6 @@ impl Sessions {
             .all(|entry| entry.1.answered as usize == entry.1.calls.len())
     }
 
-    /// Whether the session of this name may be answered. `last` is the outcome here of the attempt that it waits for, if there
-    /// is one.
-    pub fn may_answer(&self, session: &Name, last: Option<&Outcome>) -> bool
-        ensures { IsTrue result ↔ MayBeAnswered self.now session.now (option_copied last.entry) }
-    {
-        let Some(seat) = self.seat(session) else {
-            return false;
-        };
-        is_answerable(self.tries, seat, last)
-    }
-
     /// Whether the session at this place, from 0, in byte order of names, may be answered. `last` is the outcome here of the
     /// attempt that it waits for, if there is one. `false` too where no session stands there.
     pub fn may_answer_at(&self, index: u32, last: Option<&Outcome>) -> bool
@@ -226,21 +178,9 @@ impl Sessions {
         is_answerable(self.tries, seat, last)
     }
 
-    /// Answers the session of this name, if it may be answered: it waits for nothing then, before its next call. `last` is
-    /// the outcome here of the attempt that it waits for, if there is one. Where it may not, nothing changes.
-    pub fn answer(&mut self, session: &Name, last: Option<&Outcome>) -> bool
-        ensures legal { IsTrue result ↔ MayBeAnswered self.old session.now (option_copied last.entry) }
-        ensures answered { IsTrue result → self.new ≡ after_answer self.old session.now }
-        ensures same { ¬ (IsTrue result) → self.new ≡ self.old }
-    {
-        let Some(seat) = self.seats.get_mut(session) else {
-            return false;
-        };
-        end_call(self.tries, seat, last)
-    }
-
-    /// Answers the session at this place, from 0, in byte order of names, if it may be answered, as `answer` does. `false` too
-    /// where no session stands there.
+    /// Answers the session at this place, from 0, in byte order of names, if it may be answered: it waits for nothing then, before
+    /// its next call. `last` is the outcome here of the attempt that it waits for, if there is one. Where it may not, or no session
+    /// stands there, nothing changes.
     pub fn answer_at(&mut self, index: u32, last: Option<&Outcome>) -> bool
         ensures legal { (name : Bytes) → StandsAt self.old index name → IsTrue result ↔ MayBeAnswered self.old name (option_copied last.entry) }
         ensures answered { IsTrue result → (name : Bytes) → StandsAt self.old index name → self.new ≡ after_answer self.old name }
@@ -254,10 +194,14 @@ impl Sessions {
     }
 }
 
-/// The sessions of a map, in the order of their names.
+/// The sessions of a map, in the order of their names. There is no memory for more of them than 32 bits can count.
 fn listed(alloc: Global, seats: BTreeMap<Name, Seat>) -> Result<IndexMap<Name, Seat>, NoMemory>
-    ensures { IfOk result (λ listed. listed.entries ≡ seats.entries) }
+    ensures entries { IfOk result (λ listed. listed.entries ≡ seats.entries) }
+    ensures few { IfOk result (λ listed. length listed.entries < 2 ^ 32) }
 {
+    if seats.len() > u32::MAX as usize {
+        return Err(NoMemory);
+    }
     let mut listed = IndexMap::with_capacity(alloc, seats.len())?;
     for (name, seat) in seats {
         listed.insert(name, seat)?;

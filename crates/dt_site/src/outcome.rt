@@ -1,4 +1,4 @@
-//! The outcome at a region of the attempt that a session waits for, where the session is given by its name, or by its place.
+//! The outcome at a region of the attempt that a session waits for.
 ghost use Rattle.std.specs.Prelude.{◌≡◌, ◌<◌, length, option_and_then, IsSome};
 ghost use Rattle.std.specs.Option.{option_copied};
 ghost use Rattle.dt_access.specs.Clash.{Bytes};
@@ -8,19 +8,7 @@ ghost use Rattle.dt_session.specs.Sessions.{StandsAt, waits_of};
 use dt_region::Region;
 use dt_sched::Scheduler;
 use dt_session::Sessions;
-use dt_text::Name;
 use dt_txn::Outcome;
-
-/// The outcome at a region of the attempt that a session waits for, if there are both. Takes no memory.
-pub fn last_outcome<'a, S: Scheduler>(
-    sessions: &Sessions,
-    region: &'a Region<S>,
-    name: &Name,
-) -> Option<&'a Outcome>
-    ensures { option_copied result ≡ option_and_then (outcome_of region.now.state) (waits_of sessions.now name.now) }
-{
-    region.outcome(sessions.waits(name)?)
-}
 
 /// The outcome at a region of the attempt that the session at this place, from 0, in byte order of names, waits for, if there
 /// are all three. Takes no memory.

@@ -23,17 +23,23 @@ fn name_of(alloc: Global, bytes: &[u8]) -> Result<Name, Fail> {
 
 /// A session submits its next call, which gets the id of this number.
 fn submit(sessions: &mut Sessions, name: &Name, seq: u32) -> Result<(), Fail> {
-    let Some(_) = sessions.next(name, None) else {
+    let Some(place) = sessions.place_of(name) else {
+        return Err(Fail::from("the session is here"));
+    };
+    let Some(_) = sessions.next_at(place, None) else {
         return Err(Fail::from("the session has a call left"));
     };
-    sessions.wait(name, TxnId { seq, region: 0 }, None);
+    sessions.wait_at(place, TxnId { seq, region: 0 }, None);
     Ok(())
 }
 
 /// A session is answered.
 fn answer(alloc: Global, sessions: &mut Sessions, name: &Name) -> Result<(), Fail> {
+    let Some(place) = sessions.place_of(name) else {
+        return Err(Fail::from("the session is here"));
+    };
     let outcome = Outcome::Gave(Values::new(alloc));
-    let is_answered = sessions.answer(name, Some(&outcome));
+    let is_answered = sessions.answer_at(place, Some(&outcome));
     forget(outcome);
     if !is_answered {
         return Err(Fail::from("the session is answered"));

@@ -42,6 +42,6 @@ invariant_of-result c =
     let sessions : List Session = c.args.workload.now.sessions in
     let all = YieldsList-end (YieldsList-from_rev_slice {s = c.into_iter-session-iterator.result} sessions cc) c.loop-session.yielded c.loop-session.session-iterator c.loop-session.yielded_by _ _ c.in-None.is c.next.ensures.steps in
     let whole : length sessions - length c.loop-session.yielded ≡ 0 = omega (arith, all.1, length-reverse sessions) in
-    let listed : c.in_ok-listed.field-0.entries ≡ c.loop-session.seats.entries = c.in_ok-listed.ensures in
+    let listed : c.in_ok-listed.field-0.entries ≡ c.loop-session.seats.entries = c.in_ok-listed.ensures.entries in
     let each = subst (AllIn (λ p. IsSoundSeat p.1)) (sym (listed ∙ c.loop-session.invariant.0 ∙ ap (λ k. map idle_seat (sessions_at c.args.region (drop k sessions))) whole)) (idle_sound c.args.region sessions c.requires.few) in
-    record { ascending = subst HasAscendingKeys (sym listed) c.loop-session.invariant.1; each = each }
+    record { few = c.in_ok-listed.ensures.few; ascending = subst HasAscendingKeys (sym listed) c.loop-session.invariant.1; each = each }
