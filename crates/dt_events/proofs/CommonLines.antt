@@ -1,4 +1,4 @@
--- Lines that are printed with regions of one digit: they are their events, and are printed as these.
+-- Lines with regions of one digit: they are their events, and these are printed as they are.
 use Rattle.std.proofs.Common.{◌≡◌, ℕ, ◌+◌, ◌<◌, ◌^◌, List, [], ◌∷◌, ◌++◌, codes, ap, sym, ◌∙◌, subst, arith, append_assoc, append-nil}
 use Rattle.std.specs.Fmt.{decimal}
 use Rattle.std.proofs.lemmas.Fmt.{decimal_digit}
@@ -11,43 +11,44 @@ use Rattle.dt_events.specs.declared.event.Event.TheVariants.{Submit, Append, Ins
 use Rattle.dt_events.specs.Events.{IsWritten, IsEventLine, event_text}
 use Rattle.dt_events.proofs.PrintedEvents.{text_is_event}
 
--- the byte is the digit of the number
-abbrev pub IsDigit : ℕ → ℕ → Type 0
-IsDigit byte number = (number < 10) × (byte ≡ 48 + number)
-
-pub one_digit : (byte number : ℕ) → IsDigit byte number → decimal number ≡ byte ∷ []
-one_digit byte number is = decimal_digit number is.0 ∙ ap (λ b. b ∷ []) (sym is.1)
+-- the bytes are the digit of a region, a space and the rest
+abbrev pub BeginsWith : ℕ → List ℕ → List ℕ → Type 0
+BeginsWith region bytes rest = (region < 10) × (bytes ≡ (48 + region) ∷ 32 ∷ rest)
 
 printed : (line : List ℕ) (event : Event) → IsWritten event → event_text event ≡ line → IsEventLine line event
 printed line event written same = subst (λ text. IsEventLine text event) same (text_is_event event written)
 
-pub insert_line : (line : List ℕ) (a b region home : ℕ) → line ≡ codes "insert " ++ a ∷ 32 ∷ b ∷ [] → IsDigit a region → IsDigit b home → IsEventLine line (Insert region home)
-insert_line line a b region home is one other =
-    let first = one_digit a region one in
-    let second = one_digit b home other in
-    printed line (Insert region home) (omega (arith, one.0), omega (arith, other.0)) ((λ i. codes "insert" ++ 32 ∷ (first i ++ 32 ∷ second i)) ∙ sym is)
+-- a region, a space and other words
+region_then : (region : ℕ) (bytes rest more : List ℕ) → BeginsWith region bytes rest → more ≡ rest → decimal region ++ 32 ∷ more ≡ bytes
+region_then region bytes rest more begins same =
+    let digit = decimal_digit region begins.0 in
+    (λ i. digit i ++ 32 ∷ same i) ∙ sym begins.1
 
-pub execute_line : (line word : List ℕ) (a region : ℕ) (id : TxnId) → line ≡ codes "execute " ++ a ∷ 32 ∷ word → IsDigit a region → IsCounted id × (word ≡ id_text id) → IsEventLine line (Execute region id)
-execute_line line word a region id is one read =
-    let first = one_digit a region one in
-    printed line (Execute region id) (omega (arith, one.0), read.0) ((λ i. codes "execute" ++ 32 ∷ (first i ++ 32 ∷ sym read.1 i)) ∙ sym is)
+pub insert_line : (line bytes rest : List ℕ) (region home : ℕ) → line ≡ codes "insert " ++ bytes → BeginsWith region bytes rest → (home < 10) × (rest ≡ (48 + home) ∷ []) → IsEventLine line (Insert region home)
+insert_line line bytes rest region home is first last =
+    let words = region_then region bytes rest (decimal home) first (decimal_digit home last.0 ∙ sym last.1) in
+    printed line (Insert region home) (omega (arith, first.0), omega (arith, last.0)) ((λ i. codes "insert" ++ 32 ∷ words i) ∙ sym is)
 
-pub append_line : (line word : List ℕ) (a b home source number : ℕ) → line ≡ codes "append " ++ a ∷ 32 ∷ b ∷ 32 ∷ word → IsDigit a home → IsDigit b source → (number < 2 ^ 32) × (word ≡ decimal number)
+pub execute_line : (line bytes rest : List ℕ) (region : ℕ) (id : TxnId) → line ≡ codes "execute " ++ bytes → BeginsWith region bytes rest → IsCounted id × (rest ≡ id_text id) → IsEventLine line (Execute region id)
+execute_line line bytes rest region id is first read =
+    let words = region_then region bytes rest (id_text id) first (sym read.1) in
+    printed line (Execute region id) (omega (arith, first.0), read.0) ((λ i. codes "execute" ++ 32 ∷ words i) ∙ sym is)
+
+pub append_line : (line bytes rest word : List ℕ) (home source number : ℕ) → line ≡ codes "append " ++ bytes → BeginsWith home bytes rest → BeginsWith source rest word → (number < 2 ^ 32) × (word ≡ decimal number)
     → IsEventLine line (Append home source number)
-append_line line word a b home source number is one other read =
-    let first = one_digit a home one in
-    let second = one_digit b source other in
-    printed line (Append home source number) (omega (arith, one.0), omega (arith, other.0), read.0) ((λ i. codes "append" ++ 32 ∷ (first i ++ 32 ∷ (second i ++ 32 ∷ sym read.1 i))) ∙ sym is)
+append_line line bytes rest word home source number is first second read =
+    let words = region_then home bytes rest (decimal source ++ 32 ∷ decimal number) first (region_then source rest word (decimal number) second (sym read.1)) in
+    printed line (Append home source number) (omega (arith, first.0), omega (arith, second.0), read.0) ((λ i. codes "append" ++ 32 ∷ words i) ∙ sym is)
 
-pub submit_line : (line word : List ℕ) (a region : ℕ) (session : List ℕ) → line ≡ codes "submit " ++ a ∷ 32 ∷ word → IsDigit a region → IsName session × (session ≡ word) → IsEventLine line (Submit region session)
-submit_line line word a region session is one read =
-    let first = one_digit a region one in
-    printed line (Submit region session) (omega (arith, one.0), read.0) ((λ i. codes "submit" ++ 32 ∷ (first i ++ 32 ∷ read.1 i)) ∙ sym is)
+pub submit_line : (line bytes rest : List ℕ) (region : ℕ) (session : List ℕ) → line ≡ codes "submit " ++ bytes → BeginsWith region bytes rest → IsName session × (session ≡ rest) → IsEventLine line (Submit region session)
+submit_line line bytes rest region session is first read =
+    let words = region_then region bytes rest session first read.1 in
+    printed line (Submit region session) (omega (arith, first.0), read.0) ((λ i. codes "submit" ++ 32 ∷ words i) ∙ sym is)
 
-pub answer_line : (line word : List ℕ) (a region : ℕ) (session : List ℕ) → line ≡ codes "answer " ++ a ∷ 32 ∷ word → IsDigit a region → IsName session × (session ≡ word) → IsEventLine line (Answer region session)
-answer_line line word a region session is one read =
-    let first = one_digit a region one in
-    printed line (Answer region session) (omega (arith, one.0), read.0) ((λ i. codes "answer" ++ 32 ∷ (first i ++ 32 ∷ read.1 i)) ∙ sym is)
+pub answer_line : (line bytes rest : List ℕ) (region : ℕ) (session : List ℕ) → line ≡ codes "answer " ++ bytes → BeginsWith region bytes rest → IsName session × (session ≡ rest) → IsEventLine line (Answer region session)
+answer_line line bytes rest region session is first read =
+    let words = region_then region bytes rest session first read.1 in
+    printed line (Answer region session) (omega (arith, first.0), read.0) ((λ i. codes "answer" ++ 32 ∷ words i) ∙ sym is)
 
 -- ---- such events are printed
 

@@ -32,33 +32,31 @@ pub(crate) fn common_event(
 fn insert(line: &[u8]) -> Option<Event>
     ensures { IfSome result (IsEventLine line.now) }
 {
-    let (region, home) = after_insert(line)?;
-    Some(Event::Insert {
-        region: digit(region)?,
-        home: digit(home)?,
-    })
+    let (region, home) = region_first(after_insert(line)?)?;
+    let home = only_digit(home)?;
+    Some(Event::Insert { region, home })
 }
 
 fn execute(line: &[u8]) -> Option<Event>
     requires { length line.now < 2 ^ 32 }
     ensures { IfSome result (IsEventLine line.now) }
 {
-    let (region, id) = after_execute(line)?;
-    Some(Event::Execute {
-        region: digit(region)?,
-        id: read_id(id)?,
-    })
+    let (region, id) = region_first(after_execute(line)?)?;
+    let id = read_id(id)?;
+    Some(Event::Execute { region, id })
 }
 
 fn append(line: &[u8]) -> Option<Event>
     requires { length line.now < 2 ^ 32 }
     ensures { IfSome result (IsEventLine line.now) }
 {
-    let (home, source, number) = after_append(line)?;
+    let (home, arguments) = region_first(after_append(line)?)?;
+    let (source, number) = region_first(arguments)?;
+    let number = read_u32(number)?;
     Some(Event::Append {
-        home: digit(home)?,
-        source: digit(source)?,
-        number: read_u32(number)?,
+        home,
+        source,
+        number,
     })
 }
 
@@ -66,10 +64,10 @@ fn submit(alloc: Global, line: &[u8], names: &mut RecentNames) -> Result<Option<
     requires { length line.now < 2 ^ 32 }
     ensures { IfOk result (λ event. IfSome event (IsEventLine line.now)) }
 {
-    let Some((region, session)) = after_submit(line) else {
+    let Some(arguments) = after_submit(line) else {
         return Ok(None);
     };
-    let Some(region) = digit(region) else {
+    let Some((region, session)) = region_first(arguments) else {
         return Ok(None);
     };
     let Some(session) = names.read(alloc, session)? else {
@@ -82,10 +80,10 @@ fn answer(alloc: Global, line: &[u8], names: &mut RecentNames) -> Result<Option<
     requires { length line.now < 2 ^ 32 }
     ensures { IfOk result (λ event. IfSome event (IsEventLine line.now)) }
 {
-    let Some((region, session)) = after_answer(line) else {
+    let Some(arguments) = after_answer(line) else {
         return Ok(None);
     };
-    let Some(region) = digit(region) else {
+    let Some((region, session)) = region_first(arguments) else {
         return Ok(None);
     };
     let Some(session) = names.read(alloc, session)? else {
@@ -94,19 +92,19 @@ fn answer(alloc: Global, line: &[u8], names: &mut RecentNames) -> Result<Option<
     Ok(Some(Event::Answer { region, session }))
 }
 
-/// The bytes of the two regions of an insertion.
-fn after_insert(line: &[u8]) -> Option<(u8, u8)>
-    ensures { IfSome result (λ found. line.now ≡ codes "insert " ++ found.0 ∷ 32 ∷ found.1 ∷ []) }
+/// What follows the kind of an insertion.
+fn after_insert(line: &[u8]) -> Option<&[u8]>
+    ensures { IfSome result (λ arguments. line.now ≡ codes "insert " ++ arguments.now) }
 {
-    let [b'i', b'n', b's', b'e', b'r', b't', b' ', region, b' ', home] = line else {
+    let [b'i', b'n', b's', b'e', b'r', b't', b' ', arguments @ ..] = line else {
         return None;
     };
-    Some((*region, *home))
+    Some(arguments)
 }
 
-/// The byte of the region of an execution, and the word of the id.
-fn after_execute(line: &[u8]) -> Option<(u8, &[u8])>
-    ensures { IfSome result (λ found. line.now ≡ codes "execute " ++ found.0 ∷ 32 ∷ found.1.now) }
+/// What follows the kind of an execution.
+fn after_execute(line: &[u8]) -> Option<&[u8]>
+    ensures { IfSome result (λ arguments. line.now ≡ codes "execute " ++ arguments.now) }
 {
     let [
         b'e',
@@ -117,82 +115,62 @@ fn after_execute(line: &[u8]) -> Option<(u8, &[u8])>
         b't',
         b'e',
         b' ',
-        region,
-        b' ',
-        id @ ..,
+        arguments @ ..,
     ] = line
     else {
         return None;
     };
-    Some((*region, id))
+    Some(arguments)
 }
 
-/// The bytes of the two regions in which a home takes a request, and the word of the request's number.
-fn after_append(line: &[u8]) -> Option<(u8, u8, &[u8])>
-    ensures { IfSome result (λ found. line.now ≡ codes "append " ++ found.0 ∷ 32 ∷ found.1 ∷ 32 ∷ found.2.now) }
+/// What follows the kind of the taking of a request.
+fn after_append(line: &[u8]) -> Option<&[u8]>
+    ensures { IfSome result (λ arguments. line.now ≡ codes "append " ++ arguments.now) }
 {
-    let [
-        b'a',
-        b'p',
-        b'p',
-        b'e',
-        b'n',
-        b'd',
-        b' ',
-        home,
-        b' ',
-        source,
-        b' ',
-        number @ ..,
-    ] = line
-    else {
+    let [b'a', b'p', b'p', b'e', b'n', b'd', b' ', arguments @ ..] = line else {
         return None;
     };
-    Some((*home, *source, number))
+    Some(arguments)
 }
 
-/// The byte of the region of a submission, and the word of the session.
-fn after_submit(line: &[u8]) -> Option<(u8, &[u8])>
-    ensures { IfSome result (λ found. line.now ≡ codes "submit " ++ found.0 ∷ 32 ∷ found.1.now) }
+/// What follows the kind of a submission.
+fn after_submit(line: &[u8]) -> Option<&[u8]>
+    ensures { IfSome result (λ arguments. line.now ≡ codes "submit " ++ arguments.now) }
 {
-    let [
-        b's',
-        b'u',
-        b'b',
-        b'm',
-        b'i',
-        b't',
-        b' ',
-        region,
-        b' ',
-        session @ ..,
-    ] = line
-    else {
+    let [b's', b'u', b'b', b'm', b'i', b't', b' ', arguments @ ..] = line else {
         return None;
     };
-    Some((*region, session))
+    Some(arguments)
 }
 
-/// The byte of the region of an answer, and the word of the session.
-fn after_answer(line: &[u8]) -> Option<(u8, &[u8])>
-    ensures { IfSome result (λ found. line.now ≡ codes "answer " ++ found.0 ∷ 32 ∷ found.1.now) }
+/// What follows the kind of an answer.
+fn after_answer(line: &[u8]) -> Option<&[u8]>
+    ensures { IfSome result (λ arguments. line.now ≡ codes "answer " ++ arguments.now) }
 {
-    let [
-        b'a',
-        b'n',
-        b's',
-        b'w',
-        b'e',
-        b'r',
-        b' ',
-        region,
-        b' ',
-        session @ ..,
-    ] = line
-    else {
+    let [b'a', b'n', b's', b'w', b'e', b'r', b' ', arguments @ ..] = line else {
         return None;
     };
-    Some((*region, session))
+    Some(arguments)
+}
+
+/// The region that bytes begin with, and what follows it behind a space.
+fn region_first(bytes: &[u8]) -> Option<(u8, &[u8])>
+    ensures { IfSome result (λ found. (found.0 < 10) × (bytes.now ≡ (48 + found.0) ∷ 32 ∷ found.1.now)) }
+{
+    let [region, b' ', rest @ ..] = bytes else {
+        return None;
+    };
+    Some((digit(*region)?, rest))
+}
+
+/// The number of the digit that the bytes are.
+fn only_digit(bytes: &[u8]) -> Option<u8>
+    ensures { IfSome result (λ number. (number < 10) × (bytes.now ≡ (48 + number) ∷ [])) }
+{
+    let [byte] = bytes else {
+        return None;
+    };
+    digit(*byte)
 }
 
 /// The number of a digit.
