@@ -17,6 +17,6 @@ mod words;
 
 pub use laws::texts_tell_events;
 pub use lines::{put_ran, put_reply};
-pub use printable::{events_are_written, ran_is_printable, reply_is_printable};
+pub use printable::events_are_written;
 pub use printed::{begin_order, begin_text, print, put_all_shown, put_events};
 pub use report::{EventList, Ran, Rans, Replies, Reply, Report, Tables};

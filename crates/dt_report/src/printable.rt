@@ -6,32 +6,37 @@ ghost use Rattle.dt_lists.specs.Lists.{AllIn};
 ghost use Rattle.dt_events.specs.Events.{IsWritten};
 ghost use Rattle.dt_report.specs.Printable.{HasCountedIds, IsPrintableCause, IsPrintableOutcome, IsPrintableRan, IsPrintableReply, IsPrintableRow, IsSmallId, MayBePrinted};
 
-use crate::report::{Ran, Reply};
 use dt_access::TxnId;
 use dt_eval::Cause;
 use dt_events::Event;
 use dt_table::Shown;
-use dt_text::Value;
+use dt_text::{Name, Value};
 use dt_txn::Outcome;
 
-/// Each reply is printable.
-pub fn reply_is_printable(reply: &Reply)
-    ensures { IsPrintableReply reply.now }
+/// A reply of these parts is printable.
+pub(crate) fn reply_is_printable(session: &Name, call: u32, outcome: &Outcome)
+    ensures { IsPrintableReply (record { session = session.now; call = call; outcome = outcome.now }) }
 {
-    reply.session.bytes();
-    has_32_bits(reply.call);
-    outcome_is_printable(&reply.outcome);
+    session.bytes();
+    has_32_bits(call);
+    outcome_is_printable(outcome);
 }
 
-/// Each executed attempt is printable.
-pub fn ran_is_printable(ran: &Ran)
-    ensures { IsPrintableRan ran.now }
+/// An executed attempt of these parts is printable.
+pub(crate) fn ran_is_printable(
+    id: TxnId,
+    session: &Name,
+    call: u32,
+    attempt: u32,
+    outcome: &Outcome,
+)
+    ensures { IsPrintableRan (record { id = id; session = session.now; call = call; attempt = attempt; outcome = outcome.now }) }
 {
-    id_is_small(ran.id);
-    ran.session.bytes();
-    has_32_bits(ran.call);
-    has_32_bits(ran.attempt);
-    outcome_is_printable(&ran.outcome);
+    id_is_small(id);
+    session.bytes();
+    has_32_bits(call);
+    has_32_bits(attempt);
+    outcome_is_printable(outcome);
 }
 
 /// Each row is printable.

@@ -49,7 +49,7 @@ fn put_replies(alloc: Global, out: &mut Vec<u8>, replies: &[Reply]) -> Result<()
 {
     begin_replies(out)?;
     for reply in replies {
-        put_reply(alloc, out, reply)?;
+        put_reply(alloc, out, &reply.session, reply.call, &reply.outcome)?;
     }
     Ok(())
 }
@@ -68,7 +68,15 @@ fn put_order(alloc: Global, out: &mut Vec<u8>, order: &[Ran]) -> Result<(), NoMe
 {
     begin_order(out)?;
     for ran in order {
-        put_ran(alloc, out, ran)?;
+        put_ran(
+            alloc,
+            out,
+            ran.id,
+            &ran.session,
+            ran.call,
+            ran.attempt,
+            &ran.outcome,
+        )?;
     }
     Ok(())
 }

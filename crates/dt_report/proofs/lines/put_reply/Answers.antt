@@ -4,12 +4,13 @@ use Rattle.dt_report.specs.Report.{outcome_words}
 use Rattle.dt_report.proofs.WordsAndLines.{words_added, line_added}
 use Rattle.dt_report.proofs.lines.put_reply.Goals as goal
 
-pub returns : goal.returns
-returns c =
-    let reply = c.args.reply.now in
-    let outcome : List (List ℕ) = outcome_words reply.outcome in
+pub returns-clause-line : goal.returns-clause-line
+returns-clause-line c =
+    let name = c.args.session.now in
+    let number : List ℕ = decimal c.args.call in
+    let outcome : List (List ℕ) = outcome_words c.args.outcome.now in
     let session = rw c.bytes.ensures.same at c.in_ok-put_word.ensures in
     let call = rw c.from.ensures at c.in_ok-put_number.ensures.added in
-    let numbered = words_added _ (reply.session ∷ []) (decimal reply.call ∷ []) _ _ session call in
-    let all = words_added _ (reply.session ∷ decimal reply.call ∷ []) outcome _ _ numbered c.in_ok-put_outcome.ensures in
-    line_added _ (codes "reply") (reply.session ∷ decimal reply.call ∷ outcome) _ _ _ c.in_ok-extend_from_slice.ensures.items all c.in_ok-push.ensures.items
+    let numbered = words_added _ (name ∷ []) (number ∷ []) _ _ session call in
+    let all = words_added _ (name ∷ number ∷ []) outcome _ _ numbered c.in_ok-put_outcome.ensures in
+    line_added _ (codes "reply") (name ∷ number ∷ outcome) _ _ _ c.in_ok-extend_from_slice.ensures.items all c.in_ok-push.ensures.items
