@@ -58,7 +58,8 @@ insert_put before text region home one other put =
     let second = sym (decimal_digit home other) in
     put ∙ (λ i. before ++ (codes "insert" ++ 32 ∷ (first i ++ 32 ∷ second i)))
 
-pub execute_put : (before text after : List ℕ) (region : ℕ) (id : TxnId) → region < 10 → text ≡ before ++ (codes "execute " ++ (48 + region) ∷ 32 ∷ []) → after ≡ text ++ id_text id → after ≡ before ++ event_text (Execute region id)
+pub execute_put : (before text after : List ℕ) (region : ℕ) (id : TxnId) → region < 10 → text ≡ before ++ (codes "execute " ++ (48 + region) ∷ 32 ∷ [])
+    → after ≡ text ++ id_text id → after ≡ before ++ event_text (Execute region id)
 execute_put before text after region id one put more =
     let first = sym (decimal_digit region one) in
     more ∙ ap (λ t. t ++ id_text id) put ∙ append_assoc before (codes "execute " ++ (48 + region) ∷ 32 ∷ []) (id_text id) ∙ (λ i. before ++ (codes "execute" ++ 32 ∷ (first i ++ 32 ∷ id_text id)))
