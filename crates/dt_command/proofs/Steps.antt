@@ -1,5 +1,5 @@
 -- Events, each tried after those before it.
-use Rattle.std.proofs.Common.{◌≡◌, ℕ, ◌+◌, ◌<◌, List, [], ◌∷◌, ◌++◌, length, get_or, take, drop, map, ap, sym, ◌∙◌, subst, refl}
+use Rattle.std.proofs.Common.{◌≡◌, ℕ, zero, suc, arith, ◌+◌, ◌<◌, List, [], ◌∷◌, ◌++◌, length, get_or, take, drop, map, ap, sym, ◌∙◌, subst, refl}
 use Rattle.std.proofs.lemmas.List.{take_more, drop_more, get_or-map, length-map, take-append-drop, take-map}
 use Rattle.dt_events.specs.declared.Event.{Event}
 use Rattle.dt_cluster.specs.declared.Cluster.{Cluster}
@@ -107,3 +107,9 @@ pub refused_by : (cluster : Cluster) (workload : Workload) (events : List (ℕ �
     → ((rule : ℕ) → error ≡ Illegal rule → IsFirstIllegal cluster workload events line rule) → IsStepRefusal cluster workload events (refusal_of line error)
 refused_by cluster workload events line (Illegal rule) first = first rule refl
 refused_by cluster workload events line (errors.NoMemory) first = tt
+
+-- the number of an event's line hangs on no other number
+pub inside_any : (numbered : List (ℕ × Event)) (i a b : ℕ) → i < length (unnumbered numbered) → get_or (map (λ (event : ℕ × Event). event.0) numbered) i a ≡ get_or (map (λ (event : ℕ × Event). event.0) numbered) i b
+inside_any [] i a b within = absurd (omega (arith, within))
+inside_any (x ∷ numbered) zero a b within = refl
+inside_any (x ∷ numbered) (suc i) a b within = inside_any numbered i a b (omega (arith, within))

@@ -10,7 +10,7 @@ use crate::status::{EventsCause, Status};
 use crate::words::ClusterWord;
 use dt_cluster::{Cluster, builtin};
 use dt_cluster_file::{ClusterCause, ClusterError, ClusterFault, ClusterPlace, read_cluster};
-use dt_events::{Event, EventsError, read_events};
+use dt_events::{EventsError, NumberedEvents, read_events};
 use dt_outside::{Folder, LoadError};
 use dt_workload::{Workload, WorkloadCause, WorkloadError, read_workload};
 use std::alloc::Global;
@@ -118,9 +118,9 @@ pub fn load_events<F: Folder>(
     alloc: Global,
     files: &mut F,
     name: &str,
-) -> Result<Vec<(u32, Event)>, Status>
-    ensures events { IfOk result (λ events. HasFile (F.seen files.old).told name.now (HoldEvents events.items)) }
-    ensures few { IfOk result (λ events. length events.items ≤ file_limit) }
+) -> Result<NumberedEvents, Status>
+    ensures events { IfOk result (λ events. HasFile (F.seen files.old).told name.now (HoldEvents events)) }
+    ensures few { IfOk result (λ events. length events ≤ file_limit) }
     ensures refused { (status : _) → result ≡ Err status →
         IsEventsRefusal name.now (F.seen files.old) (F.seen files.new) status }
     ensures same_told { (F.seen files.new).told ≡ (F.seen files.old).told }

@@ -1,5 +1,4 @@
-ghost use Rattle.std.specs.Prelude.{◌≡◌, ◌≤◌, length, map, List, ℕ, IfOk};
-ghost use Rattle.dt_events.specs.declared.Event.{Event};
+ghost use Rattle.std.specs.Prelude.{◌≡◌, ◌≤◌, length, IfOk};
 ghost use Rattle.dt_cluster.specs.Valid.{IsValidCluster};
 ghost use Rattle.dt_workload.specs.Valid.{IsValidWorkload};
 ghost use Rattle.dt_session.specs.Run.{AreLegal, world_after};
@@ -13,10 +12,9 @@ use crate::files::{load_both, load_events};
 use crate::status::{EventsCause, Status};
 use crate::words::ReplayWords;
 use dt_cluster::Cluster;
-use dt_events::Event;
+use dt_events::NumberedEvents;
 use dt_graph::QueueSched;
 use dt_outside::Folder;
-use dt_text::NoMemory;
 use dt_workload::Workload;
 use dt_world::{StepError, World};
 use std::alloc::Global;
@@ -41,48 +39,44 @@ fn report_of(
     alloc: Global,
     cluster: Cluster,
     workload: Workload,
-    events: Vec<(u32, Event)>,
+    events: NumberedEvents,
 ) -> Result<Vec<u8>, Status>
     requires cluster { IsValidCluster cluster }
     requires workload { IsValidWorkload cluster workload }
-    requires few { length events.items ≤ file_limit }
-    ensures legal { IfOk result (λ _. AreLegal cluster workload (unnumbered events.items)) }
-    ensures report { IfOk result (λ text. text.items ≡ report_text (report_of cluster workload (unnumbered events.items))) }
-    ensures told { IfOk result (λ text. IsToldBy text.items (unnumbered events.items)) }
-    ensures refused { (status : _) → result ≡ Err status → IsStepRefusal cluster workload events.items status }
+    requires few { length events ≤ file_limit }
+    ensures legal { IfOk result (λ _. AreLegal cluster workload (unnumbered events)) }
+    ensures report { IfOk result (λ text. text.items ≡ report_text (report_of cluster workload (unnumbered events))) }
+    ensures told { IfOk result (λ text. IsToldBy text.items (unnumbered events)) }
+    ensures refused { (status : _) → result ≡ Err status → IsStepRefusal cluster workload events status }
 {
-    let (lines, events) = apart(alloc, events)?;
-    let world = world_after(alloc, cluster, workload, lines, events.as_slice())?;
-    let (text, sites) = world.text(alloc, events.as_slice())?;
+    let world = world_after(alloc, cluster, workload, &events)?;
+    let (text, sites) = world.text(alloc, events.events())?;
     // The program ends soon, and then gives back all memory at once, in a tenth of the time.
     forget(sites);
     Ok(text)
 }
 
-/// The world after these events, if each is legal after those before it. The numbers are those of their lines.
+/// The world after these events, if each is legal after those before it.
 fn world_after(
     alloc: Global,
     cluster: Cluster,
     workload: Workload,
-    lines: Vec<u32>,
-    events: &[Event],
+    numbered: &NumberedEvents,
 ) -> Result<World<QueueSched>, Status>
     requires cluster { IsValidCluster cluster }
     requires workload { IsValidWorkload cluster workload }
-    requires few { length events.now ≤ file_limit }
-    requires lines { length lines.items ≡ length events.now }
-    ensures legal { IfOk result (λ _. AreLegal cluster workload events.now) }
+    requires few { length numbered.now ≤ file_limit }
+    ensures legal { IfOk result (λ _. AreLegal cluster workload (unnumbered numbered.now)) }
     ensures cluster { IfOk result (λ world. world.cluster ≡ cluster) }
     ensures workload { IfOk result (λ world. world.workload ≡ workload) }
-    ensures state { IfOk result (λ world. world.state ≡ world_after cluster workload events.now) }
-    ensures refused { (status : _) → result ≡ Err status → (numbered : List (ℕ × Event))
-        → lines.items ≡ map (λ event. event.0) numbered → events.now ≡ unnumbered numbered
-        → IsStepRefusal cluster workload numbered status }
+    ensures state { IfOk result (λ world. world.state ≡ world_after cluster workload (unnumbered numbered.now)) }
+    ensures refused { (status : _) → result ≡ Err status → IsStepRefusal cluster workload numbered.now status }
 {
     let mut world = World::opening(alloc, cluster, workload)?;
+    let events = numbered.events();
     for (at, event) in events.iter().enumerate() {
         if let Err(error) = world.step(alloc, event) {
-            return Err(refusal(lines[at], error));
+            return Err(refusal(numbered.line(at), error));
         }
     }
     Ok(world)
@@ -96,14 +90,4 @@ fn refusal(line: u32, error: StepError) -> Status
         StepError::Illegal(rule) => Status::BadEvents(line, EventsCause::Rule(rule)),
         StepError::NoMemory => Status::NoMemory,
     }
-}
-
-/// The numbers of the lines, and the events: apart they take less memory.
-fn apart(alloc: Global, events: Vec<(u32, Event)>) -> Result<(Vec<u32>, Vec<Event>), NoMemory>
-    ensures lines { IfOk result (λ both. both.0.items ≡ map (λ event. event.0) events.items) }
-    ensures events { IfOk result (λ both. both.1.items ≡ unnumbered events.items) }
-{
-    let lines: Vec<u32> = events.iter().map(|event| event.0).collect(alloc)?;
-    let events: Vec<Event> = events.into_iter().map(|(_, event)| event).collect(alloc)?;
-    Ok((lines, events))
 }

@@ -94,63 +94,52 @@ fn answer(alloc: Global, line: &[u8], names: &mut RecentNames) -> Result<Option<
 
 /// What follows the kind of an insertion.
 fn after_insert(line: &[u8]) -> Option<&[u8]>
-    ensures { IfSome result (λ arguments. line.now ≡ codes "insert " ++ arguments.now) }
+    ensures { IfSome result (λ rest. line.now ≡ codes "insert " ++ rest.now) }
 {
-    let [b'i', b'n', b's', b'e', b'r', b't', b' ', arguments @ ..] = line else {
+    let [b'i', b'n', b's', b'e', b'r', b't', b' ', rest @ ..] = line else {
         return None;
     };
-    Some(arguments)
+    Some(rest)
 }
 
 /// What follows the kind of an execution.
 fn after_execute(line: &[u8]) -> Option<&[u8]>
-    ensures { IfSome result (λ arguments. line.now ≡ codes "execute " ++ arguments.now) }
+    ensures { IfSome result (λ rest. line.now ≡ codes "execute " ++ rest.now) }
 {
-    let [
-        b'e',
-        b'x',
-        b'e',
-        b'c',
-        b'u',
-        b't',
-        b'e',
-        b' ',
-        arguments @ ..,
-    ] = line
-    else {
+    let [b'e', b'x', b'e', b'c', b'u', b't', b'e', b' ', rest @ ..] = line else {
         return None;
     };
-    Some(arguments)
+    Some(rest)
 }
 
 /// What follows the kind of the taking of a request.
 fn after_append(line: &[u8]) -> Option<&[u8]>
-    ensures { IfSome result (λ arguments. line.now ≡ codes "append " ++ arguments.now) }
+    ensures { IfSome result (λ rest. line.now ≡ codes "append " ++ rest.now) }
 {
-    let [b'a', b'p', b'p', b'e', b'n', b'd', b' ', arguments @ ..] = line else {
+    let [b'a', b'p', b'p', b'e', b'n', b'd', b' ', rest @ ..] = line else {
         return None;
     };
-    Some(arguments)
+    Some(rest)
 }
 
 /// What follows the kind of a submission.
 fn after_submit(line: &[u8]) -> Option<&[u8]>
-    ensures { IfSome result (λ arguments. line.now ≡ codes "submit " ++ arguments.now) }
+    ensures { IfSome result (λ rest. line.now ≡ codes "submit " ++ rest.now) }
 {
-    let [b's', b'u', b'b', b'm', b'i', b't', b' ', arguments @ ..] = line else {
+    let [b's', b'u', b'b', b'm', b'i', b't', b' ', rest @ ..] = line else {
         return None;
     };
-    Some(arguments)
+    Some(rest)
 }
 
 /// What follows the kind of an answer.
 fn after_answer(line: &[u8]) -> Option<&[u8]>
-    ensures { IfSome result (λ arguments. line.now ≡ codes "answer " ++ arguments.now) }
+    ensures { IfSome result (λ rest. line.now ≡ codes "answer " ++ rest.now) }
 {
-    let [b'a', b'n', b's', b'w', b'e', b'r', b' ', arguments @ ..] = line else {
+    let [b'a', b'n', b's', b'w', b'e', b'r', b' ', rest @ ..] = line else {
         return None;
     };
-    Some(arguments)
+    Some(rest)
 }
 
 /// The region that bytes begin with, and what follows it behind a space.

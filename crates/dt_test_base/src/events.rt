@@ -1,7 +1,7 @@
 //! Events: what a file of them is read as, and what is printed of it.
 use crate::calls::repeated;
 use crate::wrong;
-use dt_events::{Event, EventsError, Stamped, put_event, read_events};
+use dt_events::{Event, EventsError, NumberedEvents, Stamped, put_event, read_events};
 use std::alloc::Global;
 use std::mem::size_of;
 use std::test::Fail;
@@ -10,9 +10,9 @@ use std::test::Fail;
 const MANY: usize = 100000;
 
 /// Events, each copied and printed.
-fn printed(alloc: Global, events: &[(u32, Event)]) -> Result<Vec<u8>, Fail> {
+fn printed(alloc: Global, events: &NumberedEvents) -> Result<Vec<u8>, Fail> {
     let mut out = Vec::new(alloc);
-    for (_line, event) in events {
+    for event in events.events() {
         put_event(alloc, &mut out, &event.copy(alloc)?)?;
     }
     Ok(out)
@@ -24,7 +24,7 @@ fn told(alloc: Global, file: &[u8]) -> Result<Vec<u8>, Fail> {
         return Err(Fail::from("a test reads few bytes"));
     }
     match read_events(alloc, file) {
-        Ok(events) => printed(alloc, events.as_slice()),
+        Ok(events) => printed(alloc, &events),
         Err(EventsError::Form(line)) => {
             Ok(
                 format!(in alloc; "no event in line {line}")?

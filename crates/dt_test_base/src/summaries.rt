@@ -36,8 +36,9 @@ fn rows_of(alloc: Global, numbers: &[i64]) -> Result<ShownList, Fail> {
 /// Adds the events of a file.
 fn add_events(alloc: Global, events: &mut EventList, file: &str) -> Result<(), Fail> {
     if file.len() < 1000 {
-        for (_, event) in read_events(alloc, file.as_bytes())? {
-            events.push(event)?;
+        let read = read_events(alloc, file.as_bytes())?;
+        for event in read.events() {
+            events.push(event.copy(alloc)?)?;
         }
     }
     Ok(())

@@ -91,9 +91,11 @@ fn play(
     }
     let mut made = Vec::new(alloc);
     let mut refused = Vec::new(alloc);
-    for (line, event) in read_events(alloc, file)? {
+    let events = read_events(alloc, file)?;
+    for at in 0..events.len() {
+        let event = events.events()[at].copy(alloc)?;
         if let Some(rule) = make(world, alloc, &mut made, event)? {
-            put_refused(alloc, &mut refused, line, rule)?;
+            put_refused(alloc, &mut refused, events.line(at), rule)?;
         }
     }
     Ok((made, refused))

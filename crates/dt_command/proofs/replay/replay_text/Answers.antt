@@ -32,8 +32,8 @@ pub returns : goal.returns
 returns g c =
     let loaded : Loaded (g.F.Folder.seen c.args.files.now).told (asked_for c.args.replay) c.in_ok-cluster.cluster c.in_ok-cluster.workload =
     record { cluster_word = c.in_ok-cluster.ensures.cluster; workload_file = c.in_ok-cluster.ensures.workload } in
-    let P : Option Files → Type 0 = λ told. HasFile told c.args.replay.events.now (HoldEvents c.in_ok-events.events.items) in
+    let P : Option Files → Type 0 = λ told. HasFile told c.args.replay.events.now (HoldEvents c.in_ok-events.events) in
     replayed_text (g.F.Folder.seen) c.args.files.now c.load_events.new.files (c.load_events.ensures.same_told ∙ c.load_both.ensures.same_told) (word_of c.args.replay.cluster)
-    c.args.replay.workload.now c.args.replay.events.now c.in_ok-cluster.cluster c.in_ok-cluster.workload loaded c.in_ok-events.events.items
+    c.args.replay.workload.now c.args.replay.events.now c.in_ok-cluster.cluster c.in_ok-cluster.workload loaded c.in_ok-events.events
     (subst P c.load_both.ensures.same_told c.in_ok-events.ensures.events) c.report_of.result c.in_ok-cluster.ensures.valid.0 c.in_ok-cluster.ensures.valid.1
     c.report_of.ensures.legal c.report_of.ensures.report c.report_of.ensures.told c.report_of.ensures.refused
