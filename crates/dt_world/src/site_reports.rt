@@ -274,7 +274,7 @@ impl<'a, 'b, S: Scheduler + Drop> ReportSource<'a, 'b, S> {
         }))
     }
 
-    /// The region and the id of the attempt that an event executes, if it is the first to do so, which is noted.
+    /// The region and the id of the attempt that an event executes, if it is the first event to do so. The id is marked then.
     fn first_execution(
         &self,
         seen: &mut Marks,

@@ -1,7 +1,6 @@
-use Rattle.std.proofs.Common.{◌≡◌, ◌||◌, List, Bool, map, ap, ◌∙◌}
+use Rattle.std.proofs.Common.{◌||◌, List, Bool, ap, ◌∙◌}
 use Rattle.std.proofs.lemmas.Result.{on_ok_weaker}
 use Rattle.dt_access.specs.Ids.{same_id}
-use Rattle.dt_access.specs.declared.TxnId.{TxnId}
 use Rattle.dt_world.specs.MarksInner.{is_marked}
 use Rattle.dt_world.proofs.MarkLaws.{marked_set}
 use Rattle.dt_world.proofs.marks.Marks.mark.Goals as goal

@@ -1,13 +1,10 @@
-use Rattle.std.proofs.Common.{◌≡◌, ◌+◌, ◌++◌, ◌∷◌, [], refl, sym, subst}
-use Rattle.std.proofs.lemmas.Result.{on_ok_weaker}
-use Rattle.dt_lists.specs.Lists.{AllIn}
-use Rattle.dt_lists.proofs.Callers.{all_more}
+use Rattle.std.proofs.Common.{◌≡◌, ◌+◌, ◌++◌, ◌∷◌, [], refl, subst}
 use Rattle.dt_report.specs.Printable.{IsPrintableRan}
 use Rattle.dt_report.specs.Report.{ran_line}
 use Rattle.dt_report.specs.declared.Ran.{Ran}
 use Rattle.dt_world.specs.SessionReplayInner.{AddsRan, rans_at}
 use Rattle.dt_world.proofs.Reports.{ran_found}
-use Rattle.dt_world.proofs.TextByLines.{one_line}
+use Rattle.dt_world.proofs.TextByLines.{all_put, lines_put}
 use Rattle.dt_world.proofs.site_reports.ReportSource.put_noted.Given.{Over}
 use Rattle.dt_world.proofs.site_reports.ReportSource.put_noted.Goals as goal
 use Rattle.dt_world.proofs.site_reports.ReportSource.put_noted.Goals.{After-attempt}
@@ -23,9 +20,9 @@ added g c = (subst (AddsRan c.args.self.now c.args.at) c.in-Some.is c.in_ok-regi
 pub returns-clause-printable : goal.returns-clause-printable
 returns-clause-printable g c =
     let at = goal.at.returns-clause-printable g c in
-    on_ok_weaker c.put_ran.result (λ put all. subst (AllIn IsPrintableRan) (sym (added g at.After-attempt)) (all_more IsPrintableRan _ (given g at.After-attempt) all c.put_ran.ensures.printable)) c.put_ran.ensures.line
+    all_put c.put_ran.result _ _ (given g at.After-attempt) (added g at.After-attempt) IsPrintableRan c.put_ran.ensures.printable
 
 pub returns-clause-lines : goal.returns-clause-lines
 returns-clause-lines g c =
     let at = goal.at.returns-clause-lines g c in
-    on_ok_weaker c.put_ran.result (λ put start written. one_line ran_line start (rans_at c.args.self.now c.args.at) written (given g at.After-attempt) (added g at.After-attempt) put) c.put_ran.ensures.line
+    lines_put c.put_ran.result _ _ (given g at.After-attempt) (added g at.After-attempt) ran_line c.args.out.now.items c.put_ran.new.out.items c.put_ran.ensures.line
