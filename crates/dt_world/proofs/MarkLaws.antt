@@ -7,10 +7,10 @@ use Rattle.std.proofs.lemmas.List.Folds.{list_any-append}
 use Rattle.dt_access.specs.Ids.{is_among, same_id}
 use Rattle.dt_access.specs.declared.TxnId.{TxnId}
 use Rattle.dt_access.proofs.Callers.{id_of_test}
-use Rattle.dt_world.specs.MarksInner.{AreMarked, is_marked}
+use Rattle.dt_world.specs.MarksInner.{AreMarkedIds, is_marked}
 
 -- where none is marked, these are no ids
-pub none_marked : {marks : List (List Bool)} → marks ≡ [] → AreMarked marks []
+pub none_marked : {marks : List (List Bool)} → marks ≡ [] → AreMarkedIds marks []
 none_marked none id = ap (λ l. is_marked l id) none
 
 one_list_more : (marks : List (List Bool)) (region : ℕ) → get_or (marks ++ [] ∷ []) region [] ≡ get_or marks region []
@@ -45,8 +45,8 @@ marked_set items lists id list later within is put other =
     (λ n. put n ∙ ap (λ l. (n == id.seq) || get_or l n false) here) other.region other.seq
 
 -- one id more is among those that are marked
-pub marked_new : (before after : List (List Bool)) (ids : List TxnId) (id : TxnId) → AreMarked before ids → ((other : TxnId) → is_marked after other ≡ (same_id other id || is_marked before other))
-    → AreMarked after (ids ++ id ∷ [])
+pub marked_new : (before after : List (List Bool)) (ids : List TxnId) (id : TxnId) → AreMarkedIds before ids → ((other : TxnId) → is_marked after other ≡ (same_id other id || is_marked before other))
+    → AreMarkedIds after (ids ++ id ∷ [])
 marked_new before after ids id so_far put other = put other ∙ ap (λ b. same_id other id || b) (so_far other) ∙ turned (same_id other id) (is_among ids other) ∙ sym (list_any-append (same_id other) ids (id ∷ []))
   where
     turned : (a b : Bool) → (a || b) ≡ (b || (a || false))
@@ -56,8 +56,8 @@ marked_new before after ids id so_far put other = put other ∙ ap (λ b. same_i
     turned false false = refl
 
 -- and an id that is among them already changes nothing
-pub marked_again : (before after : List (List Bool)) (ids : List TxnId) (id : TxnId) → AreMarked before ids → ((other : TxnId) → is_marked after other ≡ (same_id other id || is_marked before other))
-    → is_among ids id ≡ true → AreMarked after ids
+pub marked_again : (before after : List (List Bool)) (ids : List TxnId) (id : TxnId) → AreMarkedIds before ids → ((other : TxnId) → is_marked after other ≡ (same_id other id || is_marked before other))
+    → is_among ids id ≡ true → AreMarkedIds after ids
 marked_again before after ids id so_far put there other = put other ∙ ap (λ b. same_id other id || b) (so_far other) ∙ go (cases_Bool (same_id other id))
   where
     go : (same_id other id ≡ true) ⊎ (same_id other id ≡ false) → (same_id other id || is_among ids other) ≡ is_among ids other

@@ -8,6 +8,6 @@ use Rattle.dt_access.specs.declared.TxnId.{TxnId}
 abbrev pub is_marked : List (List Bool) → TxnId → Bool
 is_marked marks id = get_or (get_or marks id.region []) id.seq false
 
--- these ids are marked, and no others
-abbrev pub AreMarked : List (List Bool) → List TxnId → Type 0
-AreMarked marks ids = (id : TxnId) → is_marked marks id ≡ is_among ids id
+-- the ids that are marked are these
+abbrev pub AreMarkedIds : List (List Bool) → List TxnId → Type 0
+AreMarkedIds marks ids = (id : TxnId) → is_marked marks id ≡ is_among ids id

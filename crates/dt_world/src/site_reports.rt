@@ -14,7 +14,7 @@ ghost use Rattle.dt_agreement.specs.Invariant.{IsExecutedAt};
 ghost use Rattle.dt_report.specs.Printable.{IsPrintable, IsPrintableRan, IsPrintableReply};
 ghost use Rattle.dt_report.specs.Report.{order_text, ran_line, reply_line, report_text};
 ghost use Rattle.dt_report.specs.ShownTables.{all_shown};
-ghost use Rattle.dt_world.specs.MarksInner.{AreMarked};
+ghost use Rattle.dt_world.specs.MarksInner.{AreMarkedIds};
 ghost use Rattle.dt_world.specs.SessionReplayInner.{AddsRan, AddsReply, IsAttempt, rans_at, replay_at, replies_at};
 ghost use Rattle.dt_world.specs.ReportSourceInner.{LedTo, world_told};
 ghost use Rattle.dt_world.specs.SitesAfter.{AreSitesAfter};
@@ -225,8 +225,8 @@ impl<'a, 'b, S: Scheduler + Drop> ReportSource<'a, 'b, S> {
         requires led { LedTo self.now }
         requires events { events.now ≡ self.now.events }
         requires at { at < length events.now }
-        requires seen { AreMarked seen.old (order_of (take at self.now.events)) }
-        ensures seen { OnOk result (AreMarked seen.new (order_of (take (at + 1) self.now.events))) }
+        requires seen { AreMarkedIds seen.old (order_of (take at self.now.events)) }
+        ensures seen { OnOk result (AreMarkedIds seen.new (order_of (take (at + 1) self.now.events))) }
         ensures printable { OnOk result (AllIn IsPrintableRan (rans_at self.now at) → AllIn IsPrintableRan (rans_at self.now (at + 1))) }
         ensures lines { OnOk result ((start : List ℕ) → out.old.items ≡ start ++ flat_map ran_line (rans_at self.now at)
             → out.new.items ≡ start ++ flat_map ran_line (rans_at self.now (at + 1))) }
@@ -257,8 +257,8 @@ impl<'a, 'b, S: Scheduler + Drop> ReportSource<'a, 'b, S> {
         requires led { LedTo self.now }
         requires events { events.now ≡ self.now.events }
         requires at { at < length events.now }
-        requires seen { AreMarked seen.old (order_of (take at self.now.events)) }
-        ensures seen { OnOk result (AreMarked seen.new (order_of (take (at + 1) self.now.events))) }
+        requires seen { AreMarkedIds seen.old (order_of (take at self.now.events)) }
+        ensures seen { OnOk result (AreMarkedIds seen.new (order_of (take (at + 1) self.now.events))) }
         ensures ran { IfOk result (λ ran. rans_at self.now (at + 1) ≡ rans_at self.now at ++ option_to_list ran) }
     {
         let Some((region, id)) = self.first_execution(seen, events, at)? else {
@@ -284,8 +284,8 @@ impl<'a, 'b, S: Scheduler + Drop> ReportSource<'a, 'b, S> {
         requires led { LedTo self.now }
         requires events { events.now ≡ self.now.events }
         requires at { at < length events.now }
-        requires seen { AreMarked seen.old (order_of (take at self.now.events)) }
-        ensures seen { OnOk result (AreMarked seen.new (order_of (take (at + 1) self.now.events))) }
+        requires seen { AreMarkedIds seen.old (order_of (take at self.now.events)) }
+        ensures seen { OnOk result (AreMarkedIds seen.new (order_of (take (at + 1) self.now.events))) }
         ensures adds { IfOk result (λ first. AddsRan self.now at first) }
     {
         let Event::Execute { region, id } = &events[at] else {
