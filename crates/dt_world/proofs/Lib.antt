@@ -11,6 +11,7 @@ pub mod KeptLaws
 pub mod GrowingNodes
 pub mod Executions
 pub mod Replay
+pub mod MarkLaws
 pub mod Reports
 pub mod TextByLines
 pub mod NothingLeftOut

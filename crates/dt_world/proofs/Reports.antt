@@ -1,5 +1,5 @@
 -- What the parts of a report are, step by step.
-use Rattle.std.proofs.Common.{◌≡◌, ◌≢◌, ◌<◌, ◌≤◌, ◌+◌, ℕ, zero, suc, Bool, Bor, true, false, cond, not, List, [], ◌∷◌, ◌++◌, length, map, get_or, replicate, take}
+use Rattle.std.proofs.Common.{◌≡◌, ◌≢◌, ◌<◌, ◌≤◌, ◌+◌, ℕ, zero, suc, Bool, Bor, true, false, ◌||◌, not, List, [], ◌∷◌, ◌++◌, length, map, get_or, replicate, take}
 use Rattle.std.proofs.Common.{drop, slice_get, Some, None, Ok, Err, refl, sym, ap, ap₂, subst, subst₂, ◌∙◌, ◌⊎◌, inr, append_assoc, append-nil, arith}
 use Rattle.std.specs.Prelude.{Option, Result, IfOk, option_map, option_and_then, option_to_list, filter_map}
 use Rattle.std.specs.List.{position, range_with_len}
@@ -7,7 +7,7 @@ use Rattle.std.proofs.Math.Seq.{take-length}
 use Rattle.std.proofs.lemmas.Option.{slice_get-get_or}
 use Rattle.dt_lists.specs.Lists.{AllIn}
 use Rattle.dt_lists.proofs.Callers.{all_append, from_right}
-use Rattle.dt_access.specs.Ids.{is_among}
+use Rattle.dt_access.specs.Ids.{is_among, same_id}
 use Rattle.dt_access.specs.Clash.{Bytes}
 use Rattle.dt_access.specs.declared.TxnId.{TxnId}
 use Rattle.dt_events.specs.declared.Event.{Event}
@@ -24,16 +24,18 @@ use Rattle.dt_cluster.specs.Valid.{IsValidCluster}
 use Rattle.dt_workload.specs.declared.Session.{Session}
 use Rattle.dt_workload.specs.declared.Workload.{Workload}
 use Rattle.dt_workload.specs.Valid.{IsValidWorkload}
-use Rattle.dt_session.specs.World.{World, Node, Place, Submission, idle_place, is_session, no_node, node_at, opening_node, opening_table, opening_world, outcome_at, submission_of}
+use Rattle.dt_session.specs.World.{World, Node, Place, Submission, idle_place, is_session, no_node, node_at, opening_node, opening_table, opening_world}
 use Rattle.dt_session.specs.Step.{next}
 use Rattle.dt_session.specs.Run.{AreLegal, executed_id, order_of, region_table, world_after}
 use Rattle.dt_agreement.specs.Invariant.{IsExecutedAt}
 use Rattle.dt_agreement.specs.LegalRun.{IsLegalRun}
 use Rattle.dt_agreement.proofs.Callers.{legal_agree, legal_keeps, world_after_more}
 use Rattle.dt_world.specs.WorldView.{WorldView}
+use Rattle.dt_site.specs.declared.Origin.{Origin}
 use Rattle.dt_site.specs.Site.{SiteView, no_site}
 use Rattle.dt_site.specs.StandsIn.{StandsIn}
-use Rattle.dt_world.specs.SessionReplayInner.{SessionReplayView, IsReply, after_reply, after_submission, count_at, replay_at, replay_of, ran_at, rans_at, replies_at, wait_at}
+use Rattle.dt_world.specs.MarksInner.{AreMarkedIds, is_marked}
+use Rattle.dt_world.specs.SessionReplayInner.{SessionReplayView, AddsRan, IsAttempt, IsReply, after_reply, after_submission, count_at, replay_at, replay_of, ran_at, rans_at, replies_at, wait_at}
 use Rattle.dt_world.specs.ReportSourceInner.{LedTo, ReportSourceView, world_told}
 use Rattle.dt_world.specs.SitesAfter.{AreSitesAfter}
 use Rattle.dt_world.specs.WorldInner.{IsLawful, site_at, view_in, world_of}
@@ -42,6 +44,7 @@ use Rattle.dt_world.specs.WorldReport.{IsOutcomeOf, IsReplyOf, answered_name, an
 use Rattle.dt_world.proofs.Executions.{executed_at, order_again, order_new, order_other, outcomes_kept, rans_more}
 use Rattle.dt_world.proofs.Replay.{answer_executed, answer_follows, answer_kept, answer_own, answer_region, answer_replies, answer_waits, now_followed, now_legal, now_listed}
 use Rattle.dt_world.proofs.Replay.{append_same, deliver_same, execute_same, insert_same, replies_more, resolve_same, submit_few, submit_follows, submit_region}
+use Rattle.dt_world.proofs.MarkLaws.{marked_again, marked_new}
 use Rattle.dt_world.proofs.ReportLookups.{reached, run_told}
 use Rattle.dt_world.proofs.GrowingNodes.{split_at}
 use Rattle.dt_site.proofs.Callers.{many_here}
@@ -64,15 +67,10 @@ item_at xs at r e lt is same = slice_get-get_or xs at r lt ∙ ap Some (sym is �
 pub event_at : (told : ReportSourceView) {held : List Event} → held ≡ told.events → (at : ℕ) (r e : Event) → at < length held → r ≡ get_or held at r → r ≡ e → slice_get told.events at ≡ Some e
 event_at told {held} same at r e lt is this = subst (λ l. slice_get l at ≡ Some e) same (item_at held at r e lt is this)
 
--- what an execution adds to the order, where its attempt was not executed before: these are the ids then
-pub record NotesNew (told : ReportSourceView) (at region : ℕ) (id : TxnId) (new : List TxnId) : Type 0 where
-  pub seen : new ≡ order_of (take (at + 1) told.events)
-  pub order : (r : Ran) → ran_at (world_told told) region id ≡ Some r → rans_at told (at + 1) ≡ rans_at told at ++ r ∷ []
-
--- and where it was
-pub record NotesAgain (told : ReportSourceView) (at : ℕ) (new : List TxnId) : Type 0 where
-  pub seen : new ≡ order_of (take (at + 1) told.events)
-  pub order : rans_at told at ≡ rans_at told (at + 1)
+-- after one more event these ids are marked, and the event adds this to the attempts
+pub record Notes (told : ReportSourceView) (at : ℕ) (marks : List (List Bool)) (first : Option (ℕ × TxnId)) : Type 0 where
+  pub seen : AreMarkedIds marks (order_of (take (at + 1) told.events))
+  pub adds : AddsRan told at first
 
 -- what a submission of the session at a place does to what is followed
 pub record FollowsSubmission (told : ReportSourceView) (at region place : ℕ) (course : SessionReplayView) : Type 0 where
@@ -88,12 +86,6 @@ pub record FollowsAnswer (told : ReportSourceView) (at region place : ℕ) (cour
   pub region_there : region < told.cluster.regions
   pub waited : ¬ (wait_at course place ≡ None)
   pub replay : after_reply course place ≡ replay_at told (at + 1)
-
--- and this is the attempt, whose outcome is the reply
-pub record FollowsReply (told : ReportSourceView) (at region : ℕ) (name : Bytes) (id : TxnId) : Type 0 where
-  pub own : id.region ≡ region
-  pub executed : IsExecutedAt (world_told told) region id
-  pub replies : (reply : Reply) → IsReply (world_told told) region name id reply → replies_at told (at + 1) ≡ replies_at told at ++ reply ∷ []
 
 module _ {told : ReportSourceView} (led : LedTo told) where
   -- the tables that sites keep are those of the report
@@ -115,30 +107,29 @@ module _ {told : ReportSourceView} (led : LedTo told) where
     pub note_executed : IsExecutedAt (world_told told) region id
     note_executed = (executed_at (run_told led) at region id item).1
 
-    module _ (keys new : List TxnId) (before : keys ≡ order_of (take at told.events)) (inserted : new ≡ cond (is_among keys id) keys (keys ++ id ∷ [])) where
-      seen_new : is_among keys id ≡ false → new ≡ order_of (take (at + 1) told.events)
-      seen_new absent = inserted ∙ ap (λ b. cond b keys (keys ++ id ∷ [])) absent ∙ ap (λ l. l ++ id ∷ []) before
-          ∙ sym (order_new told.events at region id item (subst (λ l. is_among l id ≡ false) before absent))
+    module _ (before after : List (List Bool)) (so_far : AreMarkedIds before (order_of (take at told.events)))
+        (put : (other : TxnId) → is_marked after other ≡ (same_id other id || is_marked before other)) where
+      pub notes_new : is_marked before id ≡ false → Notes told at after (Some (region, id))
+      notes_new unmarked =
+          let absent : is_among (order_of (take at told.events)) id ≡ false = sym (so_far id) ∙ unmarked in
+          record {
+            seen = subst (AreMarkedIds after) (sym (order_new told.events at region id item absent)) (marked_new before after (order_of (take at told.events)) id so_far put);
+            adds = (note_region, note_executed, λ r is. rans_more (run_told led) at region id r item absent is);
+          }
 
-      seen_again : is_among keys id ≡ true → new ≡ order_of (take (at + 1) told.events)
-      seen_again there = inserted ∙ ap (λ b. cond b keys (keys ++ id ∷ [])) there ∙ before
-          ∙ sym (order_again told.events at region id item (subst (λ l. is_among l id ≡ true) before there))
+      pub notes_again : is_marked before id ≡ true → Notes told at after None
+      notes_again marked =
+          let there : is_among (order_of (take at told.events)) id ≡ true = sym (so_far id) ∙ marked in
+          let same : order_of (take at told.events) ≡ order_of (take (at + 1) told.events) = sym (order_again told.events at region id item there) in
+          record {
+            seen = subst (AreMarkedIds after) same (marked_again before after (order_of (take at told.events)) id so_far put there);
+            adds = ap (filter_map (ran_of told.cluster told.workload told.events)) same;
+          }
 
-      rans_again : is_among keys id ≡ true → rans_at told at ≡ rans_at told (at + 1)
-      rans_again there = ap (filter_map (ran_of told.cluster told.workload told.events)) (sym (order_again told.events at region id item
-          (subst (λ l. is_among l id ≡ true) before there)))
-
-      rans_new : is_among keys id ≡ false → (r : Ran) → ran_at (world_told told) region id ≡ Some r → rans_at told (at + 1) ≡ rans_at told at ++ r ∷ []
-      rans_new absent r is = rans_more (run_told led) at region id r item (subst (λ l. is_among l id ≡ false) before absent) is
-
-      pub notes_new : is_among keys id ≡ false → NotesNew told at region id new
-      notes_new absent = record { seen = seen_new absent; order = rans_new absent }
-
-      pub notes_again : is_among keys id ≡ true → NotesAgain told at new
-      notes_again there = record { seen = seen_again there; order = rans_again there }
-
-  pub seen_other : (at : ℕ) (event : Event) → slice_get told.events at ≡ Some event → executed_id event ≡ None → order_of (take at told.events) ≡ order_of (take (at + 1) told.events)
-  seen_other at event item none = sym (order_other told.events at event item none)
+  pub notes_other : (at : ℕ) (event : Event) → slice_get told.events at ≡ Some event → executed_id event ≡ None → (marks : List (List Bool)) → AreMarkedIds marks (order_of (take at told.events)) → Notes told at marks None
+  notes_other at event item none marks so_far =
+      let same : order_of (take at told.events) ≡ order_of (take (at + 1) told.events) = sym (order_other told.events at event item none) in
+      record { seen = subst (AreMarkedIds marks) same so_far; adds = ap (filter_map (ran_of told.cluster told.workload told.events)) same }
 
   -- what is followed
 
@@ -261,8 +252,13 @@ module _ {told : ReportSourceView} (led : LedTo told) where
             subst₂ (λ (all now : List Event). replies_from told.cluster told.workload all (opening_world told.cluster told.workload) now ≡ replies_from told.cluster told.workload all (opening_world told.cluster told.workload)
             (take at told.events) ++ reply ∷ []) (sym (split_at told.events at (Answer region name) item).0) (sym (split_at told.events at (Answer region name) item).1) added
 
-        pub follows_reply : FollowsReply told at region name id
-        follows_reply = record { own = reply_own; executed = reply_executed; replies = reply_added }
+        pub adds_reply : (id.region < told.cluster.regions) × IsExecutedAt (world_told told) id.region id
+            × ((reply : Reply) → IsReply (world_told told) id.region name id reply → replies_at told (at + 1) ≡ replies_at told at ++ reply ∷ [])
+        adds_reply = (
+          subst (λ r. r < told.cluster.regions) (sym reply_own) reply_region,
+          subst (λ r. IsExecutedAt (world_told told) r id) (sym reply_own) reply_executed,
+          λ reply is. reply_added reply (subst (λ r. IsReply (world_told told) r name id reply) reply_own is),
+        )
 
 -- all replies are of what regions keep
 
@@ -354,8 +350,27 @@ pub present_of : (b c : Bool) → b ≡ false → b ≡ not c → c ≡ true
 present_of b true e f = refl
 present_of b false e f = cc
 
-pub ran_found : (w : World) (region : ℕ) (id : TxnId) (s : Submission) (o : Outcome) → submission_of w id ≡ Some s → outcome_at w region id ≡ Some o → ran_at w region id ≡ Some (ran id s o)
-ran_found w region id s o e f = ap₂ (λ x y. option_and_then (λ z. option_map (ran id z) y) x) e f
+-- an attempt, as it is reported and as it is replied
+
+module _ {w : World} {region : ℕ} {id : TxnId} {origin : Origin} {outcome : Outcome} (is : IsAttempt w region id origin outcome) where
+  pub ran_found : {name : Bytes} {given : Outcome} → name ≡ origin.session → given ≡ outcome
+      → ran_at w region id ≡ Some (record { id = id; session = name; call = origin.call; attempt = origin.attempt; outcome = given })
+  ran_found {name} {given} named gives =
+      let session : is.submission.session ≡ name = ap (λ (s : Submission). s.session) is.origin_is ∙ sym named in
+      let call : is.submission.call ≡ origin.call = ap (λ (s : Submission). s.call) is.origin_is in
+      let number : is.submission.attempt ≡ origin.attempt = ap (λ (s : Submission). s.attempt) is.origin_is in
+      ap₂ (λ x y. option_and_then (λ z. option_map (ran id z) y) x) is.found is.outcome_is
+      ∙ (λ i. Some (record { id = id; session = session i; call = call i; attempt = number i; outcome = sym gives i }))
+
+  pub reply_found : {session name : Bytes} {given : Outcome} → name ≡ session → given ≡ outcome
+      → IsReply w region session id (record { session = name; call = origin.call; outcome = given })
+  reply_found named gives = record {
+    submission = is.submission;
+    found = is.found;
+    session_is = named;
+    call_is = sym (ap (λ (s : Submission). s.call) is.origin_is);
+    outcome_is = is.outcome_is ∙ ap Some (sym gives);
+  }
 
 -- the parts of a report are the report
 

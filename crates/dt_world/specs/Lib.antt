@@ -6,6 +6,7 @@ pub mod ReportSourceCode
 pub mod WorldInner
 pub mod WorldCode
 pub mod WorldSessions
+pub mod MarksInner
 pub mod SessionReplayInner
 pub use Rattle.dt_session.specs.World
 pub use Rattle.dt_session.specs.Step

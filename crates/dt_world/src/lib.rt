@@ -11,6 +11,7 @@
 //! or the entries of a log, is looked up in their sites.
 #![tactic(auto)]
 
+mod marks;
 mod session_replay;
 mod site_reports;
 mod world;

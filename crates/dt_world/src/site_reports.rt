@@ -2,7 +2,7 @@
 //!
 //! Outcomes, whose an attempt is, and rows stand in the sites, so nothing is executed again. The events are gone through for
 //! the order of first executions, and to follow what each session waits for, which sites do not keep.
-ghost use Rattle.std.specs.Prelude.{if◌then◌else◌, ◌≡◌, ◌+◌, ◌<◌, ◌++◌, ◌∷◌, [], ℕ, List, flat_map, length, map, option_to_list, position, take, Some, IfOk, OnOk};
+ghost use Rattle.std.specs.Prelude.{if◌then◌else◌, ◌≡◌, ◌+◌, ◌<◌, ◌++◌, ◌∷◌, [], ℕ, List, flat_map, length, map, option_to_list, position, take, IfOk, OnOk};
 ghost use Rattle.std.specs.List.{list_any};
 ghost use Rattle.dt_lists.specs.Lists.{AllIn, Distinct};
 ghost use Rattle.dt_access.specs.Clash.{same_key};
@@ -14,24 +14,26 @@ ghost use Rattle.dt_agreement.specs.Invariant.{IsExecutedAt};
 ghost use Rattle.dt_report.specs.Printable.{IsPrintable, IsPrintableRan, IsPrintableReply};
 ghost use Rattle.dt_report.specs.Report.{order_text, ran_line, reply_line, report_text};
 ghost use Rattle.dt_report.specs.ShownTables.{all_shown};
-ghost use Rattle.dt_world.specs.SessionReplayInner.{IsReply, ran_at, rans_at, replay_at, replies_at};
+ghost use Rattle.dt_world.specs.MarksInner.{AreMarkedIds};
+ghost use Rattle.dt_world.specs.SessionReplayInner.{AddsRan, AddsReply, IsAttempt, rans_at, replay_at, replies_at};
 ghost use Rattle.dt_world.specs.ReportSourceInner.{LedTo, world_told};
 ghost use Rattle.dt_world.specs.SitesAfter.{AreSitesAfter};
 ghost use Rattle.dt_world.specs.WorldReport.{report_of, replies_of, rans_of};
 
+use crate::marks::Marks;
 use crate::session_replay::SessionReplay;
 use dt_access::TxnId;
 use dt_cluster::Cluster;
 use dt_events::Event;
 use dt_report::{
     EventList, Ran, Rans, Replies, Reply, Report, Tables, begin_order, begin_text,
-    events_are_written, put_all_shown, put_events, put_ran, put_reply, ran_is_printable,
-    reply_is_printable,
+    events_are_written, put_all_shown, put_events, put_ran, put_reply,
 };
 use dt_sched::Scheduler;
-use dt_site::Site;
+use dt_site::{Origin, Site};
 use dt_table::Table;
 use dt_text::{Name, NoMemory};
+use dt_txn::Outcome;
 use dt_workload::Workload;
 use indexmap::IndexSet;
 use std::alloc::Global;
@@ -166,21 +168,16 @@ impl<'a, 'b, S: Scheduler + Drop> ReportSource<'a, 'b, S> {
         requires { LedTo self.now }
         ensures { IfOk result (λ order. order ≡ rans_of self.now.cluster self.now.workload self.now.events) }
     {
-        let mut seen = IndexSet::new(alloc);
+        let mut seen = Marks::new(alloc);
         let mut order = Rans::new(alloc);
         self.note_all(alloc, &mut seen, &mut order)?;
         Ok(order)
     }
 
     /// Lists the attempts that the events execute, each at the first event that does so. None is noted or listed before.
-    fn note_all(
-        &self,
-        alloc: Global,
-        seen: &mut IndexSet<TxnId>,
-        order: &mut Rans,
-    ) -> Result<(), NoMemory>
+    fn note_all(&self, alloc: Global, seen: &mut Marks, order: &mut Rans) -> Result<(), NoMemory>
         requires led { LedTo self.now }
-        requires seen { seen.old.keys ≡ [] }
+        requires seen { seen.old ≡ [] }
         requires order { order.old ≡ [] }
         ensures { OnOk result (order.new ≡ rans_of self.now.cluster self.now.workload self.now.events) }
     {
@@ -199,77 +196,120 @@ impl<'a, 'b, S: Scheduler + Drop> ReportSource<'a, 'b, S> {
         ensures printable { OnOk result (AllIn IsPrintableRan (rans_of self.now.cluster self.now.workload self.now.events)) }
     {
         begin_order(out)?;
-        let mut seen = IndexSet::new(alloc);
+        let mut seen = Marks::new(alloc);
         self.put_rans(alloc, out, &mut seen)
     }
 
     /// Appends the lines of the attempts that the events execute, each at the first event that does so. None is noted before.
-    fn put_rans(
-        &self,
-        alloc: Global,
-        out: &mut Vec<u8>,
-        seen: &mut IndexSet<TxnId>,
-    ) -> Result<(), NoMemory>
+    fn put_rans(&self, alloc: Global, out: &mut Vec<u8>, seen: &mut Marks) -> Result<(), NoMemory>
         requires led { LedTo self.now }
-        requires seen { seen.old.keys ≡ [] }
+        requires seen { seen.old ≡ [] }
         ensures text { OnOk result (out.new.items ≡ out.old.items ++ flat_map ran_line (rans_of self.now.cluster self.now.workload self.now.events)) }
         ensures printable { OnOk result (AllIn IsPrintableRan (rans_of self.now.cluster self.now.workload self.now.events)) }
     {
         for at in 0..self.events.len() {
-            if let Some(ran) = self.note(alloc, seen, self.events, at)? {
-                put_ran(alloc, out, &ran)?;
-            }
+            self.put_noted(alloc, out, seen, self.events, at)?;
         }
         Ok(())
+    }
+
+    /// Appends the line of the attempt that an event executes, if it is the first to do so, which is noted.
+    fn put_noted(
+        &self,
+        alloc: Global,
+        out: &mut Vec<u8>,
+        seen: &mut Marks,
+        events: &[Event],
+        at: usize,
+    ) -> Result<(), NoMemory>
+        requires led { LedTo self.now }
+        requires events { events.now ≡ self.now.events }
+        requires at { at < length events.now }
+        requires seen { AreMarkedIds seen.old (order_of (take at self.now.events)) }
+        ensures seen { OnOk result (AreMarkedIds seen.new (order_of (take (at + 1) self.now.events))) }
+        ensures printable { OnOk result (AllIn IsPrintableRan (rans_at self.now at) → AllIn IsPrintableRan (rans_at self.now (at + 1))) }
+        ensures lines { OnOk result ((start : List ℕ) → out.old.items ≡ start ++ flat_map ran_line (rans_at self.now at)
+            → out.new.items ≡ start ++ flat_map ran_line (rans_at self.now (at + 1))) }
+    {
+        let Some((region, id)) = self.first_execution(seen, events, at)? else {
+            return Ok(());
+        };
+        let (origin, outcome) = self.attempt(region, id);
+        put_ran(
+            alloc,
+            out,
+            id,
+            &origin.session,
+            origin.call,
+            origin.attempt,
+            outcome,
+        )
     }
 
     /// The attempt that an event executes, if it is the first to do so, which is noted.
     fn note(
         &self,
         alloc: Global,
-        seen: &mut IndexSet<TxnId>,
+        seen: &mut Marks,
         events: &[Event],
         at: usize,
     ) -> Result<Option<Ran>, NoMemory>
         requires led { LedTo self.now }
         requires events { events.now ≡ self.now.events }
         requires at { at < length events.now }
-        requires seen { seen.old.keys ≡ order_of (take at self.now.events) }
-        ensures seen { OnOk result (seen.new.keys ≡ order_of (take (at + 1) self.now.events)) }
+        requires seen { AreMarkedIds seen.old (order_of (take at self.now.events)) }
+        ensures seen { OnOk result (AreMarkedIds seen.new (order_of (take (at + 1) self.now.events))) }
         ensures ran { IfOk result (λ ran. rans_at self.now (at + 1) ≡ rans_at self.now at ++ option_to_list ran) }
-        ensures printable { IfOk result (λ ran. AllIn IsPrintableRan (rans_at self.now at) → AllIn IsPrintableRan (rans_at self.now (at + 1))) }
+    {
+        let Some((region, id)) = self.first_execution(seen, events, at)? else {
+            return Ok(None);
+        };
+        let (origin, outcome) = self.attempt(region, id);
+        Ok(Some(Ran {
+            id,
+            session: origin.session.copy(alloc)?,
+            call: origin.call,
+            attempt: origin.attempt,
+            outcome: outcome.copy(alloc)?,
+        }))
+    }
+
+    /// The region and the id of the attempt that an event executes, if it is the first event to do so. The id is marked then.
+    fn first_execution(
+        &self,
+        seen: &mut Marks,
+        events: &[Event],
+        at: usize,
+    ) -> Result<Option<(u8, TxnId)>, NoMemory>
+        requires led { LedTo self.now }
+        requires events { events.now ≡ self.now.events }
+        requires at { at < length events.now }
+        requires seen { AreMarkedIds seen.old (order_of (take at self.now.events)) }
+        ensures seen { OnOk result (AreMarkedIds seen.new (order_of (take (at + 1) self.now.events))) }
+        ensures adds { IfOk result (λ first. AddsRan self.now at first) }
     {
         let Event::Execute { region, id } = &events[at] else {
             return Ok(None);
         };
-        if !seen.insert(*id)? {
+        if !seen.mark(*id)? {
             return Ok(None);
         }
-        let ran = self.ran(alloc, *region, *id)?;
-        ran_is_printable(&ran);
-        Ok(Some(ran))
+        Ok(Some((*region, *id)))
     }
 
-    /// An attempt that a region has executed, with its outcome.
-    fn ran(&self, alloc: Global, region: u8, id: TxnId) -> Result<Ran, NoMemory>
+    /// Whose an attempt is that a region has executed, and its outcome there.
+    fn attempt(&self, region: u8, id: TxnId) -> (&Origin, &Outcome)
         requires led { LedTo self.now }
         requires region { region < self.now.cluster.regions }
         requires executed { IsExecutedAt (world_told self.now) region id }
-        ensures { IfOk result (λ ran. ran_at (world_told self.now) region id ≡ Some ran) }
+        ensures { IsAttempt (world_told self.now) region id result.0.now result.1.now }
     {
         let executing = self.sites[region as usize];
         let Some(outcome) = executing.region.outcome(id) else {
             unreachable!()
         };
         let asking = self.sites[id.region as usize];
-        let origin = asking.origin(id.seq);
-        Ok(Ran {
-            id,
-            session: origin.session.copy(alloc)?,
-            call: origin.call,
-            attempt: origin.attempt,
-            outcome: outcome.copy(alloc)?,
-        })
+        (asking.origin(id.seq), outcome)
     }
 
     /// The answers that the events give, in their order.
@@ -359,11 +399,11 @@ impl<'a, 'b, S: Scheduler + Drop> ReportSource<'a, 'b, S> {
         ensures lines { OnOk result ((start : List ℕ) → out.old.items ≡ start ++ flat_map reply_line (replies_at self.now at)
             → out.new.items ≡ start ++ flat_map reply_line (replies_at self.now (at + 1))) }
     {
-        let Some(reply) = self.follow(alloc, names, replay, events, at)? else {
+        let Some((session, id)) = self.answered(names, replay, events, at) else {
             return Ok(());
         };
-        put_reply(alloc, out, &reply)?;
-        Ok(())
+        let (origin, outcome) = self.attempt(id.region, id);
+        put_reply(alloc, out, session, origin.call, outcome)
     }
 
     /// Follows what an event does to sessions. The reply that it gives, if it is an answer.
@@ -382,7 +422,34 @@ impl<'a, 'b, S: Scheduler + Drop> ReportSource<'a, 'b, S> {
         requires replay { replay.old ≡ replay_at self.now at }
         ensures replay { OnOk result (replay.new ≡ replay_at self.now (at + 1)) }
         ensures reply { IfOk result (λ reply. replies_at self.now (at + 1) ≡ replies_at self.now at ++ option_to_list reply) }
-        ensures printable { IfOk result (λ reply. AllIn IsPrintableReply (replies_at self.now at) → AllIn IsPrintableReply (replies_at self.now (at + 1))) }
+    {
+        let Some((session, id)) = self.answered(names, replay, events, at) else {
+            return Ok(None);
+        };
+        let (origin, outcome) = self.attempt(id.region, id);
+        Ok(Some(Reply {
+            session: session.copy(alloc)?,
+            call: origin.call,
+            outcome: outcome.copy(alloc)?,
+        }))
+    }
+
+    /// Follows what an event does to sessions. The name of the session that it answers and the attempt that the session waited for,
+    /// if it is an answer.
+    fn answered<'c>(
+        &self,
+        names: &IndexSet<Name>,
+        replay: &mut SessionReplay,
+        events: &'c [Event],
+        at: usize,
+    ) -> Option<(&'c Name, TxnId)>
+        requires led { LedTo self.now }
+        requires events { events.now ≡ self.now.events }
+        requires at { at < length events.now }
+        requires names { names.now.keys ≡ session_names self.now.workload.sessions }
+        requires replay { replay.old ≡ replay_at self.now at }
+        ensures replay { replay.new ≡ replay_at self.now (at + 1) }
+        ensures adds { AddsReply self.now at result }
     {
         match &events[at] {
             Event::Submit { region, session } => {
@@ -390,7 +457,7 @@ impl<'a, 'b, S: Scheduler + Drop> ReportSource<'a, 'b, S> {
                     unreachable!()
                 };
                 replay.submit(place, *region);
-                Ok(None)
+                None
             }
             Event::Answer { region, session } => {
                 let Some(place) = self.find(names, *region, session) else {
@@ -399,12 +466,10 @@ impl<'a, 'b, S: Scheduler + Drop> ReportSource<'a, 'b, S> {
                 let Some(id) = replay.waits(place) else {
                     unreachable!()
                 };
-                let reply = self.reply(alloc, *region, session, id)?;
-                reply_is_printable(&reply);
                 replay.answer(place);
-                Ok(Some(reply))
+                Some((session, id))
             }
-            _ => Ok(None),
+            _ => None,
         }
     }
 
@@ -420,25 +485,6 @@ impl<'a, 'b, S: Scheduler + Drop> ReportSource<'a, 'b, S> {
             return None;
         }
         Some(place)
-    }
-
-    /// The reply to a session of a region that waited for this attempt.
-    fn reply(&self, alloc: Global, region: u8, session: &Name, id: TxnId) -> Result<Reply, NoMemory>
-        requires led { LedTo self.now }
-        requires region { region < self.now.cluster.regions }
-        requires own { id.region ≡ region }
-        requires executed { IsExecutedAt (world_told self.now) region id }
-        ensures { IfOk result (λ reply. IsReply (world_told self.now) region session.now id reply) }
-    {
-        let site = self.sites[region as usize];
-        let Some(outcome) = site.region.outcome(id) else {
-            unreachable!()
-        };
-        Ok(Reply {
-            session: session.copy(alloc)?,
-            call: site.origin(id.seq).call,
-            outcome: outcome.copy(alloc)?,
-        })
     }
 }
 

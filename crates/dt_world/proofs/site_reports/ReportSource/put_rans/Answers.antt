@@ -5,14 +5,22 @@ use Rattle.dt_report.specs.Printable.{IsPrintableRan}
 use Rattle.dt_report.specs.Report.{ran_line}
 use Rattle.dt_world.specs.SessionReplayInner.{rans_at}
 use Rattle.dt_world.specs.ReportSourceInner.{ReportSourceView}
+use Rattle.dt_world.proofs.MarkLaws.{none_marked}
 use Rattle.dt_world.proofs.Reports.{order_whole}
 use Rattle.dt_world.proofs.site_reports.ReportSource.put_rans.Goals as goal
 
 pub loop-at-init : goal.loop-at-init
-loop-at-init g c = record { seen = c.requires.seen; lines = sym (append-nil c.args.out.now.items); printable = tt }
+loop-at-init g c = record { seen = none_marked c.requires.seen; lines = sym (append-nil c.args.out.now.items); printable = tt }
 
-pub note-requires-clause-events : goal.note-requires-clause-events
-note-requires-clause-events g c = ap (λ (t : ReportSourceView). t.events) c.self.view_is
+pub put_noted-requires-clause-events : goal.put_noted-requires-clause-events
+put_noted-requires-clause-events g c = ap (λ (t : ReportSourceView). t.events) c.self.view_is
+
+pub loop-at-preserved : goal.loop-at-preserved
+loop-at-preserved g c = record {
+  seen = c.in_ok-put_noted.ensures.seen;
+  lines = c.in_ok-put_noted.ensures.lines c.args.out.now.items c.loop-at.invariant.lines;
+  printable = c.in_ok-put_noted.ensures.printable c.loop-at.invariant.printable;
+}
 
 pub returns : goal.returns
 returns g c =

@@ -1,14 +1,10 @@
-use Rattle.std.proofs.Common.{◌≡◌, ◌+◌, Some, slice_get, refl, sym, subst, ◌∙◌, inl, inr}
-use Rattle.dt_lists.specs.Lists.{AllIn}
-use Rattle.dt_lists.proofs.Callers.{all_more}
+use Rattle.std.proofs.Common.{◌≡◌, ◌+◌, Some, slice_get, refl, sym, ◌∙◌, inl, inr}
 use Rattle.dt_events.specs.declared.Event.TheVariants.{Submit, Answer}
-use Rattle.dt_report.specs.Printable.{IsPrintableReply}
 use Rattle.dt_world.specs.SessionReplayInner.{replay_at, replies_at}
-use Rattle.dt_world.proofs.Reports.{FollowsAnswer, FollowsReply, FollowsSubmission, follows_answer, follows_reply, follows_submission, event_at, plain_event, session_listed}
-use Rattle.dt_world.proofs.TextByLines.{none_more}
-use Rattle.dt_world.proofs.site_reports.ReportSource.follow.Given.{Over}
-use Rattle.dt_world.proofs.site_reports.ReportSource.follow.Goals as goal
-use Rattle.dt_world.proofs.site_reports.ReportSource.follow.Goals.{In-Submit, In-Some, In-Answer, In-Some-find, In-Some-waits}
+use Rattle.dt_world.proofs.Reports.{FollowsAnswer, FollowsSubmission, adds_reply, follows_answer, follows_submission, event_at, plain_event, session_listed}
+use Rattle.dt_world.proofs.site_reports.ReportSource.answered.Given.{Over}
+use Rattle.dt_world.proofs.site_reports.ReportSource.answered.Goals as goal
+use Rattle.dt_world.proofs.site_reports.ReportSource.answered.Goals.{In-Submit, In-Some, In-Answer, In-Some-find}
 
 -- the event, where it is a submission
 submission : (g : Over) (c : In-Submit g) → slice_get c.args.self.now.events c.args.at ≡ Some (Submit c.in-Submit.region c.in-Submit.session)
@@ -28,13 +24,6 @@ answers : (g : Over) (c : In-Some-find g) → slice_get c.args.self.now.events c
     → FollowsAnswer c.args.self.now c.args.at c.in-Answer.region c.in-Some-find.place c.args.replay.now
 answers g c event =
     follows_answer c.requires.led c.args.at c.in-Answer.region c.in-Answer.session event c.in-Some-find.place (sym c.find-in-Answer.ensures ∙ c.in-Some-find.is) c.args.replay.now c.requires.replay
-
--- and where it waited for an attempt
-replies : (g : Over) (c : In-Some-waits g) → slice_get c.args.self.now.events c.args.at ≡ Some (Answer c.in-Answer.region c.in-Answer.session)
-    → FollowsReply c.args.self.now c.args.at c.in-Answer.region c.in-Answer.session c.in-Some-waits.id
-replies g c event =
-    follows_reply c.requires.led c.args.at c.in-Answer.region c.in-Answer.session event c.in-Some-find.place (sym c.find-in-Answer.ensures ∙ c.in-Some-find.is) c.args.replay.now c.requires.replay
-    c.in-Some-waits.id (sym c.waits.ensures ∙ c.in-Some-waits.is)
 
 pub unreachable-requires : goal.unreachable-requires
 unreachable-requires g c =
@@ -76,60 +65,22 @@ unreachable-requires-in_default-waits g c =
     let follows = answers g at.In-Some-find (answer g at.In-Answer) in
     follows.waited (sym c.waits.ensures ∙ c.in_default-waits.is)
 
-pub reply-requires-clause-region : goal.reply-requires-clause-region
-reply-requires-clause-region g c =
-    let at = goal.at.reply-requires-clause-region g c in
-    let follows = answers g at.In-Some-find (answer g at.In-Answer) in
-    follows.region_there
-
-pub reply-requires-clause-own : goal.reply-requires-clause-own
-reply-requires-clause-own g c =
-    let at = goal.at.reply-requires-clause-own g c in
-    let reply = replies g at.In-Some-waits (answer g at.In-Answer) in
-    reply.own
-
-pub reply-requires-clause-executed : goal.reply-requires-clause-executed
-reply-requires-clause-executed g c =
-    let at = goal.at.reply-requires-clause-executed g c in
-    let reply = replies g at.In-Some-waits (answer g at.In-Answer) in
-    reply.executed
-
-pub returns-in-Some-clause-replay : goal.returns-in-Some-clause-replay
-returns-in-Some-clause-replay g c =
-    let at = goal.at.returns-in-Some-clause-replay g c in
+pub returns-in-Some : goal.returns-in-Some
+returns-in-Some g c =
+    let at = goal.at.returns-in-Some g c in
     let follows = submits g at.In-Some (submission g at.In-Submit) in
-    c.submit.ensures ∙ follows.replay
+    record { replay = c.submit.ensures ∙ follows.replay; adds = follows.replies }
 
-pub returns-in-Some-clause-reply : goal.returns-in-Some-clause-reply
-returns-in-Some-clause-reply g c =
-    let at = goal.at.returns-in-Some-clause-reply g c in
-    let follows = submits g at.In-Some (submission g at.In-Submit) in
-    none_more follows.replies
-
-pub returns-in-Some-clause-printable : goal.returns-in-Some-clause-printable
-returns-in-Some-clause-printable g c =
-    let at = goal.at.returns-in-Some-clause-printable g c in
-    let follows = submits g at.In-Some (submission g at.In-Submit) in
-    subst (AllIn IsPrintableReply) follows.replies
-
-pub returns-in_ok-reply-in-Answer-clause-replay : goal.returns-in_ok-reply-in-Answer-clause-replay
-returns-in_ok-reply-in-Answer-clause-replay g c =
-    let at = goal.at.returns-in_ok-reply-in-Answer-clause-replay g c in
-    let follows = answers g at.In-Some-find (answer g at.In-Answer) in
-    c.answer.ensures ∙ follows.replay
-
-pub returns-in_ok-reply-in-Answer-clause-reply : goal.returns-in_ok-reply-in-Answer-clause-reply
-returns-in_ok-reply-in-Answer-clause-reply g c =
-    let at = goal.at.returns-in_ok-reply-in-Answer-clause-reply g c in
-    let reply = replies g at.In-Some-waits (answer g at.In-Answer) in
-    reply.replies c.in_ok-reply-in-Answer.reply c.in_ok-reply-in-Answer.ensures
-
-pub returns-in_ok-reply-in-Answer-clause-printable : goal.returns-in_ok-reply-in-Answer-clause-printable
-returns-in_ok-reply-in-Answer-clause-printable g c all =
-    let at = goal.at.returns-in_ok-reply-in-Answer-clause-printable g c in
-    let reply = replies g at.In-Some-waits (answer g at.In-Answer) in
-    subst (AllIn IsPrintableReply) (sym (reply.replies c.in_ok-reply-in-Answer.reply c.in_ok-reply-in-Answer.ensures))
-    (all_more IsPrintableReply (replies_at c.args.self.now c.args.at) c.in_ok-reply-in-Answer.reply all c.reply_is_printable.ensures)
+pub returns-in-Some-waits : goal.returns-in-Some-waits
+returns-in-Some-waits g c =
+    let at = goal.at.returns-in-Some-waits g c in
+    let event = answer g at.In-Answer in
+    let follows = answers g at.In-Some-find event in
+    record {
+      replay = c.answer.ensures ∙ follows.replay;
+      adds = adds_reply c.requires.led c.args.at c.in-Answer.region c.in-Answer.session event c.in-Some-find.place (sym c.find-in-Answer.ensures ∙ c.in-Some-find.is) c.args.replay.now c.requires.replay
+          c.in-Some-waits.id (sym c.waits.ensures ∙ c.in-Some-waits.is);
+    }
 
 pub returns-in_default : goal.returns-in_default
 returns-in_default g c =
@@ -137,4 +88,4 @@ returns-in_default g c =
     let plain : (replay_at c.args.self.now c.args.at ≡ replay_at c.args.self.now (c.args.at + 1))
     × (replies_at c.args.self.now c.args.at ≡ replies_at c.args.self.now (c.args.at + 1)) =
     plain_event c.requires.led c.args.at c.index-events-at.result event (λ r n. c.in_default.not-Submit r n) (λ r n. c.in_default.not-Answer r n) in
-    record { replay = c.requires.replay ∙ plain.0; reply = none_more plain.1; printable = subst (AllIn IsPrintableReply) plain.1 }
+    record { replay = c.requires.replay ∙ plain.0; adds = plain.1 }
