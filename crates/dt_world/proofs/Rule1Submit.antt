@@ -1,6 +1,6 @@
 -- Rule 1 in a world: a session submits an attempt at its region's site, and its region keeps that it waits for it. At the
 -- end stands what the call needs on its way, of what it has in hand.
-use Rattle.std.proofs.Common.{◌≡◌, ◌<◌, ◌≤◌, ℕ, List, length, get_or, set, Ok, Some, refl, sym, ap, subst, ◌∙◌, inl, inr, arith}
+use Rattle.std.proofs.Common.{◌≡◌, ◌<◌, ◌≤◌, ℕ, List, length, get_or, set, Ok, Some, None, refl, sym, ap, subst, ◌∙◌, inl, inr, arith}
 use Rattle.std.specs.Prelude.{Option, option_and_then}
 use Rattle.std.proofs.lemmas.List.{get_or-set_same, get_or-set_other, length-set}
 use Rattle.dt_lists.specs.Lists.{Either}
@@ -85,6 +85,10 @@ module _ {cluster : Cluster} {sessions : WorldSessions} {sites : List SiteView} 
       (sessions_made k (Submit region name) lr (submit_made k.reached lr (k.stands region lr) submits id after m' sound) refl refl (later id')
       (length-set sessions.by_region region (after_wait (sessions_of sessions.by_region region) name id') ∙ k.listed) standing)
 
+-- where the session may submit nothing, the event is not legal
+pub submit_refused : {view now : WorldView} (region : ℕ) (name : Bytes) → view ≡ now → IsNextOf view region name None → ¬ (IsLegal now.cluster now.workload now.state (Submit region name))
+submit_refused region name is none = subst (λ v. ¬ (IsLegal v.cluster v.workload v.state (Submit region name))) is (λ legal. none legal.allowed)
+
 -- what the call has in hand: the site of a region of a lawful world, and what the session submits next there
 pub record SubmitsAt (cluster : Cluster) (sessions : WorldSessions) (sites : List SiteView) (steps region : ℕ) (name : Bytes) (p : SiteView) (origin : Origin) (rank : ℕ) (body : Body) : Type 0 where
   pub lawful : IsLawful cluster sessions sites steps
@@ -93,13 +97,13 @@ pub record SubmitsAt (cluster : Cluster) (sessions : WorldSessions) (sites : Lis
   pub next : IsNextTry (view_in cluster sessions sites steps) region name origin rank body
 
 pub submits_at : {cluster : Cluster} {sessions : WorldSessions} {sites : List SiteView} {steps : ℕ} → IsLawful cluster sessions sites steps → {region : ℕ} → region < cluster.regions → (name : Bytes)
-    → {now : WorldView} → view_in cluster sessions sites steps ≡ now → {p : SiteView} → p ≡ get_or sites region p → {origin : Origin} {rank : ℕ} {body : Body} → IsNextOf now region name (Some (origin, rank, body))
+    → {p : SiteView} → p ≡ get_or sites region p → {origin : Origin} {rank : ℕ} {body : Body} → IsNextOf (view_in cluster sessions sites steps) region name (Some (origin, rank, body))
     → SubmitsAt cluster sessions sites steps region name p origin rank body
-submits_at {sites = sites} k {region} lr name view {p} value {origin} {rank} {body} seen = record {
+submits_at {sites = sites} k {region} lr name {p} value seen = record {
   lawful = k;
   there = lr;
   site = read_at sites region p (a_site k lr) value;
-  next = subst (λ v. IsNextTry v region name origin rank body) (sym view) seen;
+  next = seen;
 }
 
 module _ {cluster : Cluster} {sessions : WorldSessions} {sites : List SiteView} {steps region : ℕ} {name : Bytes} {p : SiteView} {origin : Origin} {rank : ℕ} {body : Body}

@@ -21,6 +21,7 @@ use Rattle.dt_site.specs.Site.{SiteView, no_site}
 use Rattle.dt_site.proofs.Callers.{Answers, StandsElsewhere, answer_elsewhere, answer_legal, answer_made, others_sessions, sessions_changed}
 use Rattle.dt_world.specs.WorldInner.{IsLawful, MayBeTold, sessions_of, site_at, view_in, world_of}
 use Rattle.dt_world.specs.WorldSessions.{WorldSessions, places_in}
+use Rattle.dt_world.specs.WorldView.{WorldView}
 use Rattle.dt_world.proofs.WorldFacts.{end_told, sessions_at_place}
 use Rattle.dt_world.proofs.WorldLaws.{HoldsSite, IsBehind, IsMade, a_site, behind, sessions_made, with_region}
 
@@ -72,6 +73,10 @@ module _ {cluster : Cluster} {sessions : WorldSessions} {sites : List SiteView} 
           → IsMade cluster sessions sites steps (Answer region name) (record sessions { by_region = later }) (with_region sites region after origins)
       go None e x = absurd x
       go (Some (session, place)) e x = let answers : Answers cluster sessions.workload w region name session place = record { found = e; may = x } in done_here answers b after m
+
+-- where the session may not be answered, the event is not legal
+pub answer_refused : {view now : WorldView} (region : ℕ) (name : Bytes) → view ≡ now → ¬ (MayBeTold view region name) → ¬ (IsLegal now.cluster now.workload now.state (Answer region name))
+answer_refused region name is not = subst (λ v. ¬ (IsLegal v.cluster v.workload v.state (Answer region name))) is (λ legal. not legal.allowed)
 
 -- the region's site kept the event, and the sessions of the region are those at its place
 module _ {cluster : Cluster} {sessions : WorldSessions} {sites : List SiteView} {steps region : ℕ} {r : RegionView} {origins : List Origin} (at : HoldsSite cluster sessions sites steps region r origins)

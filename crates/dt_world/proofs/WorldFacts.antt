@@ -11,13 +11,13 @@ use Rattle.dt_access.specs.declared.TxnId.{TxnId}
 use Rattle.dt_txn.specs.declared.Body.{Body}
 use Rattle.dt_txn.specs.declared.Outcome.{Outcome}
 use Rattle.dt_txn.specs.Transaction.{BodyFits}
-use Rattle.dt_region.specs.Region.{RegionView, outcome_of}
+use Rattle.dt_region.specs.Region.{RegionState, RegionView, outcome_of}
 use Rattle.dt_cluster.specs.declared.Cluster.{Cluster}
 use Rattle.dt_workload.specs.declared.Session.{Session}
 use Rattle.dt_workload.specs.declared.Ranked.{Ranked}
 use Rattle.dt_workload.specs.Valid.{IsValidSession, RankedFits}
 use Rattle.dt_session.specs.declared.sessions.Seat.{Seat}
-use Rattle.dt_session.specs.Sessions.{IsNext, MayBeAnswered, MayGo, SessionsView, numbers_next, seat_of, waits_of, wanted_of}
+use Rattle.dt_session.specs.Sessions.{IsNext, MayBeAnswered, MayGo, MaySeatEnd, SessionsView, StandsAt, numbers_next, seat_of, waits_of, wanted_of}
 use Rattle.dt_session.specs.World.{World, Place, session_at}
 use Rattle.dt_session.specs.Step.{MaySubmit, MayTry, awaited_at, next_attempt, ranked_body}
 use Rattle.dt_agreement.proofs.Callers.{body_fits, session_found}
@@ -27,7 +27,7 @@ use Rattle.dt_site.specs.declared.Origin.{Origin}
 use Rattle.dt_site.specs.SessionsStandIn.{no_sessions, seat_in}
 use Rattle.dt_site.specs.Site.{SiteView}
 use Rattle.dt_site.proofs.Callers.{fits_region, inv, kept_here, last_in, may_answer, may_be_answered, may_go, may_submit, numbers_are, order, outcome_here}
-use Rattle.dt_world.specs.WorldInner.{IsLawful, IsNextOf, IsNextTry, MayBeTold, sessions_of, site_at, view_in, world_of}
+use Rattle.dt_world.specs.WorldInner.{HasNextCall, IsLawful, IsNextHere, IsNextOf, IsNextTry, MayBeTold, last_here, sessions_of, site_at, view_in, world_of}
 use Rattle.dt_world.specs.WorldSessions.{WorldSessions, places_in}
 use Rattle.dt_world.specs.WorldView.{WorldView}
 use Rattle.dt_world.proofs.WorldLaws.{IsBehind}
@@ -40,6 +40,11 @@ pub record HasRead (all : List SessionsView) (sites : List SiteView) (region : �
 -- sessions that were taken out of the list are those at that place
 pub sessions_at_place : (all : List SessionsView) (region : ℕ) (s : SessionsView) → region < length all → s ≡ get_or all region s → s ≡ sessions_of all region
 sessions_at_place all region s lt e = get_or_read all region s lt e no_sessions
+
+-- so where a session stands at one reading, it stands at another
+pub stands_again : (all : List SessionsView) (region : ℕ) → region < length all → (s t : SessionsView) → s ≡ get_or all region s → t ≡ get_or all region t → (place : ℕ) (name : Bytes)
+    → StandsAt s place name → StandsAt t place name
+stands_again all region lt s t s_at t_at place name = subst (λ x. StandsAt x place name) (sessions_at_place all region s lt s_at ∙ sym (sessions_at_place all region t lt t_at))
 
 pub has_read : {all : List SessionsView} {sites : List SiteView} {region : ℕ} → region < length all → {s : SessionsView} → s ≡ get_or all region s
     → {r : RegionView} {origins : List Origin} → IsBehind sites region r origins → (name : Bytes) {last : Option Outcome} → last ≡ option_and_then (outcome_of r.state) (waits_of s name)
@@ -155,6 +160,35 @@ module _ {cluster : Cluster} {sessions : WorldSessions} {sites : List SiteView} 
         rank_is = ap (λ r. r.0) (ranked_is rank body made);
         body_is = ap (λ r. r.1) (ranked_is rank body made);
       }
+
+  -- what the region's sessions answer of the name, the rules do
+
+  module _ {s : SessionsView} where
+    module _ {last : Option Outcome} (seen : HasRead sessions.by_region sites region name s last) where
+      pub told_of : MayBeAnswered s name last → MayBeTold (view_in cluster sessions sites steps) region name
+      told_of m = told_end last seen.told (subst (λ x. MayBeAnswered x name last) seen.sessions_is m)
+
+      pub of_told : MayBeTold (view_in cluster sessions sites steps) region name → MayBeAnswered s name last
+      of_told m = subst (λ x. MayBeAnswered x name last) (sym seen.sessions_is) (end_told last seen.told m)
+
+    module _ (r : RegionState) (seen : HasRead sessions.by_region sites region name s (last_here s r name)) where
+      pub has_next_call : HasNextCall s r name
+      has_next_call call attempt is =
+          subst (λ x. IsSome (wanted_of x name call)) (sym seen.sessions_is)
+          (call_there_is (last_here s r name) seen.told call attempt (subst (λ x. IsNext x name (last_here s r name) (Some (call, attempt))) seen.sessions_is is))
+
+      pub next_of : (o : Option (Origin × ℕ × Body)) → IsNextHere s r name o → IsNextOf (view_in cluster sessions sites steps) region name o
+      next_of None n = none_next (last_here s r name) seen.told (subst (λ x. IsNext x name (last_here s r name) None) seen.sessions_is n)
+      next_of (Some (origin, rank, body)) n =
+          next_try (last_here s r name) seen.told origin.call origin.attempt
+          (subst (λ x. IsNext x name (last_here s r name) (Some (origin.call, origin.attempt))) seen.sessions_is n.1) rank body origin.session n.0
+          (subst (λ x. option_map ranked_body (wanted_of x name origin.call) ≡ Some (rank, body)) seen.sessions_is n.2)
+
+    -- a session that is not here may not be answered
+    pub away_told : s ≡ here → seat_of s name ≡ None → ¬ (MayBeTold (view_in cluster sessions sites steps) region name)
+    away_told same away m =
+        let last : Option Outcome = option_and_then (outcome_of (site_at sites region).region.state) (waits_of here name) in
+        subst (λ o. MaySeatEnd here.tries o last) (ap (λ x. seat_of x name) (sym same) ∙ away) (end_told last refl m)
 
   -- what is submitted next fits the region, and its rank is one digit
 

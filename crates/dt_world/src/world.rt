@@ -13,9 +13,10 @@ ghost use Rattle.dt_cluster.specs.Valid.{IsValidCluster};
 ghost use Rattle.dt_cluster.specs.declared.Cluster.{Cluster};
 ghost use Rattle.dt_workload.specs.Valid.{IsValidWorkload};
 ghost use Rattle.dt_workload.specs.declared.Workload.{Workload};
+ghost use Rattle.dt_session.specs.Sessions.{StandsAt};
 ghost use Rattle.dt_session.specs.Step.{IsLegal, next, rule_of};
 ghost use Rattle.dt_session.specs.Run.{AreLegal, order_of, world_after};
-ghost use Rattle.dt_world.specs.WorldInner.{IsNextOf, MayBeTold, opening_sites};
+ghost use Rattle.dt_world.specs.WorldInner.{HasNextCall, IsNextHere, opening_sites};
 ghost use Rattle.dt_world.specs.WorldReport.{IsOutcomeOf, IsReplyOf, IsToldBy, TextsTellOneRun, answered_name, report_of};
 ghost use Rattle.dt_world.specs.WorldSessions.{opening_sessions};
 ghost use Rattle.dt_world.specs.WorldView.{Makes, kept_next, kept_after, opening_view, own_events};
@@ -28,12 +29,13 @@ use dt_region::Region;
 use dt_report::Report;
 use dt_sched::Scheduler;
 use dt_session::Sessions;
-use dt_site::{Origin, Site, first_site, last_outcome, opening_of};
+use dt_site::{Origin, Site, first_site, last_outcome_at, opening_of};
 use dt_text::{Name, NoMemory};
 use dt_txn::{Body, Entry};
 use dt_workload::Workload;
 use std::alloc::Global;
 use std::marker::Model;
+use std::mem::forget;
 
 /// Why an event was not made.
 #[derive(Clone, Copy, Debug, PartialEq, Eq)]
@@ -100,9 +102,11 @@ impl<S: Scheduler + Drop> World<S> {
         requires workload { IsValidWorkload cluster workload }
         ensures { IfOk result (λ world. world ≡ opening_view cluster workload) }
     {
+        let mut sites = sites(alloc, &cluster)?;
+        expect_calls(sites.as_mut_slice(), &workload)?;
         Ok(World {
             sessions: sessions(alloc, &cluster, &workload)?,
-            sites: sites(alloc, &cluster)?,
+            sites,
             cluster,
             workload,
             steps: 0,
@@ -161,7 +165,13 @@ impl<S: Scheduler + Drop> World<S> {
         if region >= self.cluster.regions {
             return Err(StepError::Illegal(1));
         }
-        let Some((origin, rank, body)) = self.next_attempt(alloc, region, name)? else {
+        let sessions = &self.sessions[region as usize];
+        let Some(place) = sessions.place_of(name) else {
+            return Err(StepError::Illegal(1));
+        };
+        let site = &self.sites[region as usize];
+        let next = next_attempt(alloc, sessions, &site.region, name, place)?;
+        let Some((origin, rank, body)) = next else {
             return Err(StepError::Illegal(1));
         };
         let id = self.sites[region as usize].submit(
@@ -171,12 +181,12 @@ impl<S: Scheduler + Drop> World<S> {
             &self.cluster.procs,
             origin,
         )?;
-        let last = last_outcome(
+        let last = last_outcome_at(
             &self.sessions[region as usize],
             &self.sites[region as usize].region,
-            name,
+            place,
         );
-        self.sessions[region as usize].wait(name, id, last);
+        self.sessions[region as usize].wait_at(place, id, last);
         self.steps += 1;
         Ok(())
     }
@@ -293,52 +303,23 @@ impl<S: Scheduler + Drop> World<S> {
         if region >= self.cluster.regions {
             return Err(StepError::Illegal(7));
         }
-        if !self.may_answer(region, name) {
+        let sessions = &self.sessions[region as usize];
+        let Some(place) = sessions.place_of(name) else {
+            return Err(StepError::Illegal(7));
+        };
+        let last = last_outcome_at(sessions, &self.sites[region as usize].region, place);
+        if !sessions.may_answer_at(place, last) {
             return Err(StepError::Illegal(7));
         }
         self.sites[region as usize].region.answer(alloc, name)?;
-        let last = last_outcome(
+        let last = last_outcome_at(
             &self.sessions[region as usize],
             &self.sites[region as usize].region,
-            name,
+            place,
         );
-        self.sessions[region as usize].answer(name, last);
+        self.sessions[region as usize].answer_at(place, last);
         self.steps += 1;
         Ok(())
-    }
-
-    /// What a session of a region may submit next, with its rank, and whose it is. `None` exactly where it may submit nothing.
-    fn next_attempt(
-        &self,
-        alloc: Global,
-        region: u8,
-        name: &Name,
-    ) -> Result<Option<(Origin, u8, Body)>, NoMemory>
-        requires { region < self.now.cluster.regions }
-        ensures { IfOk result (IsNextOf self.now region name.now) }
-    {
-        let sessions = &self.sessions[region as usize];
-        let last = last_outcome(sessions, &self.sites[region as usize].region, name);
-        let Some((call, attempt)) = sessions.next(name, last) else {
-            return Ok(None);
-        };
-        let (rank, body) = sessions.body(alloc, name, call)?;
-        let origin = Origin {
-            session: name.copy(alloc)?,
-            call,
-            attempt,
-        };
-        Ok(Some((origin, rank, body)))
-    }
-
-    /// Whether a session of a region may be answered.
-    fn may_answer(&self, region: u8, name: &Name) -> bool
-        requires { region < self.now.cluster.regions }
-        ensures { IsTrue result ↔ MayBeTold self.now region name.now }
-    {
-        let sessions = &self.sessions[region as usize];
-        let last = last_outcome(sessions, &self.sites[region as usize].region, name);
-        sessions.may_answer(name, last)
     }
 
     /// The report of the events that led to this world, from its opening on.
@@ -393,7 +374,8 @@ impl<S: Scheduler + Drop> World<S> {
             sites,
             ..
         } = self;
-        drop(sessions);
+        // They have little memory, and the program ends soon: they are not freed one by one.
+        forget(sessions);
         let lent = each_lent(alloc, sites.as_slice())?;
         let text = text_of_sites(alloc, cluster, workload, lent.as_slice(), events)?;
         drop(lent);
@@ -429,6 +411,55 @@ fn sites<S: Scheduler + Drop>(alloc: Global, cluster: &Cluster) -> Result<Vec<Si
         sites.push(first_site(alloc, cluster, &opening, number)?)?;
     }
     Ok(sites)
+}
+
+/// Makes room in each region for what comes of the calls of a workload.
+fn expect_calls<S: Scheduler + Drop>(
+    sites: &mut [Site<S>],
+    workload: &Workload,
+) -> Result<(), NoMemory>
+    ensures { sites.new ≡ sites.old }
+{
+    let calls = call_count(workload);
+    for site in sites.iter_mut() {
+        site.region.expect(calls)?;
+    }
+    Ok(())
+}
+
+/// How many calls and moves a workload has, as far as 32 bits count.
+fn call_count(workload: &Workload) -> u32 {
+    let mut calls: usize = 0;
+    for session in workload.sessions.as_slice() {
+        calls = calls.saturating_add(session.calls.len());
+    }
+    u32::try_from(calls).unwrap_or(u32::MAX)
+}
+
+/// What the session of a name may submit next, with its rank, and whose it is: the sessions and the outcomes are those that its
+/// region keeps, and the session stands at this place among them. `None` exactly where it may submit nothing.
+fn next_attempt<S: Scheduler>(
+    alloc: Global,
+    sessions: &Sessions,
+    region: &Region<S>,
+    name: &Name,
+    place: u32,
+) -> Result<Option<(Origin, u8, Body)>, NoMemory>
+    requires place { StandsAt sessions.now place name.now }
+    requires calls { HasNextCall sessions.now region.now.state name.now }
+    ensures { IfOk result (IsNextHere sessions.now region.now.state name.now) }
+{
+    let last = last_outcome_at(sessions, region, place);
+    let Some((call, attempt)) = sessions.next_at(place, last) else {
+        return Ok(None);
+    };
+    let (rank, body) = sessions.body_at(alloc, place, call)?;
+    let origin = Origin {
+        session: name.copy(alloc)?,
+        call,
+        attempt,
+    };
+    Ok(Some((origin, rank, body)))
 }
 
 /// Each of some sites, lent.
