@@ -1,4 +1,4 @@
-ghost use Rattle.std.specs.Prelude.{◌≡◌, ◌↔◌, List, ◌&&◌, ◌+◌, ◌<◌, ◌≤◌, ℕ, nat_le, nat_lt, drop, filter_map, get_or, length, map, slice_get, take, [], Some, IsTrue, IsOk, IfOk, OnOk, OnErr};
+ghost use Rattle.std.specs.Prelude.{◌≡◌, List, ◌&&◌, ◌+◌, ◌<◌, ◌≤◌, ℕ, nat_le, nat_lt, drop, filter_map, get_or, length, map, slice_get, take, [], Some, IsOk, IfOk, OnOk, OnErr};
 ghost use Rattle.dt_lists.specs.Lists.{AllIn};
 ghost use Rattle.dt_access.specs.declared.TxnId.{TxnId};
 ghost use Rattle.dt_events.specs.Stamps.{events_of};
@@ -357,8 +357,8 @@ impl<S: Scheduler + Drop> World<S> {
     }
 
     /// The text of the report of the events that led to this world, from its opening on, and the sites of the world's regions,
-    /// which the caller may drop or leave to the end of the program. What the text does not need is freed before it is made, and
-    /// what it no longer needs meanwhile, since the text is long.
+    /// which the caller may drop or leave to the end of the program, as the world's sessions are left. What else the text does not
+    /// need is freed before it is made, and what it no longer needs meanwhile, since the text is long.
     pub fn text(self, alloc: Global, events: &[Event]) -> Result<(Vec<u8>, Vec<Site<S>>), NoMemory>
         requires legal { AreLegal self.cluster self.workload events.now }
         requires reached { self.state ≡ world_after self.cluster self.workload events.now }
@@ -374,7 +374,7 @@ impl<S: Scheduler + Drop> World<S> {
             sites,
             ..
         } = self;
-        // They have little memory, and the program ends soon: they are not freed one by one.
+        // The program ends soon, and they have little memory, which would take long to free piece by piece.
         forget(sessions);
         let lent = each_lent(alloc, sites.as_slice())?;
         let text = text_of_sites(alloc, cluster, workload, lent.as_slice(), events)?;
