@@ -1,4 +1,5 @@
 pub mod Marks
+pub mod OneLane
 pub mod NearMarks
 pub mod RowsNear
 pub mod InOrder

@@ -173,6 +173,7 @@ impl Kept {
         mark: Mark,
     ) -> Result<(), NoMemory>
         requires row_in { row < length self.old.rows.granule_of.items }
+        requires positive { 0 < mark.number }
         requires last { AllIn (λ m. m.number < mark.number) (lane self.old mode (place_at self.old.rows mode row)) }
         ensures added { OnOk result (ChangesLaneOf self.old mode (place_at self.old.rows mode row) (lane self.old mode (place_at self.old.rows mode row) ++ mark ∷ []) self.new) }
         ensures same { OnErr result (KeepsLanes self.old self.new) }

@@ -27,14 +27,15 @@ pub fn push_mark(
     place: usize,
     mark: Mark,
 ) -> Result<(), NoMemory>
-    requires { AllIn (λ m. m.number < mark.number) (get_or lanes.old.items place []) }
+    requires positive { 0 < mark.number }
+    requires last { AllIn (λ m. m.number < mark.number) (get_or lanes.old.items place []) }
     ensures added { OnOk result (ChangesLane lanes.old.items place (get_or lanes.old.items place [] ++ mark ∷ []) lanes.new.items) }
     ensures same { OnErr result (SameLanes lanes.old.items lanes.new.items) }
 {
     while lanes.len() <= place {
-        lanes.push(Lane::new(alloc))?;
+        lanes.push(Lane::new())?;
     }
-    lanes[place].push(mark)
+    lanes[place].push(alloc, mark)
 }
 
 /// Takes the mark of a number out of the lane at a place. Takes no memory.
@@ -48,6 +49,7 @@ pub fn remove_mark(lanes: &mut Vec<Lane>, place: usize, number: u64)
 
 /// Gives the mark of a number of the lane at a place a lesser number; no other of its marks lies between. Takes no memory.
 pub fn renumber_mark(lanes: &mut Vec<Lane>, place: usize, number: u64, new: u64)
+    requires positive { 0 < new }
     requires lesser { new ≤ number }
     requires gap { AllIn (IsGap number new) (get_or lanes.old.items place []) }
     ensures { ChangesLane lanes.old.items place (map (renumbered number new) (get_or lanes.old.items place [])) lanes.new.items }

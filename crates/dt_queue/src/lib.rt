@@ -19,6 +19,7 @@ mod numbers;
 mod queues;
 mod rows;
 mod spot;
+mod tail;
 mod used;
 
 pub use follower::Follower;

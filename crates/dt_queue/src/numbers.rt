@@ -86,6 +86,7 @@ impl Kept {
     /// Gives a mark a lesser number in the lane of its mode and row; no other of its marks lies between. Takes no memory.
     fn renumber_mark(&mut self, row: usize, mode: Mode, number: u64, new: u64)
         requires row_in { row < length self.old.rows.granule_of.items }
+        requires positive { 0 < new }
         requires lesser { new ≤ number }
         requires gap { AllIn (IsGap number new) (lane self.old mode (place_at self.old.rows mode row)) }
         ensures { ChangesLaneOf self.old mode (place_at self.old.rows mode row) (map (renumbered number new) (lane self.old mode (place_at self.old.rows mode row))) self.new }

@@ -6,14 +6,14 @@ use Rattle.dt_queue.proofs.kept.Kept.add_mark.Goals as goal
 pub granule_of-requires : goal.granule_of-requires
 granule_of-requires c = omega (arith, c.requires.row_in, c.args.self.now.rows.granule_of.ok.0)
 
-pub push_mark-requires : goal.push_mark-requires
-push_mark-requires c = rw c.in-Read.is at c.requires.last
+pub push_mark-requires-clause-last : goal.push_mark-requires-clause-last
+push_mark-requires-clause-last c = rw c.in-Read.is at c.requires.last
 
-pub push_mark-requires-in-Write : goal.push_mark-requires-in-Write
-push_mark-requires-in-Write c = rw c.in-Write.is at c.requires.last
+pub push_mark-requires-in-Write-clause-last : goal.push_mark-requires-in-Write-clause-last
+push_mark-requires-in-Write-clause-last c = rw c.in-Write.is at c.requires.last
 
-pub push_mark-requires-in-Whole : goal.push_mark-requires-in-Whole
-push_mark-requires-in-Whole c = rw c.granule_of.ensures (rw c.in-Whole.is at c.requires.last)
+pub push_mark-requires-in-Whole-clause-last : goal.push_mark-requires-in-Whole-clause-last
+push_mark-requires-in-Whole-clause-last c = rw c.granule_of.ensures (rw c.in-Whole.is at c.requires.last)
 
 pub returns-in-Read : goal.returns-in-Read
 returns-in-Read c = record {

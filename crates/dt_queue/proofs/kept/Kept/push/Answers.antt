@@ -44,6 +44,7 @@ add_mark-requires c =
     let mid : Kept = record k { cells = c.reserve-2.new.self; rows = c.row.new.self; in_use = c.reserve.new.self } in
     record {
       row_in = omega (arith, slice_get_within c.row.new.self.names.keys c.in_ok-row.row _ c.in_ok-row.ensures.found, c.in_ok-row.ensures.linked.each_row);
+      positive = c.requires.kept.first;
       last = rw (same_lanes mid k refl refl refl c.args.mode (place_at c.row.new.self c.args.mode c.in_ok-row.row)) (all_before k c.requires.kept c.args.mode (place_at c.row.new.self c.args.mode c.in_ok-row.row));
     }
 

@@ -1,7 +1,7 @@
 use Rattle.std.proofs.Common.{nat_lt, rules, arith}
 use Rattle.std.proofs.lemmas.List.Sorted.{IsPartitionPoint-from_clause}
 use Rattle.dt_queue.proofs.Marks.{ends_at_end, ends_below, parted}
-use Rattle.dt_queue.proofs.lane.Lane.below.Goals as goal
+use Rattle.dt_queue.proofs.tail.Tail.below.Goals as goal
 
 pub returns-then-are_below : goal.returns-then-are_below
 returns-then-are_below c =

@@ -2,7 +2,7 @@ use Rattle.std.proofs.Common.{◌≡◌, ◌≤◌, ◌+◌, ◌-◌, ◌++◌, 
 use Rattle.std.specs.List.{filter}
 use Rattle.dt_lists.specs.Lists.{AllIn}
 use Rattle.dt_queue.specs.LanesInner.{is_between}
-use Rattle.dt_queue.proofs.lane.Lane.add_between.Given as goal
+use Rattle.dt_queue.proofs.tail.Tail.add_between.Given as goal
 
 abbrev pub invariant-loop-mark : goal.invariant-loop-mark
 invariant-loop-mark l = record {

@@ -1,6 +1,6 @@
 use Rattle.std.proofs.Common.{◌≡◌, ◌<◌, ◌+◌, ◌-◌, deque_len, length, refl, arith}
 use Rattle.dt_queue.proofs.Marks.{below_by_last}
-use Rattle.dt_queue.proofs.lane.Lane.are_below.Goals as goal
+use Rattle.dt_queue.proofs.tail.Tail.are_below.Goals as goal
 
 pub returns-in-Some : goal.returns-in-Some
 returns-in-Some c t =

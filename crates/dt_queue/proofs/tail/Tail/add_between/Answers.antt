@@ -3,7 +3,7 @@ use Rattle.std.proofs.lemmas.List.{append-nil}
 use Rattle.dt_queue.specs.declared.mark.Mark.{Mark}
 use Rattle.dt_queue.specs.LanesInner.{EndsBelow}
 use Rattle.dt_queue.proofs.Marks.{between_before, between_stop, none_past}
-use Rattle.dt_queue.proofs.lane.Lane.add_between.Goals as goal
+use Rattle.dt_queue.proofs.tail.Tail.add_between.Goals as goal
 
 pub returns-in_default : goal.returns-in_default
 returns-in_default c =
