@@ -2,6 +2,6 @@ pub mod Queues
 pub mod LanesInner
 pub mod NextInner
 pub mod RowsInner
-pub mod InUseInner
+pub mod ListedInner
 pub mod KeptInner
 pub mod NumbersInner

@@ -2,6 +2,7 @@ ghost use Rattle.std.specs.Prelude.{◌≡◌, ◌<◌, ◌≤◌, ◌==◌, [],
 ghost use Rattle.std.specs.List.{filter};
 ghost use Rattle.dt_lists.specs.Lists.{AllIn};
 ghost use Rattle.dt_queue.specs.LanesInner.{ChangesLane, IsFirstBetween, IsLastBetween, SameLanes, is_between};
+ghost use Rattle.dt_queue.specs.ListedInner.{is_used};
 ghost use Rattle.dt_queue.specs.NumbersInner.{IsGap, renumbered};
 
 use crate::lane::Lane;
@@ -17,6 +18,13 @@ pub fn is_empty(lanes: &[Lane], place: usize) -> bool
         Some(lane) => lane.is_empty(),
         None => true,
     }
+}
+
+/// Whether something waits to read or write a row.
+pub fn is_used(reads: &[Lane], writes: &[Lane], row: usize) -> bool
+    ensures { result ≡ is_used reads.now writes.now row }
+{
+    !is_empty(reads, row) || !is_empty(writes, row)
 }
 
 /// Adds a mark at the back of the lane at a place; after `NoMemory` each lane has the marks that it had.

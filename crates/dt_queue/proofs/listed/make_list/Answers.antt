@@ -1,7 +1,7 @@
 use Rattle.std.proofs.Common.{◌<◌, ◌-◌, ℕ, [], Global, Vec, get_or, length, vec_capacity, vec_len, ap, sym, subst, arith, ◌∙◌}
 use Rattle.std.proofs.Math.Seq.{map-set_same}
 use Rattle.dt_queue.proofs.RowSets.{empty_behind, told_here}
-use Rattle.dt_queue.proofs.in_use.make_list.Goals as goal
+use Rattle.dt_queue.proofs.listed.make_list.Goals as goal
 
 pub loop-alloc-preserved : goal.loop-alloc-preserved
 loop-alloc-preserved c = λ g. rw c.in_ok-push.ensures.items (empty_behind c.loop-alloc.rows.items (λ r. r.items) c.new.result g c.new.ensures.items ∙ c.loop-alloc.invariant g)
