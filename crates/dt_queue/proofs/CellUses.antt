@@ -14,6 +14,7 @@ use Rattle.dt_queue.specs.declared.kept.Kept.{Kept}
 use Rattle.dt_queue.specs.declared.rows.Rows.{Rows}
 use Rattle.dt_queue.specs.KeptInner.{CellsClash, IsInLane, AreQueuesKept, lane, mark_of, place_at}
 use Rattle.dt_queue.specs.LanesInner.{AreApart}
+use Rattle.dt_queue.specs.UsesInner.{reads_of, writes_of}
 use Rattle.dt_queue.specs.ListedInner.{rows_at}
 use Rattle.dt_queue.specs.RowsInner.{granule_at}
 
@@ -60,7 +61,7 @@ read_write : Read ≡ Write → ⊥
 read_write e = cc
 
 -- the lanes of reads and writes are numbered, and have no number twice
-pub apart_lanes : (k : Kept) → AreQueuesKept k → AreApart k.reads.items k.writes.items
+pub apart_lanes : (k : Kept) → AreQueuesKept k → AreApart (reads_of k.uses.items) (writes_of k.uses.items)
 apart_lanes k kept = record {
   reads_numbered = λ row. (kept.lanes Read row).numbered;
   writes_numbered = λ row. (kept.lanes Write row).numbered;

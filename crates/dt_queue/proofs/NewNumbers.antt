@@ -376,7 +376,7 @@ first_found k number slot limit (Some t) kept le f =
 -- room was made
 pub reserved : (k : Kept) (cells : Slab Cell) → AreQueuesKept k → cells.slots ≡ k.cells.slots → ShowsSame k (record k { cells = cells })
 reserved k cells kept slots = record {
-  kept = kept_same k (record k { cells = cells }) kept kept.linked (rows_refl k.rows) (λ s. ap (λ l. slice_index_or l s None) slots) refl (λ m p. same_lanes (record k { cells = cells }) k refl refl refl m p) (record { own = kept.listed.own; used = kept.listed.used });
+  kept = kept_same k (record k { cells = cells }) kept kept.linked (rows_refl k.rows) (λ s. ap (λ l. slice_index_or l s None) slots) refl (λ m p. same_lanes (record k { cells = cells }) k refl refl m p) (record { own = kept.listed.own; used = kept.listed.used });
   rows = refl;
   shown = shown_same k (record k { cells = cells }) kept (front_refl k.rows.names.keys) slots;
 }

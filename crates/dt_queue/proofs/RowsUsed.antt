@@ -14,6 +14,7 @@ use Rattle.dt_queue.specs.declared.kept.Kept.{Kept}
 use Rattle.dt_queue.specs.declared.rows.Rows.{Rows}
 use Rattle.dt_queue.specs.ListedInner.{IsInGranule, ListsRow, SameRows, Tidies, is_used, rows_at}
 use Rattle.dt_queue.specs.KeptInner.{AreQueuesKept, AreRowsListed, ChangesLaneOf, IsInUse, lane, mark_of, place_at}
+use Rattle.dt_queue.specs.UsesInner.{reads_of, writes_of}
 use Rattle.dt_queue.specs.RowsInner.{AreRowsLinked, KeepsRows, granule_at}
 use Rattle.dt_queue.proofs.LanesOfCells.{either_place, kept_pushed, rows_refl}
 
@@ -158,14 +159,14 @@ listed_added (Ok a) k row g new listed lt e ok err = listed_more k row new liste
 listed_added (Err a) k row g new listed lt e ok err = listed_same k (record k { listed = new }) listed (rows_refl k.rows) err (λ r u. u)
 
 -- of a granule just those rows stay listed that are in use
-pub listed_tidied : (k : Kept) (granule : ℕ) (new : List (List ℕ)) → AreRowsListed k → Tidies granule k.reads.items k.writes.items k.listed new → AreRowsListed (record k { listed = new })
+pub listed_tidied : (k : Kept) (granule : ℕ) (new : List (List ℕ)) → AreRowsListed k → Tidies granule (reads_of k.uses.items) (writes_of k.uses.items) k.listed new → AreRowsListed (record k { listed = new })
 listed_tidied k granule new listed t = record {
   own = λ g r h. listed.own g r (was g r h (either_nat g granule));
   used = λ r u. stays (granule_at k.rows r) r u (listed.used r u) (either_nat (granule_at k.rows r) granule);
 }
   where
     p : ℕ → Bool
-    p = is_used k.reads.items k.writes.items
+    p = is_used (reads_of k.uses.items) (writes_of k.uses.items)
 
     was : (g r : ℕ) → Has (rows_at new g) r → (g ≡ granule) ⊎ ¬ (g ≡ granule) → Has (rows_at k.listed g) r
     was g r h (inl e) = subst (λ x. Has (rows_at k.listed x) r) (sym e) (has_of_filtered p (rows_at k.listed granule) r (subst (λ l. Has l r) t.left (subst (λ x. Has (rows_at new x) r) e h))).0
@@ -181,7 +182,7 @@ listed_tidied k granule new listed t = record {
     either false b (inr e) = e
 
     told : (r : ℕ) → IsInUse k r → p r ≡ true
-    told r (m, u) = either _ _ (elim u [ inl h ↦ inl (some (get_or k.reads.items r []) m h) | inr h ↦ inr (some (get_or k.writes.items r []) m h) ])
+    told r (m, u) = either _ _ (elim u [ inl h ↦ inl (some (get_or (reads_of k.uses.items) r []) m h) | inr h ↦ inr (some (get_or (writes_of k.uses.items) r []) m h) ])
 
     stays : (g r : ℕ) → IsInUse k r → Has (rows_at k.listed g) r → (g ≡ granule) ⊎ ¬ (g ≡ granule) → Has (rows_at new g) r
     stays g r u h (inl e) =

@@ -9,6 +9,7 @@ use Rattle.dt_access.specs.declared.access.Mode.{Mode}
 use Rattle.dt_access.specs.declared.access.Mode.TheVariants.{Read, Write, Whole}
 use Rattle.dt_queue.specs.Queues.{Waiting}
 use Rattle.dt_queue.specs.LanesInner.{HasRisingNumbers, IsFirstIn, IsLastIn, IsNearInRow, IsNextInRow}
+use Rattle.dt_queue.specs.UsesInner.{reads_of, writes_of}
 use Rattle.dt_queue.specs.RowsInner.{AreRowsLinked, granule_at, name_at}
 use Rattle.dt_queue.specs.ListedInner.{rows_at}
 use Rattle.dt_queue.specs.declared.cell.Cell.{Cell}
@@ -40,8 +41,8 @@ mark_of slot c = record { number = c.number; slot = slot; vertex = c.vertex }
 
 -- the lane of a mode at a place
 abbrev pub lane : Kept → Mode → ℕ → List Mark
-lane k Read place = get_or k.reads.items place []
-lane k Write place = get_or k.writes.items place []
+lane k Read place = get_or (reads_of k.uses.items) place []
+lane k Write place = get_or (writes_of k.uses.items) place []
 lane k Whole place = get_or k.wholes.items place []
 
 -- the place where a row has its lane of a mode

@@ -7,12 +7,15 @@ ghost use Rattle.dt_queue.specs.NextInner.{IsFirstAfter, IsKnownNext};
 
 use crate::cell::Cell;
 use crate::lane::Lane;
-use crate::lanes::{first_between, is_empty, last_between, push_mark, remove_mark};
+use crate::lanes::{first_between, last_between, push_mark, remove_mark};
 use crate::listed::Listed;
 use crate::mark::{Mark, Marks};
 use crate::nearest::{near_row, near_rows, near_write, number_or, only};
 use crate::next::Next;
 use crate::rows::Rows;
+use crate::uses::{
+    Uses, has_no_read, last_write, push_read, push_write, remove_read, remove_write,
+};
 use dt_access::Mode;
 use dt_text::{Key, NoMemory};
 use slab::Slab;
@@ -25,8 +28,7 @@ pub struct Kept {
     pub cells: Slab<Cell>,
     pub rows: Rows,
     pub listed: Listed,
-    pub reads: Vec<Lane>,
-    pub writes: Vec<Lane>,
+    pub uses: Vec<Uses>,
     pub wholes: Vec<Lane>,
     pub next_number: u64,
 }
@@ -46,8 +48,7 @@ impl Kept {
             cells: Slab::new(alloc),
             rows: Rows::new(alloc),
             listed: Listed::new(alloc),
-            reads: Vec::new(alloc),
-            writes: Vec::new(alloc),
+            uses: Vec::new(alloc),
             wholes: Vec::new(alloc),
             next_number: 1,
         }
@@ -129,7 +130,7 @@ impl Kept {
     {
         match cell.mode {
             Mode::Read => true,
-            Mode::Write => is_empty(self.reads.as_slice(), cell.row),
+            Mode::Write => has_no_read(self.uses.as_slice(), cell.row),
             Mode::Whole => false,
         }
     }
@@ -144,7 +145,7 @@ impl Kept {
         let granule = self.rows.granule_of(cell.row);
         let whole = last_between(self.wholes.as_slice(), granule, 0, cell.number);
         let low = number_or(whole, 0);
-        let write = last_between(self.writes.as_slice(), cell.row, low, cell.number);
+        let write = last_write(self.uses.as_slice(), cell.row, low, cell.number);
         write.or(whole)
     }
 
@@ -178,8 +179,7 @@ impl Kept {
         match mode {
             Mode::Read | Mode::Write => self.listed.add(alloc, granule, row),
             Mode::Whole => {
-                self.listed
-                    .tidy(granule, self.reads.as_slice(), self.writes.as_slice());
+                self.listed.tidy(granule, self.uses.as_slice());
                 Ok(())
             }
         }
@@ -200,8 +200,8 @@ impl Kept {
         ensures same { OnErr result (KeepsLanes self.old self.new) }
     {
         match mode {
-            Mode::Read => push_mark(alloc, &mut self.reads, row, mark),
-            Mode::Write => push_mark(alloc, &mut self.writes, row, mark),
+            Mode::Read => push_read(alloc, &mut self.uses, row, mark),
+            Mode::Write => push_write(alloc, &mut self.uses, row, mark),
             Mode::Whole => push_mark(alloc, &mut self.wholes, self.rows.granule_of(row), mark),
         }
     }
@@ -212,8 +212,8 @@ impl Kept {
         ensures { ChangesLaneOf self.old mode (place_at self.old.rows mode row) (filter (λ m. not (m.number == number)) (lane self.old mode (place_at self.old.rows mode row))) self.new }
     {
         match mode {
-            Mode::Read => remove_mark(&mut self.reads, row, number),
-            Mode::Write => remove_mark(&mut self.writes, row, number),
+            Mode::Read => remove_read(&mut self.uses, row, number),
+            Mode::Write => remove_write(&mut self.uses, row, number),
             Mode::Whole => remove_mark(&mut self.wholes, self.rows.granule_of(row), number),
         }
     }
@@ -224,14 +224,13 @@ impl Kept {
         requires row_in { cell.now.row < length self.now.rows.names.keys }
         ensures { IfOk result (λ marks. AreMarks (IsNearInMode self.now cell.now low) marks.items) }
     {
-        let reads = self.reads.as_slice();
-        let writes = self.writes.as_slice();
+        let uses = self.uses.as_slice();
         match cell.mode {
-            Mode::Read => near_write(alloc, writes, cell.row, low, cell.number),
-            Mode::Write => near_row(alloc, reads, writes, cell.row, low, cell.number),
+            Mode::Read => near_write(alloc, uses, cell.row, low, cell.number),
+            Mode::Write => near_row(alloc, uses, cell.row, low, cell.number),
             Mode::Whole => {
                 let rows = self.listed.of_granule(self.rows.granule_of(cell.row));
-                near_rows(alloc, reads, writes, rows, low, cell.number)
+                near_rows(alloc, uses, rows, low, cell.number)
             }
         }
     }
@@ -242,14 +241,13 @@ impl Kept {
         requires row_in { cell.now.row < length self.now.rows.names.keys }
         ensures { IsKnownNext (IsNextInMode self.now cell.now high) after result }
     {
-        let reads = self.reads.as_slice();
-        let writes = self.writes.as_slice();
+        let uses = self.uses.as_slice();
         match cell.mode {
-            Mode::Read => Next::in_lane(writes, cell.row, cell.number, high, after),
-            Mode::Write => Next::in_row(reads, writes, cell.row, cell.number, high, after),
+            Mode::Read => Next::in_writes(uses, cell.row, cell.number, high, after),
+            Mode::Write => Next::in_row(uses, cell.row, cell.number, high, after),
             Mode::Whole => {
                 let rows = self.listed.of_granule(self.rows.granule_of(cell.row));
-                Next::in_rows(reads, writes, rows, cell.number, high, after)
+                Next::in_rows(uses, rows, cell.number, high, after)
             }
         }
     }

@@ -1,31 +1,13 @@
-ghost use Rattle.std.specs.Prelude.{◌≡◌, ◌<◌, ◌≤◌, ◌==◌, [], ◌∷◌, ◌++◌, get_or, length, map, not, OnOk, OnErr};
+ghost use Rattle.std.specs.Prelude.{◌≡◌, ◌<◌, ◌≤◌, ◌==◌, [], ◌∷◌, ◌++◌, get_or, map, not, OnOk, OnErr};
 ghost use Rattle.std.specs.List.{filter};
 ghost use Rattle.dt_lists.specs.Lists.{AllIn};
-ghost use Rattle.dt_queue.specs.LanesInner.{ChangesLane, IsFirstBetween, IsLastBetween, SameLanes, is_between};
-ghost use Rattle.dt_queue.specs.ListedInner.{is_used};
+ghost use Rattle.dt_queue.specs.LanesInner.{ChangesLane, IsFirstBetween, IsLastBetween, SameLanes};
 ghost use Rattle.dt_queue.specs.NumbersInner.{IsGap, renumbered};
 
 use crate::lane::Lane;
-use crate::mark::{Mark, Marks};
+use crate::mark::Mark;
 use dt_text::NoMemory;
 use std::alloc::Global;
-
-/// Whether the lane at a place has no mark.
-pub fn is_empty(lanes: &[Lane], place: usize) -> bool
-    ensures { result ≡ (length (get_or lanes.now place []) == 0) }
-{
-    match lanes.get(place) {
-        Some(lane) => lane.is_empty(),
-        None => true,
-    }
-}
-
-/// Whether something waits to read or write a row.
-pub fn is_used(reads: &[Lane], writes: &[Lane], row: usize) -> bool
-    ensures { result ≡ is_used reads.now writes.now row }
-{
-    !is_empty(reads, row) || !is_empty(writes, row)
-}
 
 /// Adds a mark at the back of the lane at a place; after `NoMemory` each lane has the marks that it had.
 #[inline(always)]
@@ -81,20 +63,4 @@ pub fn first_between(lanes: &[Lane], place: usize, low: u64, high: u64) -> Optio
     ensures { IsFirstBetween low high (get_or lanes.now place []) result }
 {
     lanes.get(place)?.first_between(low, high)
-}
-
-/// Appends the marks of the lane at a place with numbers between the two; after `NoMemory` maybe only some of them.
-pub fn add_between(
-    lanes: &[Lane],
-    place: usize,
-    low: u64,
-    high: u64,
-    marks: &mut Marks,
-) -> Result<(), NoMemory>
-    ensures { OnOk result (marks.new.items ≡ marks.old.items ++ filter (is_between low high) (get_or lanes.now place [])) }
-{
-    match lanes.get(place) {
-        Some(lane) => lane.add_between(low, high, marks),
-        None => Ok(()),
-    }
 }

@@ -20,6 +20,7 @@ mod queues;
 mod rows;
 mod tail;
 mod used;
+mod uses;
 
 pub use follower::Follower;
 pub use queues::Queues;

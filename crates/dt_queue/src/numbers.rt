@@ -4,6 +4,7 @@ ghost use Rattle.dt_queue.specs.NumbersInner.{IsFirstFrom, IsGap, IsNumberAt, Re
 
 use crate::kept::Kept;
 use crate::lanes::renumber_mark;
+use crate::uses::{renumber_read, renumber_write};
 use dt_access::Mode;
 use dt_text::NoMemory;
 
@@ -92,8 +93,8 @@ impl Kept {
         ensures { ChangesLaneOf self.old mode (place_at self.old.rows mode row) (map (renumbered number new) (lane self.old mode (place_at self.old.rows mode row))) self.new }
     {
         match mode {
-            Mode::Read => renumber_mark(&mut self.reads, row, number, new),
-            Mode::Write => renumber_mark(&mut self.writes, row, number, new),
+            Mode::Read => renumber_read(&mut self.uses, row, number, new),
+            Mode::Write => renumber_write(&mut self.uses, row, number, new),
             Mode::Whole => renumber_mark(&mut self.wholes, self.rows.granule_of(row), number, new),
         }
     }

@@ -15,4 +15,4 @@ returns-in-Read c = record {
 
 pub returns-in-Whole-clause-listed : goal.returns-in-Whole-clause-listed
 returns-in-Whole-clause-listed c =
-    listed_tidied c.args.self.now c.granule_of-granule.result c.tidy.new.self c.requires.listed (rw (c.as_slice.ensures.value, c.as_slice-in-Whole.ensures.value) at c.tidy.ensures)
+    listed_tidied c.args.self.now c.granule_of-granule.result c.tidy.new.self c.requires.listed (rw c.as_slice.ensures.value at c.tidy.ensures)

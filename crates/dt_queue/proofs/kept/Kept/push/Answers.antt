@@ -15,15 +15,15 @@ use Rattle.dt_queue.proofs.kept.Kept.push.Goals as goal
 
 -- the entries are as before, and rows may have been added and listed
 kept_entered : (k : Kept) → AreQueuesKept k → (n : Kept) → AreRowsLinked n.rows → KeepsRows k.rows n.rows → AreRowsListed n → ((s : ℕ) → get n.cells s ≡ get k.cells s) → n.next_number ≡ k.next_number
-    → n.reads ≡ k.reads → n.writes ≡ k.writes → n.wholes ≡ k.wholes → AreQueuesKept n
-kept_entered k kept n linked keeps listed cells number r w t = kept_same k n kept linked keeps cells number (λ m p. same_lanes n k r w t m p) listed
+    → n.uses ≡ k.uses → n.wholes ≡ k.wholes → AreQueuesKept n
+kept_entered k kept n linked keeps listed cells number u t = kept_same k n kept linked keeps cells number (λ m p. same_lanes n k u t m p) listed
 
 pub returns-in_err-row-clause-kept : goal.returns-in_err-row-clause-kept
 returns-in_err-row-clause-kept c =
     let k = c.args.self.now in
     let n : Kept = record k { rows = c.row.new.self } in
     kept_entered k c.requires.kept n c.in_err-row.ensures.linked c.in_err-row.ensures.kept
-    (rows_same k n c.requires.kept c.in_err-row.ensures.kept (λ g. refl) (used_same k n (λ m p. same_lanes n k refl refl refl m p))) (λ s. refl) refl refl refl refl
+    (rows_same k n c.requires.kept c.in_err-row.ensures.kept (λ g. refl) (used_same k n (λ m p. same_lanes n k refl refl m p))) (λ s. refl) refl refl refl
 
 pub enter-requires : goal.enter-requires
 enter-requires c =
@@ -31,7 +31,7 @@ enter-requires c =
     let n : Kept = record k { rows = c.row.new.self } in
     record {
       linked = c.in_ok-row.ensures.linked;
-      listed = rows_same k n c.requires.kept c.in_ok-row.ensures.kept (λ g. refl) (used_same k n (λ m p. same_lanes n k refl refl refl m p));
+      listed = rows_same k n c.requires.kept c.in_ok-row.ensures.kept (λ g. refl) (used_same k n (λ m p. same_lanes n k refl refl m p));
       row_in = slice_get_within c.row.new.self.names.keys c.in_ok-row.row _ c.in_ok-row.ensures.found;
     }
 
@@ -47,7 +47,7 @@ returns-in_err-enter-clause-kept c =
     let same = c.in_err-enter.ensures.same in
     let rows = ap (λ (y : Kept). y.rows) same in
     kept_entered k c.requires.kept e (subst AreRowsLinked (sym rows) c.in_ok-row.ensures.linked) (subst (KeepsRows k.rows) (sym rows) c.in_ok-row.ensures.kept) c.in_err-enter.ensures.listed
-    (λ s. ap (λ (y : Kept). get y.cells s) same) (ap (λ (y : Kept). y.next_number) same) (ap (λ (y : Kept). y.reads) same) (ap (λ (y : Kept). y.writes) same) (ap (λ (y : Kept). y.wholes) same)
+    (λ s. ap (λ (y : Kept). get y.cells s) same) (ap (λ (y : Kept). y.next_number) same) (ap (λ (y : Kept). y.uses) same) (ap (λ (y : Kept). y.wholes) same)
 
 pub returns-in_err-reserve-clause-kept : goal.returns-in_err-reserve-clause-kept
 returns-in_err-reserve-clause-kept c =
@@ -57,7 +57,7 @@ returns-in_err-reserve-clause-kept c =
     let rows = ap (λ (y : Kept). y.rows) same in
     kept_entered k c.requires.kept (record e { cells = c.reserve.new.self }) (subst AreRowsLinked (sym rows) c.in_ok-row.ensures.linked) (subst (KeepsRows k.rows) (sym rows) c.in_ok-row.ensures.kept)
     (listed_in e c.reserve.new.self c.in_ok-enter.ensures.listed) (λ s. ap (λ (x : Slab Cell). get x s) c.in_err-reserve.ensures.rest_kept ∙ ap (λ (y : Kept). get y.cells s) same)
-    (ap (λ (y : Kept). y.next_number) same) (ap (λ (y : Kept). y.reads) same) (ap (λ (y : Kept). y.writes) same) (ap (λ (y : Kept). y.wholes) same)
+    (ap (λ (y : Kept). y.next_number) same) (ap (λ (y : Kept). y.uses) same) (ap (λ (y : Kept). y.wholes) same)
 
 pub add_mark-requires-clause-row_in : goal.add_mark-requires-clause-row_in
 add_mark-requires-clause-row_in c =
@@ -72,7 +72,7 @@ add_mark-requires-clause-last c =
     let same = c.in_ok-enter.ensures.same in
     let mid : Kept = record e { cells = c.reserve.new.self } in
     let place = place_at e.rows c.args.mode c.in_ok-row.row in
-    rw (same_lanes mid k (ap (λ (y : Kept). y.reads) same) (ap (λ (y : Kept). y.writes) same) (ap (λ (y : Kept). y.wholes) same) c.args.mode place) (all_before k c.requires.kept c.args.mode place)
+    rw (same_lanes mid k (ap (λ (y : Kept). y.uses) same) (ap (λ (y : Kept). y.wholes) same) c.args.mode place) (all_before k c.requires.kept c.args.mode place)
 
 pub returns-in_err-add_mark-clause-kept : goal.returns-in_err-add_mark-clause-kept
 returns-in_err-add_mark-clause-kept c =
@@ -84,7 +84,7 @@ returns-in_err-add_mark-clause-kept c =
     let same = c.in_err-add_mark.ensures.same in
     let rows = same.rows ∙ ap (λ (y : Kept). y.rows) entered in
     let keeps : KeepsRows k.rows n.rows = subst (KeepsRows k.rows) (sym rows) c.in_ok-row.ensures.kept in
-    let lanes : (m : Mode) (p : ℕ) → lane n m p ≡ lane k m p = λ m p. same.lanes m p ∙ same_lanes mid k (ap (λ (y : Kept). y.reads) entered) (ap (λ (y : Kept). y.writes) entered) (ap (λ (y : Kept). y.wholes) entered) m p in
+    let lanes : (m : Mode) (p : ℕ) → lane n m p ≡ lane k m p = λ m p. same.lanes m p ∙ same_lanes mid k (ap (λ (y : Kept). y.uses) entered) (ap (λ (y : Kept). y.wholes) entered) m p in
     let listed : AreRowsListed n = listed_same mid n (listed_in e c.reserve.new.self c.in_ok-enter.ensures.listed) (subst (KeepsRows mid.rows) (sym same.rows) (rows_refl mid.rows)) (λ g. ap (λ l. rows_at l g) same.listed)
     (λ row. (used_same mid n (λ m p. same.lanes m p) row).1) in
     kept_same k n c.requires.kept (subst AreRowsLinked (sym rows) c.in_ok-row.ensures.linked) keeps
@@ -117,7 +117,7 @@ returns-clause-kept c =
     let within : k.next_number + 1 < 2 ^ 64 = omega (arith, c.requires.left) in
     (push_steps k mid marked n c.vacant_key-slot.result cell c.requires.kept (listed_in e c.reserve.new.self c.in_ok-enter.ensures.listed) (subst AreRowsLinked (sym rows) c.in_ok-row.ensures.linked)
     (subst (KeepsRows k.rows) (sym rows) c.in_ok-row.ensures.kept) (λ s. ap (λ (x : Slab Cell). get x s) c.in_ok-reserve.ensures.rest_kept ∙ ap (λ (y : Kept). get y.cells s) entered)
-    (λ m p. same_lanes mid k (ap (λ (y : Kept). y.reads) entered) (ap (λ (y : Kept). y.writes) entered) (ap (λ (y : Kept). y.wholes) entered) m p) added refl refl (λ m p. same_lanes n marked refl refl refl m p)
+    (λ m p. same_lanes mid k (ap (λ (y : Kept). y.uses) entered) (ap (λ (y : Kept). y.wholes) entered) m p) added refl refl (λ m p. same_lanes n marked refl refl m p)
     (subst (λ s. Updates marked.cells n.cells s (Some cell)) at c.insert_reserved.ensures.updates) (subst (λ s. get marked.cells s ≡ None) at c.insert_reserved.ensures.was_vacant) refl refl within
     (subst (λ (r : Rows). c.in_ok-row.row < length r.names.keys) (sym rows) (slice_get_within c.row.new.self.names.keys c.in_ok-row.row _ c.in_ok-row.ensures.found)) c.in_ok-enter.ensures.entered).0
 
