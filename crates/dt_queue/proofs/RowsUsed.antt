@@ -12,7 +12,7 @@ use Rattle.dt_queue.specs.declared.cell.Cell.{Cell}
 use Rattle.dt_queue.specs.declared.mark.Mark.{Mark}
 use Rattle.dt_queue.specs.declared.kept.Kept.{Kept}
 use Rattle.dt_queue.specs.declared.rows.Rows.{Rows}
-use Rattle.dt_queue.specs.ListedInner.{IsInGranule, ListsRow, SameRows, Tidies, is_used, rows_at}
+use Rattle.dt_queue.specs.ListedInner.{ListsRow, SameRows, Tidies, is_used, rows_at}
 use Rattle.dt_queue.specs.KeptInner.{AreQueuesKept, AreRowsListed, ChangesLaneOf, IsInUse, lane, mark_of, place_at}
 use Rattle.dt_queue.specs.UsesInner.{reads_of, writes_of}
 use Rattle.dt_queue.specs.RowsInner.{AreRowsLinked, KeepsRows, granule_at}
@@ -137,10 +137,6 @@ push_steps k mid marked n slot c kept listed linked keeps cells lanes change row
     )
 
 -- ---- a row is entered
-
--- a row is listed of its granule alone
-pub own_granule : (k : Kept) → AreRowsListed k → (row : ℕ) → IsInGranule (granule_at k.rows row) row k.listed
-own_granule k listed row g h = sym (listed.own g row h).1
 
 -- a row that is known was listed
 pub listed_more : (k : Kept) (row : ℕ) (new : List (List ℕ)) → AreRowsListed k → row < length k.rows.names.keys → ListsRow (granule_at k.rows row) row k.listed new → AreRowsListed (record k { listed = new })

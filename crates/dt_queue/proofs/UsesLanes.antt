@@ -1,5 +1,5 @@
 -- The lanes of rows, as lists of what lies side by side: what one of them has, and how it changes while the others stay.
-use Rattle.std.proofs.Common.{◌≡◌, ◌≢◌, ℕ, zero, suc, ◌<◌, ◌≤◌, List, [], ◌∷◌, ◌++◌, map, length, get_or, set, slice_index_or, refl, ap, sym, subst, arith, ◌∙◌}
+use Rattle.std.proofs.Common.{◌≡◌, ℕ, zero, suc, ◌<◌, List, [], ◌∷◌, ◌++◌, map, length, get_or, set, slice_index_or, refl, ap, arith, ◌∙◌}
 use Rattle.std.proofs.lemmas.List.{get_or-set_other, get_or-set_same, length-map, map-set}
 use Rattle.dt_queue.specs.declared.mark.Mark.{Mark}
 use Rattle.dt_queue.specs.LanesInner.{ChangesLane, SameLanes}
@@ -9,15 +9,6 @@ module _ {A : Type 0} (f : A → List Mark) (xs : List A) where
   -- what one has is that of its place
   pub lane_at : (i : ℕ) (x : A) → i < length xs → x ≡ slice_index_or xs i x → f x ≡ get_or (map f xs) i []
   lane_at i x lt e = told_at xs f i x [] lt e
-
-  -- past the end there is none
-  pub lane_past : (i : ℕ) → length xs ≤ i → get_or (map f xs) i [] ≡ []
-  lane_past i le = past (map f xs) i (rw (length-map xs f) le)
-    where
-      past : (lanes : List (List Mark)) (i : ℕ) → length lanes ≤ i → get_or lanes i [] ≡ []
-      past [] i le = refl
-      past (l ∷ lanes) zero le = absurd (omega (arith, le))
-      past (l ∷ lanes) (suc i) le = past lanes i (omega (arith, le))
 
   -- one was changed
   pub lane_set : (i : ℕ) (x : A) (marks : List Mark) → i < length xs → f x ≡ marks → ChangesLane (map f xs) i marks (map f (set xs i x))

@@ -2,7 +2,7 @@
 -- takes a granule whole looks at these, and not at all rows that the granule ever had. A row stays listed when nothing waits in it
 -- any more, until something comes that takes the granule whole: then the rows are taken out in which nothing waits. Of each row is
 -- kept whether it is listed. Read next: `KeptInner`, for the entries.
-use Rattle.std.specs.Prelude.{◌≡◌, ◌≢◌, ◌<◌, ℕ, ◌⊎◌, ◌↔◌, Bool, true, false, not, ◌==◌, ◌||◌, List, [], get_or, length}
+use Rattle.std.specs.Prelude.{◌≡◌, ◌≢◌, ℕ, ◌⊎◌, ◌↔◌, Bool, true, false, not, ◌==◌, ◌||◌, List, [], get_or, length}
 use Rattle.std.specs.List.{filter}
 use Rattle.dt_lists.specs.Lists.{Distinct, Has}
 use Rattle.dt_queue.specs.declared.mark.Mark.{Mark}

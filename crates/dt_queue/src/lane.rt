@@ -91,14 +91,22 @@ impl Lane {
         }
     }
 
-    /// Takes out the first mark, if there is one. Takes no memory.
+    /// Takes out the first mark, if there is one. Takes no memory. A lane that has no mark any more lets the memory of its tail go,
+    /// so that it is not looked at again.
     fn remove_first(&mut self)
         ensures { self.new ≡ drop 1 self.old }
     {
-        self.first = match &mut self.tail {
-            Some(tail) => tail.pop_first().unwrap_or(Mark::none()),
-            None => Mark::none(),
+        let next = match &mut self.tail {
+            Some(tail) => tail.pop_first(),
+            None => None,
         };
+        match next {
+            Some(mark) => self.first = mark,
+            None => {
+                self.first = Mark::none();
+                self.tail = None;
+            }
+        }
     }
 
     /// Gives the mark of a number, if there is one, a lesser number; no other mark lies between the two. Takes no memory.

@@ -1,4 +1,4 @@
-use Rattle.std.proofs.Common.{◌≡◌, ◌<◌, ◌-◌, ℕ, [], false, get_or, length, map, vec_capacity, vec_len, ap, sym, subst, inl, inr, refl, arith, ◌∙◌}
+use Rattle.std.proofs.Common.{◌<◌, ◌-◌, [], length, map, vec_capacity, vec_len, sym, subst, inl, inr, refl, ◌∙◌}
 use Rattle.std.proofs.lemmas.List.{length-map, map-set}
 use Rattle.dt_lists.specs.Lists.{Has}
 use Rattle.dt_queue.specs.ListedInner.{IsListed, rows_at}
