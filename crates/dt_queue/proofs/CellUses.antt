@@ -14,7 +14,8 @@ use Rattle.dt_queue.specs.declared.kept.Kept.{Kept}
 use Rattle.dt_queue.specs.declared.rows.Rows.{Rows}
 use Rattle.dt_queue.specs.KeptInner.{CellsClash, IsInLane, AreQueuesKept, lane, mark_of, place_at}
 use Rattle.dt_queue.specs.LanesInner.{AreApart}
-use Rattle.dt_queue.specs.InUseInner.{rows_at}
+use Rattle.dt_queue.specs.UsesInner.{reads_of, writes_of}
+use Rattle.dt_queue.specs.ListedInner.{rows_at}
 use Rattle.dt_queue.specs.RowsInner.{granule_at}
 
 -- a mark that has its cell
@@ -60,7 +61,7 @@ read_write : Read ≡ Write → ⊥
 read_write e = cc
 
 -- the lanes of reads and writes are numbered, and have no number twice
-pub apart_lanes : (k : Kept) → AreQueuesKept k → AreApart k.reads.items k.writes.items
+pub apart_lanes : (k : Kept) → AreQueuesKept k → AreApart (reads_of k.uses.items) (writes_of k.uses.items)
 apart_lanes k kept = record {
   reads_numbered = λ row. (kept.lanes Read row).numbered;
   writes_numbered = λ row. (kept.lanes Write row).numbered;
@@ -92,7 +93,7 @@ apart_lanes k kept = record {
 abbrev pub InUseOf : Mode → Kept → ℕ → Mark → Type 0
 InUseOf Read k row m = Has (lane k Write row) m
 InUseOf Write k row m = Has (lane k Read row) m ⊎ Has (lane k Write row) m
-InUseOf Whole k row m = AnyIn (λ r. Has (lane k Read r) m ⊎ Has (lane k Write r) m) (rows_at k.in_use (granule_at k.rows row))
+InUseOf Whole k row m = AnyIn (λ r. Has (lane k Read r) m ⊎ Has (lane k Write r) m) (rows_at k.listed (granule_at k.rows row))
 
 pub clash_turned : (r : Rows) (c d : Cell) → CellsClash r c d → CellsClash r d c
 clash_turned r c d (inl b) = inl (sym b.0, elim b.1 [ inl e ↦ inr e | inr e ↦ inl e ])
@@ -137,15 +138,15 @@ pub narrow_cell : (k : Kept) → AreQueuesKept k → (row : ℕ) (m : Mark) (c :
 narrow_cell k kept row m c a (inl h) = let b = lane_tells k kept Read row m c a h in (ap is_whole b.0, b.1)
 narrow_cell k kept row m c a (inr h) = let b = lane_tells k kept Write row m c a h in (ap is_whole b.0, b.1)
 
-pub row_in_granule : (k : Kept) → AreQueuesKept k → (g row : ℕ) → Has (rows_at k.in_use g) row → granule_at k.rows row ≡ g
-row_in_granule k kept g row h = ((kept.in_use g row).0 h).0
+pub row_in_granule : (k : Kept) → AreQueuesKept k → (g row : ℕ) → Has (rows_at k.listed g) row → granule_at k.rows row ≡ g
+row_in_granule k kept g row h = (kept.listed.own g row h).1
 
 -- a cell that is in use clashes with the use
 pub use_clashes : (mode : Mode) (k : Kept) → AreQueuesKept k → (x : Cell) → x.mode ≡ mode → (m : Mark) (c : Cell) → IsMarkOf k m c → InUseOf mode k x.row m → IsNarrow c.mode × CellsClash k.rows c x
 use_clashes Read k kept x e m c a h = let b = lane_tells k kept Write x.row m c a h in (ap is_whole b.0, write_clashes k.rows c x b.0 b.1)
 use_clashes Write k kept x e m c a h = let b = narrow_cell k kept x.row m c a h in (b.0, clash_turned k.rows x c (write_clashes k.rows x c e (sym b.1)))
 use_clashes Whole k kept x e m c a h =
-    let r = any_get (λ row. Has (lane k Read row) m ⊎ Has (lane k Write row) m) (rows_at k.in_use (granule_at k.rows x.row)) h in
+    let r = any_get (λ row. Has (lane k Read row) m ⊎ Has (lane k Write row) m) (rows_at k.listed (granule_at k.rows x.row)) h in
     let b = narrow_cell k kept r.0 m c a r.2 in
     let g : granule_at k.rows c.row ≡ granule_at k.rows x.row = ap (granule_at k.rows) b.1 ∙ row_in_granule k kept (granule_at k.rows x.row) r.0 r.1 in
     (b.0, clash_turned k.rows x c (whole_clashes k.rows x c e (sym g)))
@@ -153,7 +154,7 @@ use_clashes Whole k kept x e m c a h =
 -- a read or a write of a granule is in a row of it that is in use
 in_own_row : (k : Kept) → AreQueuesKept k → (x : Cell) (m : Mark) (c : Cell) → CellsClash k.rows c x → Has (lane k Read c.row) m ⊎ Has (lane k Write c.row) m → InUseOf Whole k x.row m
 in_own_row k kept x m c clash h = any_put (λ r. Has (lane k Read r) m ⊎ Has (lane k Write r) m)
-    (rows_at k.in_use (granule_at k.rows x.row)) c.row ((kept.in_use (granule_at k.rows x.row) c.row).1 (one_granule k.rows c x clash, (m, h))) h
+    (rows_at k.listed (granule_at k.rows x.row)) c.row (subst (λ g. Has (rows_at k.listed g) c.row) (one_granule k.rows c x clash) (kept.listed.used c.row (m, h))) h
 
 -- a read or a write that clashes with the use is in use
 pub clash_uses : (mode : Mode) (k : Kept) → AreQueuesKept k → (x : Cell) → x.mode ≡ mode → (m : Mark) (c : Cell) → IsMarkOf k m c → CellsClash k.rows c x → (own : Mode) → c.mode ≡ own

@@ -12,8 +12,9 @@ use Rattle.dt_queue.specs.declared.cell.Cell.{Cell}
 use Rattle.dt_queue.specs.declared.mark.Mark.{Mark}
 use Rattle.dt_queue.specs.declared.kept.Kept.{Kept}
 use Rattle.dt_queue.specs.declared.rows.Rows.{Rows}
-use Rattle.dt_queue.specs.KeptInner.{AreRowsInUse, ChangesLaneOf, IsInLane, AreQueuesKept, IsLane, KeepsLanes, lane, mark_of, place_at}
+use Rattle.dt_queue.specs.KeptInner.{AreRowsListed, ChangesLaneOf, IsInLane, AreQueuesKept, IsLane, KeepsLanes, lane, mark_of, place_at}
 use Rattle.dt_queue.specs.LanesInner.{ChangesLane, SameLanes}
+use Rattle.dt_queue.specs.UsesInner.{reads_of, writes_of}
 use Rattle.dt_queue.specs.RowsInner.{AreRowsLinked, KeepsRows, granule_at}
 use Rattle.dt_queue.proofs.Marks.{numbered_more}
 use Rattle.dt_queue.proofs.InOrder.{AreAlone}
@@ -129,11 +130,11 @@ either_place m n p q = elim (either_mode m n) [
   | inr ne ↦ inr (λ b. ne b.0)
 ]
 
--- lanes are the same where all three lists are
-pub same_lanes : (a b : Kept) → a.reads ≡ b.reads → a.writes ≡ b.writes → a.wholes ≡ b.wholes → (m : Mode) (p : ℕ) → lane a m p ≡ lane b m p
-same_lanes a b r w t Read p = ap (λ l. get_or l.items p []) r
-same_lanes a b r w t Write p = ap (λ l. get_or l.items p []) w
-same_lanes a b r w t Whole p = ap (λ l. get_or l.items p []) t
+-- lanes are the same where both lists are
+pub same_lanes : (a b : Kept) → a.uses ≡ b.uses → a.wholes ≡ b.wholes → (m : Mode) (p : ℕ) → lane a m p ≡ lane b m p
+same_lanes a b u t Read p = ap (λ l. get_or (reads_of l.items) p []) u
+same_lanes a b u t Write p = ap (λ l. get_or (writes_of l.items) p []) u
+same_lanes a b u t Whole p = ap (λ l. get_or l.items p []) t
 
 pub place_same : (old new : Rows) → KeepsRows old new → (m : Mode) (row : ℕ) → row < length old.names.keys → place_at new m row ≡ place_at old m row
 place_same old new k Read row lt = refl
@@ -145,7 +146,7 @@ rows_refl r = record { names = front_refl r.names.keys; granules = λ row lt. re
 
 -- rows may have been added, and nothing else
 pub kept_same : (k n : Kept) → AreQueuesKept k → AreRowsLinked n.rows → KeepsRows k.rows n.rows → ((s : ℕ) → get n.cells s ≡ get k.cells s) → n.next_number ≡ k.next_number
-    → ((m : Mode) (p : ℕ) → lane n m p ≡ lane k m p) → AreRowsInUse n → AreQueuesKept n
+    → ((m : Mode) (p : ℕ) → lane n m p ≡ lane k m p) → AreRowsListed n → AreQueuesKept n
 kept_same k n kept linked keeps cells next lanes used = record {
   linked = linked;
   first = subst (λ i. 0 < i) (sym next) kept.first;
@@ -156,7 +157,7 @@ kept_same k n kept linked keeps cells next lanes used = record {
   lanes = λ m p. subst (IsLane n.cells (IsInLane n.rows m p)) (sym (lanes m p))
       (lane_as k.cells n.cells (IsInLane n.rows m p) (lane k m p) cells
       (lane_map k.cells (IsInLane k.rows m p) (IsInLane n.rows m p) (lane k m p) (moved m p) (kept.lanes m p)));
-  in_use = used;
+  listed = used;
 }
   where
     moved : (m : Mode) (p s : ℕ) (c : Cell) → get k.cells s ≡ Some c → IsInLane k.rows m p c ↔ IsInLane n.rows m p c
@@ -166,7 +167,7 @@ kept_same k n kept linked keeps cells next lanes used = record {
 pub kept_pushed : (k n : Kept) (slot : ℕ) (c : Cell) → AreQueuesKept k → AreRowsLinked n.rows → KeepsRows k.rows n.rows → Updates k.cells n.cells slot (Some c) → get k.cells slot ≡ None
     → c.number ≡ k.next_number → n.next_number ≡ c.number + 1 → n.next_number < 2 ^ 64 → c.row < length n.rows.names.keys
     → lane n c.mode (place_at n.rows c.mode c.row) ≡ lane k c.mode (place_at n.rows c.mode c.row) ++ mark_of slot c ∷ []
-    → ((m : Mode) (p : ℕ) → ¬ ((m ≡ c.mode) × (p ≡ place_at n.rows c.mode c.row)) → lane n m p ≡ lane k m p) → AreRowsInUse n → AreQueuesKept n
+    → ((m : Mode) (p : ℕ) → ¬ ((m ≡ c.mode) × (p ≡ place_at n.rows c.mode c.row)) → lane n m p ≡ lane k m p) → AreRowsListed n → AreQueuesKept n
 kept_pushed k n slot c kept linked keeps up vacant number next within row changed others used = record {
   linked = linked;
   first = omega (arith, next);
@@ -175,7 +176,7 @@ kept_pushed k n slot c kept linked keeps up vacant number next within row change
   alone = λ s t d x e f g. alone s t d x e f g (either_nat s slot) (either_nat t slot);
   known = λ s d e. known s d e (either_nat s slot);
   lanes = λ m p. lanes m p (either_place m c.mode p (place_at n.rows c.mode c.row));
-  in_use = used;
+  listed = used;
 }
   where
     is_new : (s : ℕ) (d : Cell) → s ≡ slot → get n.cells s ≡ Some d → d ≡ c
@@ -225,7 +226,7 @@ kept_pushed k n slot c kept linked keeps up vacant number next within row change
 -- a cell was taken out, and its mark out of its lane
 pub kept_removed : (k n : Kept) (slot : ℕ) (c : Cell) → AreQueuesKept k → n.rows ≡ k.rows → get k.cells slot ≡ Some c → Updates k.cells n.cells slot None → n.next_number ≡ k.next_number
     → lane n c.mode (place_at k.rows c.mode c.row) ≡ filter (λ m. not (m.number == c.number)) (lane k c.mode (place_at k.rows c.mode c.row))
-    → ((m : Mode) (p : ℕ) → ¬ ((m ≡ c.mode) × (p ≡ place_at k.rows c.mode c.row)) → lane n m p ≡ lane k m p) → AreRowsInUse n → AreQueuesKept n
+    → ((m : Mode) (p : ℕ) → ¬ ((m ≡ c.mode) × (p ≡ place_at k.rows c.mode c.row)) → lane n m p ≡ lane k m p) → AreRowsListed n → AreQueuesKept n
 kept_removed k n slot c kept rows there up next changed others used = record {
   linked = subst AreRowsLinked (sym rows) kept.linked;
   first = subst (λ i. 0 < i) (sym next) kept.first;
@@ -234,7 +235,7 @@ kept_removed k n slot c kept rows there up next changed others used = record {
   alone = λ s t d x e f g. kept.alone s t d x (old s d e) (old t x f) g;
   known = λ s d e. subst (λ (r : Rows). d.row < length r.names.keys) (sym rows) (kept.known s d (old s d e));
   lanes = λ m p. subst (λ (r : Rows). IsLane n.cells (IsInLane r m p) (lane n m p)) (sym rows) (lanes m p (either_place m c.mode p (place_at k.rows c.mode c.row)));
-  in_use = used;
+  listed = used;
 }
   where
     old : (s : ℕ) (d : Cell) → get n.cells s ≡ Some d → get k.cells s ≡ Some d
@@ -252,9 +253,9 @@ kept_removed k n slot c kept rows there up next changed others used = record {
 
 -- ---- steps of the code
 
-pub none_kept : (k : Kept) → AreRowsLinked k.rows → k.cells.slots ≡ [] → k.reads.items ≡ [] → k.writes.items ≡ [] → k.wholes.items ≡ []
-    → k.in_use.lists ≡ [] → 0 < k.next_number → k.next_number < 2 ^ 64 → AreQueuesKept k
-none_kept k linked slots reads writes wholes used first last = record {
+pub none_kept : (k : Kept) → AreRowsLinked k.rows → k.cells.slots ≡ [] → k.uses.items ≡ [] → k.wholes.items ≡ []
+    → k.listed ≡ [] → 0 < k.next_number → k.next_number < 2 ^ 64 → AreQueuesKept k
+none_kept k linked slots uses wholes used first last = record {
   linked = linked;
   first = first;
   last = last;
@@ -262,18 +263,18 @@ none_kept k linked slots reads writes wholes used first last = record {
   alone = λ s t c d e f g. absurd (none s c e);
   known = λ s c e. absurd (none s c e);
   lanes = λ m p. subst (IsLane k.cells (IsInLane k.rows m p)) (sym (empty m p)) (record { numbered = tt; members = λ x. (λ h. absurd h, λ r. absurd (none x.slot r.0 r.1)) });
-  in_use = λ g row. (
-    λ h. absurd (subst (λ l. Has (get_or l g []) row) used h),
-    λ u. absurd (elim u.1.1 [ inl h ↦ subst (λ l. Has l u.1.0) (empty Read row) h | inr h ↦ subst (λ l. Has l u.1.0) (empty Write row) h ]),
-  );
+  listed = record {
+    own = λ g row h. absurd (subst (λ l. Has (get_or l g []) row) used h);
+    used = λ row u. absurd (elim u.1 [ inl h ↦ subst (λ l. Has l u.0) (empty Read row) h | inr h ↦ subst (λ l. Has l u.0) (empty Write row) h ]);
+  };
 }
   where
     none : (s : ℕ) (c : Cell) → get k.cells s ≡ Some c → ⊥
     none s c e = none-some c (subst (λ l. slice_index_or l s None ≡ Some c) slots e)
 
     empty : (m : Mode) (p : ℕ) → lane k m p ≡ []
-    empty Read p = ap (λ l. get_or l p []) reads
-    empty Write p = ap (λ l. get_or l p []) writes
+    empty Read p = ap (λ l. get_or (reads_of l) p []) uses
+    empty Write p = ap (λ l. get_or (writes_of l) p []) uses
     empty Whole p = ap (λ l. get_or l p []) wholes
 
 -- all marks have numbers that were given
@@ -283,49 +284,49 @@ all_before k kept m p = all_put _ (lane k m p) (λ x h. let r = ((kept.lanes m p
     omega (arith, v, (kept.counted x.slot r.0 r.1).1))
 
 -- one lane was changed
-pub changed_read : (old new : Kept) (f : List Mark → List Mark) (mode : Mode) (row : ℕ) → mode ≡ Read → ChangesLane old.reads.items row (f (get_or old.reads.items row [])) new.reads.items
-    → new.rows ≡ old.rows → new.in_use ≡ old.in_use → new.cells ≡ old.cells → new.next_number ≡ old.next_number → new.writes ≡ old.writes → new.wholes ≡ old.wholes
+pub changed_read : (old new : Kept) (f : List Mark → List Mark) (mode : Mode) (row : ℕ) → mode ≡ Read → ChangesLane (reads_of old.uses.items) row (f (get_or (reads_of old.uses.items) row [])) (reads_of new.uses.items)
+    → new.rows ≡ old.rows → new.listed ≡ old.listed → new.cells ≡ old.cells → new.next_number ≡ old.next_number → SameLanes (writes_of old.uses.items) (writes_of new.uses.items) → new.wholes ≡ old.wholes
     → ChangesLaneOf old mode (place_at old.rows mode row) (f (lane old mode (place_at old.rows mode row))) new
 changed_read old new f mode row is change rows used cells number writes wholes =
     subst (λ m. ChangesLaneOf old m (place_at old.rows m row) (f (lane old m (place_at old.rows m row))) new) (sym is)
-    (record { changed = change.changed; others = λ m p ne. other m p ne; rows = rows; in_use = used; cells = cells; number = number })
+    (record { changed = change.changed; others = λ m p ne. other m p ne; rows = rows; listed = used; cells = cells; number = number })
   where
     other : (m : Mode) (p : ℕ) → ¬ ((m ≡ Read) × (p ≡ row)) → lane new m p ≡ lane old m p
     other Read p ne = change.others p (λ e. ne (refl, e))
-    other Write p ne = ap (λ l. get_or l.items p []) writes
+    other Write p ne = writes p
     other Whole p ne = ap (λ l. get_or l.items p []) wholes
 
-pub changed_write : (old new : Kept) (f : List Mark → List Mark) (mode : Mode) (row : ℕ) → mode ≡ Write → ChangesLane old.writes.items row (f (get_or old.writes.items row [])) new.writes.items
-    → new.rows ≡ old.rows → new.in_use ≡ old.in_use → new.cells ≡ old.cells → new.next_number ≡ old.next_number → new.reads ≡ old.reads → new.wholes ≡ old.wholes
+pub changed_write : (old new : Kept) (f : List Mark → List Mark) (mode : Mode) (row : ℕ) → mode ≡ Write → ChangesLane (writes_of old.uses.items) row (f (get_or (writes_of old.uses.items) row [])) (writes_of new.uses.items)
+    → new.rows ≡ old.rows → new.listed ≡ old.listed → new.cells ≡ old.cells → new.next_number ≡ old.next_number → SameLanes (reads_of old.uses.items) (reads_of new.uses.items) → new.wholes ≡ old.wholes
     → ChangesLaneOf old mode (place_at old.rows mode row) (f (lane old mode (place_at old.rows mode row))) new
 changed_write old new f mode row is change rows used cells number reads wholes =
     subst (λ m. ChangesLaneOf old m (place_at old.rows m row) (f (lane old m (place_at old.rows m row))) new) (sym is)
-    (record { changed = change.changed; others = λ m p ne. other m p ne; rows = rows; in_use = used; cells = cells; number = number })
+    (record { changed = change.changed; others = λ m p ne. other m p ne; rows = rows; listed = used; cells = cells; number = number })
   where
     other : (m : Mode) (p : ℕ) → ¬ ((m ≡ Write) × (p ≡ row)) → lane new m p ≡ lane old m p
-    other Read p ne = ap (λ l. get_or l.items p []) reads
+    other Read p ne = reads p
     other Write p ne = change.others p (λ e. ne (refl, e))
     other Whole p ne = ap (λ l. get_or l.items p []) wholes
 
 pub changed_whole : (old new : Kept) (f : List Mark → List Mark) (mode : Mode) (row g : ℕ) → mode ≡ Whole → g ≡ granule_at old.rows row → ChangesLane old.wholes.items g (f (get_or old.wholes.items g [])) new.wholes.items
-    → new.rows ≡ old.rows → new.in_use ≡ old.in_use → new.cells ≡ old.cells → new.next_number ≡ old.next_number → new.reads ≡ old.reads → new.writes ≡ old.writes
+    → new.rows ≡ old.rows → new.listed ≡ old.listed → new.cells ≡ old.cells → new.next_number ≡ old.next_number → new.uses ≡ old.uses
     → ChangesLaneOf old mode (place_at old.rows mode row) (f (lane old mode (place_at old.rows mode row))) new
-changed_whole old new f mode row g is same change rows used cells number reads writes =
+changed_whole old new f mode row g is same change rows used cells number uses =
     subst (λ m. ChangesLaneOf old m (place_at old.rows m row) (f (lane old m (place_at old.rows m row))) new) (sym is)
-    (record { changed = moved.changed; others = λ m p ne. other m p ne; rows = rows; in_use = used; cells = cells; number = number })
+    (record { changed = moved.changed; others = λ m p ne. other m p ne; rows = rows; listed = used; cells = cells; number = number })
   where
     moved : ChangesLane old.wholes.items (granule_at old.rows row) (f (get_or old.wholes.items (granule_at old.rows row) [])) new.wholes.items
     moved = subst (λ i. ChangesLane old.wholes.items i (f (get_or old.wholes.items i [])) new.wholes.items) same change
 
     other : (m : Mode) (p : ℕ) → ¬ ((m ≡ Whole) × (p ≡ granule_at old.rows row)) → lane new m p ≡ lane old m p
-    other Read p ne = ap (λ l. get_or l.items p []) reads
-    other Write p ne = ap (λ l. get_or l.items p []) writes
+    other Read p ne = ap (λ l. get_or (reads_of l.items) p []) uses
+    other Write p ne = ap (λ l. get_or (writes_of l.items) p []) uses
     other Whole p ne = moved.others p (λ e. ne (refl, e))
 
 -- no lane was changed
-pub keeps_lanes : (old new : Kept) → SameLanes old.reads.items new.reads.items → SameLanes old.writes.items new.writes.items → SameLanes old.wholes.items new.wholes.items
-    → new.rows ≡ old.rows → new.in_use ≡ old.in_use → new.cells ≡ old.cells → new.next_number ≡ old.next_number → KeepsLanes old new
-keeps_lanes old new reads writes wholes rows used cells number = record { lanes = λ m p. same m p; rows = rows; in_use = used; cells = cells; number = number }
+pub keeps_lanes : (old new : Kept) → SameLanes (reads_of old.uses.items) (reads_of new.uses.items) → SameLanes (writes_of old.uses.items) (writes_of new.uses.items) → SameLanes old.wholes.items new.wholes.items
+    → new.rows ≡ old.rows → new.listed ≡ old.listed → new.cells ≡ old.cells → new.next_number ≡ old.next_number → KeepsLanes old new
+keeps_lanes old new reads writes wholes rows used cells number = record { lanes = λ m p. same m p; rows = rows; listed = used; cells = cells; number = number }
   where
     same : (m : Mode) (p : ℕ) → lane new m p ≡ lane old m p
     same Read p = reads p

@@ -15,7 +15,7 @@ use Rattle.dt_queue.specs.declared.mark.Mark.{Mark}
 use Rattle.dt_queue.specs.declared.kept.Kept.{Kept}
 use Rattle.dt_queue.specs.KeptInner.{CellsClash, AreQueuesKept, HasOneNear, IsNearInMode, IsNearMark, IsNearOf, lane, mark_of}
 use Rattle.dt_queue.specs.LanesInner.{AreMarks, HasRisingNumbers, IsBetween, IsLastBetween, IsLastIn, IsNearInRow, is_between, number_or}
-use Rattle.dt_queue.specs.InUseInner.{rows_at}
+use Rattle.dt_queue.specs.ListedInner.{rows_at}
 use Rattle.dt_queue.specs.RowsInner.{granule_at}
 use Rattle.dt_queue.proofs.NearMarks.{AreLanesOfRow, either_between, in_between, near_reads, near_write, row_of, same_mark, trichotomy}
 use Rattle.dt_queue.proofs.CellUses.{InUseOf, IsMarkOf, IsNarrow, apart_lanes, cell_in_row, cell_of, clash_turned, clash_uses, lane_tells, one_use}
@@ -79,14 +79,14 @@ pub near_is_clear : (mode : Mode) (k : Kept) → AreQueuesKept k → (x : Cell) 
 near_is_clear Read k kept x low m c a near = (near.0, near.1, λ j d b used lt le clash. near.2 j used (lt, le))
 near_is_clear Write k kept x low m c a near = (one_use near.1, near.0, λ j d b used lt le clash. clear_row k kept x x.row low m c a near j d b used lt le clash)
 near_is_clear Whole k kept x low m c a near =
-    let r = any_get (λ row. IsNearInRow (lane k Read row) (lane k Write row) low x.number m) (rows_at k.in_use (granule_at k.rows x.row)) near in (
-      any_put (λ row. Has (lane k Read row) m ⊎ Has (lane k Write row) m) (rows_at k.in_use (granule_at k.rows x.row)) r.0 r.1 (one_use r.2.1),
+    let r = any_get (λ row. IsNearInRow (lane k Read row) (lane k Write row) low x.number m) (rows_at k.listed (granule_at k.rows x.row)) near in (
+      any_put (λ row. Has (lane k Read row) m ⊎ Has (lane k Write row) m) (rows_at k.listed (granule_at k.rows x.row)) r.0 r.1 (one_use r.2.1),
       r.2.0,
-      λ j d b used lt le clash. clear r.0 r.2 j d b (any_get (λ row. Has (lane k Read row) j ⊎ Has (lane k Write row) j) (rows_at k.in_use (granule_at k.rows x.row)) used) lt le clash,
+      λ j d b used lt le clash. clear r.0 r.2 j d b (any_get (λ row. Has (lane k Read row) j ⊎ Has (lane k Write row) j) (rows_at k.listed (granule_at k.rows x.row)) used) lt le clash,
     )
   where
     clear : (row : ℕ) → IsNearInRow (lane k Read row) (lane k Write row) low x.number m → (j : Mark) (d : Cell) → IsMarkOf k j d
-        → (s : ℕ) × Has (rows_at k.in_use (granule_at k.rows x.row)) s × (Has (lane k Read s) j ⊎ Has (lane k Write s) j) → m.number < j.number → j.number < x.number → ¬ (CellsClash k.rows c d)
+        → (s : ℕ) × Has (rows_at k.listed (granule_at k.rows x.row)) s × (Has (lane k Read s) j ⊎ Has (lane k Write s) j) → m.number < j.number → j.number < x.number → ¬ (CellsClash k.rows c d)
     clear row near j d b s lt le clash =
         let p = narrow_cell k kept row m c a (one_use near.1) in
         let q = narrow_cell k kept s.0 j d b s.2 in
@@ -123,7 +123,7 @@ clear_is_near Read k kept x low m c a used b clear = (used, b, λ j w e. meets j
         clear j d.0 d.1 w e.0 e.1 (write_clashes k.rows c d.0 q.0 (q.1 ∙ sym d.2.1))
 clear_is_near Write k kept x low m c a used b clear = near_in_row k kept x x.row low m c a used b clear
 clear_is_near Whole k kept x low m c a used b clear =
-    let rows = rows_at k.in_use (granule_at k.rows x.row) in
+    let rows = rows_at k.listed (granule_at k.rows x.row) in
     let r = any_get (λ row. Has (lane k Read row) m ⊎ Has (lane k Write row) m) rows used in
     any_put (λ row. IsNearInRow (lane k Read row) (lane k Write row) low x.number m) rows r.0 r.1
     (near_in_row k kept x r.0 low m c a r.2 b (λ j d f u lt le. clear j d f (any_put (λ row. Has (lane k Read row) j ⊎ Has (lane k Write row) j) rows r.0 r.1 u) lt le))
@@ -140,7 +140,7 @@ none_in_use Read k kept x low none m used b = by (last_there low x.number (lane 
         after j le lt = omega (arith, le, lt)
 none_in_use Write k kept x low none m used b = row_empty (lane k Read x.row) (lane k Write x.row) low x.number (row_of _ _ (apart_lanes k kept) x.row) none m b used
 none_in_use Whole k kept x low none m used b =
-    let rows = rows_at k.in_use (granule_at k.rows x.row) in
+    let rows = rows_at k.listed (granule_at k.rows x.row) in
     let r = any_get (λ row. Has (lane k Read row) m ⊎ Has (lane k Write row) m) rows used in
     row_empty (lane k Read r.0) (lane k Write r.0) low x.number (row_of _ _ (apart_lanes k kept) r.0)
     (λ j near. none j (any_put (λ row. IsNearInRow (lane k Read row) (lane k Write row) low x.number j) rows r.0 r.1 near)) m b r.2
@@ -208,7 +208,7 @@ module _ (k : Kept) (kept : AreQueuesKept k) (x : Cell) (o : Option Mark) (last 
       near_cell Read n = let d = cell_of k kept Write x.row m n.0 in (d.0, d.1)
       near_cell Write n = let d = cell_in_row k kept x.row m (one_use n.1) in (d.0, d.1)
       near_cell Whole n =
-          let r = any_get (λ row. IsNearInRow (lane k Read row) (lane k Write row) (number_or o 0) x.number m) (rows_at k.in_use (granule_at k.rows x.row)) n in
+          let r = any_get (λ row. IsNearInRow (lane k Read row) (lane k Write row) (number_or o 0) x.number m) (rows_at k.listed (granule_at k.rows x.row)) n in
           let d = cell_in_row k kept r.0 m (one_use r.2.1) in
           (d.0, d.1)
 

@@ -17,7 +17,7 @@ use Rattle.dt_queue.specs.declared.rows.Rows.{Rows}
 use Rattle.dt_queue.specs.KeptInner.{AreQueuesKept, IsInLane, IsLane, entry, in_order, lane, mark_of, place_at, put_cell, waiting_of}
 use Rattle.dt_queue.specs.LanesInner.{EndsBelow, HasRisingNumbers}
 use Rattle.dt_queue.specs.NumbersInner.{AreGiven, IsBeside, IsFirstBelow, IsFirstFrom, IsGap, ShowsSame, anew, renumbered}
-use Rattle.dt_queue.specs.InUseInner.{rows_at}
+use Rattle.dt_queue.specs.ListedInner.{rows_at}
 use Rattle.dt_queue.specs.RowsInner.{AreRowsLinked, KeepsRows}
 use Rattle.dt_queue.proofs.InOrder.{AreAlone, IsListed, Rise, listed, same_list}
 use Rattle.dt_queue.proofs.LanesOfCells.{either_place, kept_same, rows_refl, same_lanes}
@@ -203,7 +203,7 @@ gap_in k kept n i gap m p = all_put (IsGap n i) (lane k m p) (λ x h. let r = ((
 module _ (k n : Kept) (slot : ℕ) (c : Cell) (i : ℕ) (kept : AreQueuesKept k) (rows : n.rows ≡ k.rows) (there : get k.cells slot ≡ Some c) (up : Updates k.cells n.cells slot (Some (record c { number = i })))
     (le : i ≤ c.number) (gap : (s : ℕ) (d : Cell) → get k.cells s ≡ Some d → IsBeside c.number i d.number) where
   pub kept_renumbered : n.next_number ≡ k.next_number → 0 < i → lane n c.mode (place_at k.rows c.mode c.row) ≡ map (renumbered c.number i) (lane k c.mode (place_at k.rows c.mode c.row))
-      → ((m : Mode) (p : ℕ) → ¬ ((m ≡ c.mode) × (p ≡ place_at k.rows c.mode c.row)) → lane n m p ≡ lane k m p) → n.in_use ≡ k.in_use → AreQueuesKept n
+      → ((m : Mode) (p : ℕ) → ¬ ((m ≡ c.mode) × (p ≡ place_at k.rows c.mode c.row)) → lane n m p ≡ lane k m p) → n.listed ≡ k.listed → AreQueuesKept n
   kept_renumbered next positive changed others used = record {
     linked = subst AreRowsLinked (sym rows) kept.linked;
     first = subst (λ x. 0 < x) (sym next) kept.first;
@@ -212,7 +212,7 @@ module _ (k n : Kept) (slot : ℕ) (c : Cell) (i : ℕ) (kept : AreQueuesKept k)
     alone = λ s t d x e f g. alone s t d x e f g (either_nat s slot) (either_nat t slot);
     known = λ s d e. subst (λ (r : Rows). d.row < length r.names.keys) (sym rows) (known s d e (either_nat s slot));
     lanes = λ m p. subst (λ (r : Rows). IsLane n.cells (IsInLane r m p) (lane n m p)) (sym rows) (lanes m p (either_place m c.mode p (place_at k.rows c.mode c.row)));
-    in_use = rows_same k n kept (subst (KeepsRows k.rows) (sym rows) (rows_refl k.rows)) (λ g. ap (λ u. rows_at u g) used) (used_mapped k n (renumbered c.number i) c.mode (place_at k.rows c.mode c.row) changed others);
+    listed = rows_same k n kept (subst (KeepsRows k.rows) (sym rows) (rows_refl k.rows)) (λ g. ap (λ u. rows_at u g) used) (used_mapped k n (renumbered c.number i) c.mode (place_at k.rows c.mode c.row) changed others);
   }
     where
       is_new : (s : ℕ) (d : Cell) → s ≡ slot → get n.cells s ≡ Some d → d ≡ record c { number = i }
@@ -376,7 +376,7 @@ first_found k number slot limit (Some t) kept le f =
 -- room was made
 pub reserved : (k : Kept) (cells : Slab Cell) → AreQueuesKept k → cells.slots ≡ k.cells.slots → ShowsSame k (record k { cells = cells })
 reserved k cells kept slots = record {
-  kept = kept_same k (record k { cells = cells }) kept kept.linked (rows_refl k.rows) (λ s. ap (λ l. slice_index_or l s None) slots) refl (λ m p. same_lanes (record k { cells = cells }) k refl refl refl m p) kept.in_use;
+  kept = kept_same k (record k { cells = cells }) kept kept.linked (rows_refl k.rows) (λ s. ap (λ l. slice_index_or l s None) slots) refl (λ m p. same_lanes (record k { cells = cells }) k refl refl m p) (record { own = kept.listed.own; used = kept.listed.used });
   rows = refl;
   shown = shown_same k (record k { cells = cells }) kept (front_refl k.rows.names.keys) slots;
 }

@@ -15,7 +15,7 @@ use Rattle.dt_queue.specs.declared.next.Next.{Next}
 use Rattle.dt_queue.specs.KeptInner.{CellsClash, AreQueuesKept, HidesFrom, IsNextInMode, IsNextMark, IsNextOfMode, lane, mark_of}
 use Rattle.dt_queue.specs.LanesInner.{HasRisingNumbers, IsBetween, IsFirstBetween, IsNextInRow, later_than, number_or}
 use Rattle.dt_queue.specs.NextInner.{IsFirstAfter, IsKnownNext}
-use Rattle.dt_queue.specs.InUseInner.{rows_at}
+use Rattle.dt_queue.specs.ListedInner.{rows_at}
 use Rattle.dt_queue.specs.RowsInner.{granule_at}
 use Rattle.dt_queue.proofs.NearMarks.{AreLanesOfRow, either_between, next_of_one, next_reads, next_write, row_of, same_mark, trichotomy}
 use Rattle.dt_queue.proofs.RowsNear.{next_as}
@@ -71,14 +71,14 @@ next_is_clear : (mode : Mode) (k : Kept) → AreQueuesKept k → (x : Cell) (hig
 next_is_clear Read k kept x high m c a near = (near.0, near.1, λ j d b used lt le clash. near.2 j used (lt, le))
 next_is_clear Write k kept x high m c a near = (one_use near.1, near.0, λ j d b used lt le clash. clear_row k kept x x.row high m c a near j d b used lt le clash)
 next_is_clear Whole k kept x high m c a near =
-    let r = any_get (λ row. IsNextInRow (lane k Read row) (lane k Write row) x.number high m) (rows_at k.in_use (granule_at k.rows x.row)) near in (
-      any_put (λ row. Has (lane k Read row) m ⊎ Has (lane k Write row) m) (rows_at k.in_use (granule_at k.rows x.row)) r.0 r.1 (one_use r.2.1),
+    let r = any_get (λ row. IsNextInRow (lane k Read row) (lane k Write row) x.number high m) (rows_at k.listed (granule_at k.rows x.row)) near in (
+      any_put (λ row. Has (lane k Read row) m ⊎ Has (lane k Write row) m) (rows_at k.listed (granule_at k.rows x.row)) r.0 r.1 (one_use r.2.1),
       r.2.0,
-      λ j d b used lt le clash. clear r.0 r.2 j d b (any_get (λ row. Has (lane k Read row) j ⊎ Has (lane k Write row) j) (rows_at k.in_use (granule_at k.rows x.row)) used) lt le clash,
+      λ j d b used lt le clash. clear r.0 r.2 j d b (any_get (λ row. Has (lane k Read row) j ⊎ Has (lane k Write row) j) (rows_at k.listed (granule_at k.rows x.row)) used) lt le clash,
     )
   where
     clear : (row : ℕ) → IsNextInRow (lane k Read row) (lane k Write row) x.number high m → (j : Mark) (d : Cell) → IsMarkOf k j d
-        → (s : ℕ) × Has (rows_at k.in_use (granule_at k.rows x.row)) s × (Has (lane k Read s) j ⊎ Has (lane k Write s) j) → x.number < j.number → j.number < m.number → ¬ (CellsClash k.rows d c)
+        → (s : ℕ) × Has (rows_at k.listed (granule_at k.rows x.row)) s × (Has (lane k Read s) j ⊎ Has (lane k Write s) j) → x.number < j.number → j.number < m.number → ¬ (CellsClash k.rows d c)
     clear row near j d b s lt le clash =
         let p = narrow_cell k kept row m c a (one_use near.1) in
         let q = narrow_cell k kept s.0 j d b s.2 in
@@ -115,7 +115,7 @@ clear_is_next Read k kept x high m c a used b clear = (used, b, λ j w e. meets 
         clear j d.0 d.1 w e.0 e.1 (write_clashes k.rows d.0 c d.2.0 (d.2.1 ∙ sym q.1))
 clear_is_next Write k kept x high m c a used b clear = next_in_row k kept x x.row high m c a used b clear
 clear_is_next Whole k kept x high m c a used b clear =
-    let rows = rows_at k.in_use (granule_at k.rows x.row) in
+    let rows = rows_at k.listed (granule_at k.rows x.row) in
     let r = any_get (λ row. Has (lane k Read row) m ⊎ Has (lane k Write row) m) rows used in
     any_put (λ row. IsNextInRow (lane k Read row) (lane k Write row) x.number high m) rows r.0 r.1
     (next_in_row k kept x r.0 high m c a r.2 b (λ j d f u lt le. clear j d f (any_put (λ row. Has (lane k Read row) j ⊎ Has (lane k Write row) j) rows r.0 r.1 u) lt le))
@@ -132,7 +132,7 @@ none_in_use Read k kept x high none m used b = by (first_there x.number high (la
         before j le lt = omega (arith, le, lt)
 none_in_use Write k kept x high none m used b = row_empty (lane k Read x.row) (lane k Write x.row) x.number high (row_of _ _ (apart_lanes k kept) x.row) none m b used
 none_in_use Whole k kept x high none m used b =
-    let rows = rows_at k.in_use (granule_at k.rows x.row) in
+    let rows = rows_at k.listed (granule_at k.rows x.row) in
     let r = any_get (λ row. Has (lane k Read row) m ⊎ Has (lane k Write row) m) rows used in
     row_empty (lane k Read r.0) (lane k Write r.0) x.number high (row_of _ _ (apart_lanes k kept) r.0)
     (λ j near. none j (any_put (λ row. IsNextInRow (lane k Read row) (lane k Write row) x.number high j) rows r.0 r.1 near)) m b r.2
@@ -197,7 +197,7 @@ module _ (k : Kept) (kept : AreQueuesKept k) (x : Cell) (top : ℕ) (within : k.
       near_cell Read n = let d = cell_of k kept Write x.row m n.0 in (d.0, d.1)
       near_cell Write n = let d = cell_in_row k kept x.row m (one_use n.1) in (d.0, d.1)
       near_cell Whole n =
-          let r = any_get (λ row. IsNextInRow (lane k Read row) (lane k Write row) x.number (number_or o top) m) (rows_at k.in_use (granule_at k.rows x.row)) n in
+          let r = any_get (λ row. IsNextInRow (lane k Read row) (lane k Write row) x.number (number_or o top) m) (rows_at k.listed (granule_at k.rows x.row)) n in
           let d = cell_in_row k kept r.0 m (one_use r.2.1) in
           (d.0, d.1)
 

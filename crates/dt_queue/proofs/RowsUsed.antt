@@ -1,10 +1,10 @@
--- Rows in use: which they are after a mark was added, taken out or renumbered, and that a row in use is known.
-use Rattle.std.proofs.Common.{◌≡◌, ◌≢◌, ◌⊎◌, ◌↔◌, ℕ, ◌<◌, Bool, IsTrue, true, false, not, ◌==◌, List, [], ◌∷◌, ◌++◌, map}
-use Rattle.std.proofs.Common.{◌+◌, ◌^◌, length, None, Some, refl, ap, sym, subst, inl, inr, ◌∙◌}
+-- Rows in use: they are listed, also after a mark was added, taken out or renumbered.
+use Rattle.std.proofs.Common.{◌≡◌, ◌⊎◌, ◌↔◌, ℕ, ◌<◌, Bool, true, false, not, ◌==◌, ◌||◌, List, [], ◌∷◌, ◌++◌, get_or, map, Result, Ok, Err, OnOk, OnErr}
+use Rattle.std.proofs.Common.{◌+◌, ◌^◌, length, None, Some, refl, ap, sym, subst, inl, inr, arith, ◌∙◌}
 use Rattle.std.specs.List.{filter}
 use Rattle.slab.specs.Slab.{Updates, get}
 use Rattle.dt_lists.specs.Lists.{Has}
-use Rattle.dt_lists.proofs.Callers.{any_append_left, any_append_right, any_get, any_of_image, either_nat, has_map, has_of_filtered}
+use Rattle.dt_lists.proofs.Callers.{any_get, any_of_image, either_nat, front_length, has_filter, has_map, has_of_filtered}
 use Rattle.dt_access.specs.Clash.{is_whole}
 use Rattle.dt_access.specs.declared.access.Mode.{Mode}
 use Rattle.dt_access.specs.declared.access.Mode.TheVariants.{Read, Write, Whole}
@@ -12,10 +12,11 @@ use Rattle.dt_queue.specs.declared.cell.Cell.{Cell}
 use Rattle.dt_queue.specs.declared.mark.Mark.{Mark}
 use Rattle.dt_queue.specs.declared.kept.Kept.{Kept}
 use Rattle.dt_queue.specs.declared.rows.Rows.{Rows}
-use Rattle.dt_queue.specs.InUseInner.{InUseView, IsInGranule, SameRows, UsesRow, rows_at}
-use Rattle.dt_queue.specs.KeptInner.{AreQueuesKept, AreRowsInUse, ChangesLaneOf, IsInUse, LeavesRow, lane, mark_of, place_at}
+use Rattle.dt_queue.specs.ListedInner.{ListsRow, SameRows, Tidies, is_used, rows_at}
+use Rattle.dt_queue.specs.KeptInner.{AreQueuesKept, AreRowsListed, ChangesLaneOf, IsInUse, lane, mark_of, place_at}
+use Rattle.dt_queue.specs.UsesInner.{reads_of, writes_of}
 use Rattle.dt_queue.specs.RowsInner.{AreRowsLinked, KeepsRows, granule_at}
-use Rattle.dt_queue.proofs.LanesOfCells.{either_place, empty_of, kept_pushed, some_of}
+use Rattle.dt_queue.proofs.LanesOfCells.{either_place, kept_pushed, rows_refl}
 
 -- the mode takes no granule as a whole
 abbrev IsPart : Mode → Type 0
@@ -40,39 +41,27 @@ to_used k row Read part r = (r.0, inl r.1)
 to_used k row Write part r = (r.0, inr r.1)
 to_used k row Whole part r = whole_no part
 
-either_some : (ms : List Mark) → ((m : Mark) × Has ms m) ⊎ ((m : Mark) → ¬ (Has ms m))
-either_some [] = inr (λ m h. h)
-either_some (m ∷ ms) = inl (m, inl refl)
-
-either_used : (k : Kept) (row : ℕ) → IsInUse k row ⊎ ¬ (IsInUse k row)
-either_used k row = elim (either_some (lane k Read row)) [
-  | inl r ↦ inl (to_used k row Read refl r)
-  | inr none ↦ elim (either_some (lane k Write row)) [ inl w ↦ inl (to_used k row Write refl w) | inr nor ↦ inr (λ u. elim u.1 [ inl h ↦ none u.0 h | inr h ↦ nor u.0 h ]) ]
-]
-
 -- a row in use is known
-used_known : (k : Kept) → AreQueuesKept k → (row : ℕ) → IsInUse k row → row < length k.rows.names.keys
-used_known k kept row u =
-    let a = of_used k row u in
-    let r = ((kept.lanes a.0 row).members a.2.0).0 a.2.1 in
-    subst (λ i. i < length k.rows.names.keys) (sym (at_row k.rows a.0 r.0.row a.1) ∙ r.2.1) (kept.known a.2.0.slot r.0 r.1)
+used_known : (k : Kept) → AreRowsListed k → (row : ℕ) → IsInUse k row → row < length k.rows.names.keys
+used_known k listed row u = (listed.own (granule_at k.rows row) row (listed.used row u)).0
 
--- the same rows are in use
-pub rows_same : (k n : Kept) → AreQueuesKept k → KeepsRows k.rows n.rows → SameRows k.in_use n.in_use → ((row : ℕ) → IsInUse k row ↔ IsInUse n row) → AreRowsInUse n
-rows_same k n kept keeps same used g row = (
-  λ h. let r = (kept.in_use g row).0 (subst (λ l. Has l row) (same g) h) in (keeps.granules row (used_known k kept row r.1) ∙ r.0, (used row).0 r.1),
-  λ r. let u = (used row).1 r.1 in subst (λ l. Has l row) (sym (same g)) ((kept.in_use g row).1 (sym (keeps.granules row (used_known k kept row u)) ∙ r.0, u)),
-)
+-- of each granule the same rows are listed
+pub listed_same : (k n : Kept) → AreRowsListed k → KeepsRows k.rows n.rows → SameRows k.listed n.listed → ((row : ℕ) → IsInUse n row → IsInUse k row) → AreRowsListed n
+listed_same k n listed keeps same used = record {
+  own = λ g row h. let b = listed.own g row (subst (λ l. Has l row) (same g) h) in (omega (arith, b.0, front_length _ _ keeps.names), keeps.granules row b.0 ∙ b.1);
+  used = λ row u.
+      let v = used row u in
+      subst (λ l. Has l row) (sym (same (granule_at n.rows row))) (subst (λ g. Has (rows_at k.listed g) row) (sym (keeps.granules row (used_known k listed row v))) (listed.used row v));
+}
+
+pub rows_same : (k n : Kept) → AreQueuesKept k → KeepsRows k.rows n.rows → SameRows k.listed n.listed → ((row : ℕ) → IsInUse k row ↔ IsInUse n row) → AreRowsListed n
+rows_same k n kept keeps same used = listed_same k n kept.listed keeps same (λ row. (used row).1)
 
 pub used_same : (k n : Kept) → ((m : Mode) (p : ℕ) → lane n m p ≡ lane k m p) → (row : ℕ) → IsInUse k row ↔ IsInUse n row
 used_same k n same row = (
   λ u. let a = of_used k row u in to_used n row a.0 a.1 (a.2.0, subst (λ l. Has l a.2.0) (sym (same a.0 row)) a.2.1),
   λ u. let a = of_used n row u in to_used k row a.0 a.1 (a.2.0, subst (λ l. Has l a.2.0) (same a.0 row) a.2.1),
 )
-
--- a row is in use in its own granule alone
-pub own_granule : (k : Kept) → AreQueuesKept k → (r : Rows) → KeepsRows k.rows r → (u : InUseView) → SameRows k.in_use u → (row : ℕ) → IsInGranule (granule_at r row) row u
-own_granule k kept r keeps u same row g h = let b = (kept.in_use g row).0 (subst (λ l. Has l row) (same g) h) in sym b.0 ∙ sym (keeps.granules row (used_known k kept row b.1))
 
 -- ---- one lane was changed
 
@@ -96,71 +85,41 @@ used_mapped k n f mode place changed others row = (
   still_used n k mode place (λ m p ne. sym (others m p ne)) (λ m h. let r = any_get (λ x. f x ≡ m) (lane k mode place) (any_of_image (λ x. x ≡ m) f (lane k mode place) (subst (λ l. Has l m) changed h)) in (r.0, r.1)) row,
 )
 
--- a mark was put to the lane of a row, which is in use from now on, where the mode is to read or write it
-pub rows_pushed : (k n : Kept) (mode : Mode) (row : ℕ) (mark : Mark) → AreQueuesKept k → KeepsRows k.rows n.rows
-    → lane n mode (place_at n.rows mode row) ≡ lane k mode (place_at n.rows mode row) ++ mark ∷ [] → AreOthers k n mode (place_at n.rows mode row)
-    → UsesRow (granule_at n.rows row) row mode k.in_use n.in_use → AreRowsInUse n
-rows_pushed k n mode row mark kept keeps changed others uses g r = (
-  λ h. elim ((uses g r).0 h) [
-    | inl old ↦ let u = (kept.in_use g r).0 old in (keeps.granules r (used_known k kept r u.1) ∙ u.0, grown r u.1)
-    | inr b ↦ (ap (granule_at n.rows) b.2 ∙ sym b.1, subst (IsInUse n) (sym b.2) (here b.0))
-  ],
-  λ u. elim (came r u.1) [
-    | inl old ↦ (uses g r).1 (inl ((kept.in_use g r).1 (sym (keeps.granules r (used_known k kept r old)) ∙ u.0, old)))
-    | inr b ↦ (uses g r).1 (inr (b.0, sym u.0 ∙ ap (granule_at n.rows) b.1, b.1))
-  ],
-)
+-- a mark was put to the lane of a row, which is listed, where the mode is to read or write it
+rows_pushed : (k n : Kept) (mode : Mode) (row : ℕ) → AreRowsListed k → n.rows ≡ k.rows → n.listed ≡ k.listed → AreOthers k n mode (place_at k.rows mode row)
+    → (IsPart mode → Has (rows_at k.listed (granule_at k.rows row)) row) → AreRowsListed n
+rows_pushed k n mode row listed rows list others entered = record {
+  own = λ g r h. subst (λ (x : Rows). (r < length x.names.keys) × (granule_at x r ≡ g)) (sym rows) (listed.own g r (subst (λ l. Has (rows_at l g) r) list h));
+  used = λ r u. subst (λ (x : Rows). Has (rows_at n.listed (granule_at x r)) r) (sym rows) (subst (λ l. Has (rows_at l (granule_at k.rows r)) r) (sym list) (elim (came r u) [
+    | inl old ↦ listed.used r old
+    | inr b ↦ subst (λ x. Has (rows_at k.listed (granule_at k.rows x)) x) (sym b.1) (entered b.0)
+  ]));
+}
   where
-    grown : (r : ℕ) → IsInUse k r → IsInUse n r
-    grown = still_used k n mode (place_at n.rows mode row) others (λ m h. (m, subst (λ l. Has l m) (sym changed) (any_append_left _ (lane k mode (place_at n.rows mode row)) (mark ∷ []) h)))
-
-    here : IsPart mode → IsInUse n row
-    here part = to_used n row mode part (subst (λ p. (m : Mark) × Has (lane n mode p) m) (at_row n.rows mode row part)
-        (mark, subst (λ l. Has l mark) (sym changed) (any_append_right _ (lane k mode (place_at n.rows mode row)) (mark ∷ []) (inl refl))))
-
     came : (r : ℕ) → IsInUse n r → IsInUse k r ⊎ IsPart mode × (r ≡ row)
     came r u =
         let a = of_used n r u in
-        elim (either_place a.0 mode r (place_at n.rows mode row)) [
-          | inl b ↦ inr (subst IsPart b.0 a.1, b.1 ∙ ap (λ m. place_at n.rows m row) (sym b.0) ∙ at_row n.rows a.0 row a.1)
+        elim (either_place a.0 mode r (place_at k.rows mode row)) [
+          | inl b ↦ inr (subst IsPart b.0 a.1, b.1 ∙ ap (λ m. place_at k.rows m row) (sym b.0) ∙ at_row k.rows a.0 row a.1)
           | inr ne ↦ inl (to_used k r a.0 a.1 (a.2.0, subst (λ l. Has l a.2.0) (others a.0 r ne) a.2.1))
         ]
 
--- a mark was taken out of the lane of a row, which is in use no more, where nothing waits to read or write it
-pub rows_removed : (k n : Kept) (mode : Mode) (row number : ℕ) → AreQueuesKept k → n.rows ≡ k.rows
-    → lane n mode (place_at k.rows mode row) ≡ filter (λ m. not (m.number == number)) (lane k mode (place_at k.rows mode row)) → AreOthers k n mode (place_at k.rows mode row)
-    → ((g r : ℕ) → Has (rows_at n.in_use g) r ↔ Has (rows_at k.in_use g) r × ¬ ((r ≡ row) × ¬ (IsInUse n row))) → AreRowsInUse n
-rows_removed k n mode row number kept rows changed others leaves g r = (
-  λ h. let b = (leaves g r).0 h in
-      let u = (kept.in_use g r).0 b.0 in
-      (ap (λ x. granule_at x r) rows ∙ u.0, still r u.1 (λ e none. b.1 (e, none))),
-  λ u. (leaves g r).1 ((kept.in_use g r).1 (ap (λ x. granule_at x r) (sym rows) ∙ u.0, before r u.1), λ b. b.1 (subst (IsInUse n) b.0 u.1)),
-)
-  where
-    before : (r : ℕ) → IsInUse n r → IsInUse k r
-    before = still_used n k mode (place_at k.rows mode row) (λ m p ne. sym (others m p ne))
-        (λ m h. (m, (has_of_filtered (λ (x : Mark). not (x.number == number)) (lane k mode (place_at k.rows mode row)) m (subst (λ l. Has l m) changed h)).0))
-
-    still : (r : ℕ) → IsInUse k r → (r ≡ row → ¬ (IsInUse n row) → ⊥) → IsInUse n r
-    still r u some = elim (either_nat r row) [
-      | inl e ↦ elim (either_used n row) [ inl v ↦ subst (IsInUse n) (sym e) v | inr none ↦ absurd (some e none) ]
-      | inr ne ↦ elsewhere ne
-    ]
-      where
-        elsewhere : r ≢ row → IsInUse n r
-        elsewhere ne =
-            let a = of_used k r u in
-            to_used n r a.0 a.1 (a.2.0, subst (λ l. Has l a.2.0) (sym (others a.0 r (λ b. ne (b.1 ∙ ap (λ m. place_at k.rows m row) (sym b.0) ∙ at_row k.rows a.0 row a.1)))) a.2.1)
+-- a mark was taken out of the lane of a row
+pub rows_removed : (k n : Kept) (mode : Mode) (place number : ℕ) → AreQueuesKept k → n.rows ≡ k.rows → n.listed ≡ k.listed
+    → lane n mode place ≡ filter (λ m. not (m.number == number)) (lane k mode place) → AreOthers k n mode place → AreRowsListed n
+rows_removed k n mode place number kept rows list changed others =
+    listed_same k n kept.listed (subst (KeepsRows k.rows) (sym rows) (rows_refl k.rows)) (λ g. ap (λ l. rows_at l g) list)
+    (still_used n k mode place (λ m p ne. sym (others m p ne)) (λ m h. (m, (has_of_filtered (λ (x : Mark). not (x.number == number)) (lane k mode place) m (subst (λ l. Has l m) changed h)).0)))
 
 -- a push, step by step: rows were added, room was made, a mark was added, and the cell was put
-pub push_steps : (k mid marked n : Kept) (slot : ℕ) (c : Cell) → AreQueuesKept k → AreRowsLinked mid.rows → KeepsRows k.rows mid.rows → ((s : ℕ) → get mid.cells s ≡ get k.cells s)
+pub push_steps : (k mid marked n : Kept) (slot : ℕ) (c : Cell) → AreQueuesKept k → AreRowsListed mid → AreRowsLinked mid.rows → KeepsRows k.rows mid.rows → ((s : ℕ) → get mid.cells s ≡ get k.cells s)
     → ((m : Mode) (p : ℕ) → lane mid m p ≡ lane k m p)
     → ChangesLaneOf mid c.mode (place_at mid.rows c.mode c.row) (lane mid c.mode (place_at mid.rows c.mode c.row) ++ mark_of slot c ∷ []) marked
-    → n.rows ≡ marked.rows → ((m : Mode) (p : ℕ) → lane n m p ≡ lane marked m p) → Updates marked.cells n.cells slot (Some c) → get marked.cells slot ≡ None
+    → n.rows ≡ marked.rows → n.listed ≡ marked.listed → ((m : Mode) (p : ℕ) → lane n m p ≡ lane marked m p) → Updates marked.cells n.cells slot (Some c) → get marked.cells slot ≡ None
     → c.number ≡ k.next_number → n.next_number ≡ c.number + 1 → n.next_number < 2 ^ 64 → c.row < length mid.rows.names.keys
-    → UsesRow (granule_at n.rows c.row) c.row c.mode k.in_use n.in_use
+    → (IsPart c.mode → Has (rows_at mid.listed (granule_at mid.rows c.row)) c.row)
     → AreQueuesKept n × Updates k.cells n.cells slot (Some c) × (get k.cells slot ≡ None)
-push_steps k mid marked n slot c kept linked keeps cells lanes change rows same up vacant number next within row uses =
+push_steps k mid marked n slot c kept listed linked keeps cells lanes change rows list same up vacant number next within row entered =
     let moved : n.rows ≡ mid.rows = rows ∙ change.rows in
     let old : (s : ℕ) → get marked.cells s ≡ get k.cells s = λ s. ap (λ x. get x s) change.cells ∙ cells s in
     let updates : Updates k.cells n.cells slot (Some c) = record { changed = up.changed; others = λ s ne. up.others s ne ∙ old s } in
@@ -172,40 +131,56 @@ push_steps k mid marked n slot c kept linked keeps cells lanes change rows same 
     let others : AreOthers k n c.mode (place_at n.rows c.mode c.row) =
     λ m p ne. same m p ∙ change.others m p (λ b. ne (b.0, b.1 ∙ ap (λ (r : Rows). place_at r c.mode c.row) (sym moved))) ∙ lanes m p in (
       kept_pushed k n slot c kept (subst AreRowsLinked (sym moved) linked) longer updates empty number next within (subst (λ (r : Rows). c.row < length r.names.keys) (sym moved) row) changed others
-          (rows_pushed k n c.mode c.row (mark_of slot c) kept longer changed others uses),
+          (rows_pushed mid n c.mode c.row listed moved (list ∙ change.listed) (λ m p ne. same m p ∙ change.others m p ne) entered),
       updates,
       empty,
     )
 
--- rows were put in after all others stayed
-pub uses_as : (granule number row : ℕ) (mode : Mode) (old mid new : InUseView) → SameRows old mid → granule ≡ number → UsesRow number row mode mid new → UsesRow granule row mode old new
-uses_as granule number row mode old mid new same e uses g r = (
-  λ h. elim ((uses g r).0 h) [ inl o ↦ inl (subst (λ l. Has l r) (same g) o) | inr b ↦ inr (b.0, b.1 ∙ sym e, b.2) ],
-  λ h. (uses g r).1 (elim h [ inl o ↦ inl (subst (λ l. Has l r) (sym (same g)) o) | inr b ↦ inr (b.0, b.1 ∙ e, b.2) ]),
-)
+-- ---- a row is entered
 
--- a row was taken out after its lane was changed
-pub leaves_as : (k marked n : Kept) (row : ℕ) → marked.in_use ≡ k.in_use → ((m : Mode) (p : ℕ) → lane n m p ≡ lane marked m p) → LeavesRow row marked n
-    → (g r : ℕ) → Has (rows_at n.in_use g) r ↔ Has (rows_at k.in_use g) r × ¬ ((r ≡ row) × ¬ (IsInUse n row))
-leaves_as k marked n row used lanes leaves g r = (
-  λ h. let b = (leaves g r).0 h in (subst (λ u. Has (rows_at u g) r) used b.0, λ t. b.1 (t.0, λ u. t.1 ((used_same marked n lanes row).0 u))),
-  λ b. (leaves g r).1 (subst (λ u. Has (rows_at u g) r) (sym used) b.0, λ t. b.1 (t.0, λ u. t.1 ((used_same marked n lanes row).1 u))),
-)
+-- a row that is known was listed
+pub listed_more : (k : Kept) (row : ℕ) (new : List (List ℕ)) → AreRowsListed k → row < length k.rows.names.keys → ListsRow (granule_at k.rows row) row k.listed new → AreRowsListed (record k { listed = new })
+listed_more k row new listed lt more = record {
+  own = λ g r h. elim ((more g r).0 h) [
+    | inl o ↦ listed.own g r o
+    | inr b ↦ (subst (λ x. x < length k.rows.names.keys) (sym b.1) lt, ap (granule_at k.rows) b.1 ∙ sym b.0)
+  ];
+  used = λ r u. (more (granule_at k.rows r) r).1 (inl (listed.used r u));
+}
 
--- where no mark reads, a mark writes or none does
-pub used_where : (reads writes : List Mark) → reads ≡ [] → (t : Bool) → t ≡ (length writes == 0) → IsTrue (not t) ↔ ((m : Mark) × (Has reads m ⊎ Has writes m))
-used_where reads writes none t is = (
-  λ e. let w = some_of writes (length writes) t refl is (was_true e) in (w.0, inr w.1),
-  λ u. elim u.1 [ inl h ↦ absurd (subst (λ l. Has l u.0) none h) | inr h ↦ by t is u.0 h ],
-)
+-- or the same rows are listed as before
+pub listed_added : {A E : Type 0} (r : Result A E) (k : Kept) (row g : ℕ) (new : List (List ℕ)) → AreRowsListed k → row < length k.rows.names.keys → g ≡ granule_at k.rows row
+    → OnOk r (ListsRow g row k.listed new) → OnErr r (SameRows k.listed new) → AreRowsListed (record k { listed = new })
+listed_added (Ok a) k row g new listed lt e ok err = listed_more k row new listed lt (subst (λ x. ListsRow x row k.listed new) e ok)
+listed_added (Err a) k row g new listed lt e ok err = listed_same k (record k { listed = new }) listed (rows_refl k.rows) err (λ r u. u)
+
+-- of a granule just those rows stay listed that are in use
+pub listed_tidied : (k : Kept) (granule : ℕ) (new : List (List ℕ)) → AreRowsListed k → Tidies granule (reads_of k.uses.items) (writes_of k.uses.items) k.listed new → AreRowsListed (record k { listed = new })
+listed_tidied k granule new listed t = record {
+  own = λ g r h. listed.own g r (was g r h (either_nat g granule));
+  used = λ r u. stays (granule_at k.rows r) r u (listed.used r u) (either_nat (granule_at k.rows r) granule);
+}
   where
-    was_true : IsTrue (not t) → t ≡ false
-    was_true e = by t e
-      where
-        by : (t : Bool) → IsTrue (not t) → t ≡ false
-        by true e = cc
-        by false e = refl
+    p : ℕ → Bool
+    p = is_used (reads_of k.uses.items) (writes_of k.uses.items)
 
-    by : (t : Bool) → t ≡ (length writes == 0) → (m : Mark) → Has writes m → IsTrue (not t)
-    by false e m h = refl
-    by true e m h = absurd (subst (λ l. Has l m) (empty_of writes (length writes) true refl e refl) h)
+    was : (g r : ℕ) → Has (rows_at new g) r → (g ≡ granule) ⊎ ¬ (g ≡ granule) → Has (rows_at k.listed g) r
+    was g r h (inl e) = subst (λ x. Has (rows_at k.listed x) r) (sym e) (has_of_filtered p (rows_at k.listed granule) r (subst (λ l. Has l r) t.left (subst (λ x. Has (rows_at new x) r) e h))).0
+    was g r h (inr ne) = subst (λ l. Has l r) (t.others g ne) h
+
+    some : (ms : List Mark) (m : Mark) → Has ms m → not (length ms == 0) ≡ true
+    some [] m h = absurd h
+    some (x ∷ ms) m h = grind arith
+
+    either : (a b : Bool) → (a ≡ true) ⊎ (b ≡ true) → (a || b) ≡ true
+    either true b e = refl
+    either false b (inl e) = cc
+    either false b (inr e) = e
+
+    told : (r : ℕ) → IsInUse k r → p r ≡ true
+    told r (m, u) = either _ _ (elim u [ inl h ↦ inl (some (get_or (reads_of k.uses.items) r []) m h) | inr h ↦ inr (some (get_or (writes_of k.uses.items) r []) m h) ])
+
+    stays : (g r : ℕ) → IsInUse k r → Has (rows_at k.listed g) r → (g ≡ granule) ⊎ ¬ (g ≡ granule) → Has (rows_at new g) r
+    stays g r u h (inl e) =
+        subst (λ x. Has (rows_at new x) r) (sym e) (subst (λ l. Has l r) (sym t.left) (has_filter p (rows_at k.listed granule) r (subst (λ x. Has (rows_at k.listed x) r) e h) (told r u)))
+    stays g r u h (inr ne) = subst (λ l. Has l r) (sym (t.others g ne)) h

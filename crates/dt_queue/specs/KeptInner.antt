@@ -1,6 +1,6 @@
 -- Scaffolding: how the queues are kept. Each entry has a cell at its slot, with its row, its mode and the number of its push;
 -- and it has a mark in the lane of its mode, that of its row, or for the mode Whole that of its granule. `waiting_of` is the
--- list of entries that is kept so, and `AreQueuesKept` what all queues keep. Read next: `LanesInner`, then `RowsInner` and `InUseInner`.
+-- list of entries that is kept so, and `AreQueuesKept` what all queues keep. Read next: `LanesInner`, then `RowsInner` and `ListedInner`.
 use Rattle.std.specs.Prelude.{◌≡◌, ℕ, ◌<◌, ◌↔◌, ◌⊎◌, ◌^◌, nat_lt, true, false, List, [], ◌∷◌, map, get_or, length, if◌then◌else◌, None, Some}
 use Rattle.slab.specs.Slab.{Slab, Updates, get, entries}
 use Rattle.dt_lists.specs.Lists.{AnyIn, Has}
@@ -9,8 +9,9 @@ use Rattle.dt_access.specs.declared.access.Mode.{Mode}
 use Rattle.dt_access.specs.declared.access.Mode.TheVariants.{Read, Write, Whole}
 use Rattle.dt_queue.specs.Queues.{Waiting}
 use Rattle.dt_queue.specs.LanesInner.{HasRisingNumbers, IsFirstIn, IsLastIn, IsNearInRow, IsNextInRow}
+use Rattle.dt_queue.specs.UsesInner.{reads_of, writes_of}
 use Rattle.dt_queue.specs.RowsInner.{AreRowsLinked, granule_at, name_at}
-use Rattle.dt_queue.specs.InUseInner.{rows_at}
+use Rattle.dt_queue.specs.ListedInner.{rows_at}
 use Rattle.dt_queue.specs.declared.cell.Cell.{Cell}
 use Rattle.dt_queue.specs.declared.mark.Mark.{Mark}
 use Rattle.dt_queue.specs.declared.rows.Rows.{Rows}
@@ -40,8 +41,8 @@ mark_of slot c = record { number = c.number; slot = slot; vertex = c.vertex }
 
 -- the lane of a mode at a place
 abbrev pub lane : Kept → Mode → ℕ → List Mark
-lane k Read place = get_or k.reads.items place []
-lane k Write place = get_or k.writes.items place []
+lane k Read place = get_or (reads_of k.uses.items) place []
+lane k Write place = get_or (writes_of k.uses.items) place []
 lane k Whole place = get_or k.wholes.items place []
 
 -- the place where a row has its lane of a mode
@@ -63,16 +64,13 @@ pub record IsLane (cells : Slab Cell) (P : Cell → Type 0) (marks : List Mark) 
 abbrev pub IsInUse : Kept → ℕ → Type 0
 IsInUse k row = (m : Mark) × (Has (lane k Read row) m ⊎ Has (lane k Write row) m)
 
--- of each granule just those rows are kept that are in use
-abbrev pub AreRowsInUse : Kept → Type 0
-AreRowsInUse k = (g row : ℕ) → Has (rows_at k.in_use g) row ↔ (granule_at k.rows row ≡ g) × IsInUse k row
-
--- a row was taken out of those in use, where nothing waits to read or write it
-abbrev pub LeavesRow : ℕ → Kept → Kept → Type 0
-LeavesRow row old new = (g r : ℕ) → Has (rows_at new.in_use g) r ↔ Has (rows_at old.in_use g) r × ¬ ((r ≡ row) × ¬ (IsInUse old row))
+-- listed rows are known, and listed of their granules; and all rows in use are listed
+pub record AreRowsListed (k : Kept) : Type 0 where
+  pub own : (g row : ℕ) → Has (rows_at k.listed g) row → (row < length k.rows.names.keys) × (granule_at k.rows row ≡ g)
+  pub used : (row : ℕ) → IsInUse k row → Has (rows_at k.listed (granule_at k.rows row)) row
 
 -- what all queues keep: a cell has a number that was given, no other has it, and its row is known; its mark is in its lane; and
--- the rows in use are known
+-- the rows in use are listed
 pub record AreQueuesKept (k : Kept) : Type 0 where
   pub linked : AreRowsLinked k.rows
   pub first : 0 < k.next_number
@@ -81,14 +79,14 @@ pub record AreQueuesKept (k : Kept) : Type 0 where
   pub alone : (s t : ℕ) (c d : Cell) → get k.cells s ≡ Some c → get k.cells t ≡ Some d → c.number ≡ d.number → s ≡ t
   pub known : (slot : ℕ) (c : Cell) → get k.cells slot ≡ Some c → c.row < length k.rows.names.keys
   pub lanes : (mode : Mode) (place : ℕ) → IsLane k.cells (IsInLane k.rows mode place) (lane k mode place)
-  pub in_use : AreRowsInUse k
+  pub listed : AreRowsListed k
 
 -- one lane has become another, and all other lanes and all else are as before
 pub record ChangesLaneOf (old : Kept) (mode : Mode) (place : ℕ) (marks : List Mark) (new : Kept) : Type 0 where
   pub changed : lane new mode place ≡ marks
   pub others : (m : Mode) (p : ℕ) → ¬ ((m ≡ mode) × (p ≡ place)) → lane new m p ≡ lane old m p
   pub rows : new.rows ≡ old.rows
-  pub in_use : new.in_use ≡ old.in_use
+  pub listed : new.listed ≡ old.listed
   pub cells : new.cells ≡ old.cells
   pub number : new.next_number ≡ old.next_number
 
@@ -96,7 +94,7 @@ pub record ChangesLaneOf (old : Kept) (mode : Mode) (place : ℕ) (marks : List 
 pub record KeepsLanes (old new : Kept) : Type 0 where
   pub lanes : (m : Mode) (p : ℕ) → lane new m p ≡ lane old m p
   pub rows : new.rows ≡ old.rows
-  pub in_use : new.in_use ≡ old.in_use
+  pub listed : new.listed ≡ old.listed
   pub cells : new.cells ≡ old.cells
   pub number : new.next_number ≡ old.next_number
 
@@ -114,7 +112,7 @@ pub record AddsCell (old new : Kept) (slot : ℕ) (row_name : ℕ × Bytes) (mod
 abbrev pub IsNearOf : Mode → Kept → ℕ → ℕ → ℕ → Mark → Type 0
 IsNearOf Read k row low high m = IsLastIn (lane k Write row) low high m
 IsNearOf Write k row low high m = IsNearInRow (lane k Read row) (lane k Write row) low high m
-IsNearOf Whole k row low high m = AnyIn (λ r. IsNearInRow (lane k Read r) (lane k Write r) low high m) (rows_at k.in_use (granule_at k.rows row))
+IsNearOf Whole k row low high m = AnyIn (λ r. IsNearInRow (lane k Read r) (lane k Write r) low high m) (rows_at k.listed (granule_at k.rows row))
 
 -- and this for the cell's own mode, row and number
 abbrev pub IsNearInMode : Kept → Cell → ℕ → Mark → Type 0
@@ -124,7 +122,7 @@ IsNearInMode k x low m = IsNearOf x.mode k x.row low x.number m
 abbrev pub IsNextOfMode : Mode → Kept → ℕ → ℕ → ℕ → Mark → Type 0
 IsNextOfMode Read k row low high m = IsFirstIn (lane k Write row) low high m
 IsNextOfMode Write k row low high m = IsNextInRow (lane k Read row) (lane k Write row) low high m
-IsNextOfMode Whole k row low high m = AnyIn (λ r. IsNextInRow (lane k Read r) (lane k Write r) low high m) (rows_at k.in_use (granule_at k.rows row))
+IsNextOfMode Whole k row low high m = AnyIn (λ r. IsNextInRow (lane k Read r) (lane k Write r) low high m) (rows_at k.listed (granule_at k.rows row))
 
 -- and this for the cell's own mode, row and number
 abbrev pub IsNextInMode : Kept → Cell → ℕ → Mark → Type 0

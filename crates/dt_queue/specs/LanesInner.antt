@@ -1,13 +1,26 @@
 -- Lanes: the entries that use one row in one way, each as a mark with the number of its push. Their numbers ascend, so a lane
--- is searched by halving, and what lies between two entries of other lanes is found by their numbers. Read next: `NextInner`, for
--- how followers are found in them.
-use Rattle.std.specs.Prelude.{◌≡◌, ℕ, ◌<◌, ◌≤◌, ◌⊎◌, ◌↔◌, Bool, ◌&&◌, nat_lt, if◌then◌else◌, List, [], ◌++◌, get_or, length, take, drop, Option, Some, None}
+-- is searched by halving, and what lies between two entries of other lanes is found by their numbers. Most lanes have one mark at
+-- most, so the first lies in the lane itself (`marks_of`). Read next: `NextInner`, for how followers are found in them.
+use Rattle.std.specs.Prelude.{◌≡◌, ℕ, ◌<◌, ◌≤◌, ◌⊎◌, ◌↔◌, Bool, ◌&&◌, ◌==◌, nat_lt, if◌then◌else◌, List, [], ◌∷◌, ◌++◌, get_or, length, take, drop, Option, Some, None, Box, box_value}
 use Rattle.dt_lists.specs.Lists.{AllIn, EachThen, Has}
 use Rattle.dt_queue.specs.declared.mark.Mark.{Mark}
 
 -- the numbers of the marks ascend
 abbrev pub HasRisingNumbers : List Mark → Type 0
 HasRisingNumbers marks = EachThen (λ m k. m.number < k.number) marks
+
+-- the marks of a lane after its first one
+abbrev pub tail_of : {A : Type 0} → Option (Box (List Mark) A) → List Mark
+tail_of None = []
+tail_of (Some tail) = box_value tail
+
+-- the marks of a lane: the first, whose number is 0 where there is none, and those after it
+abbrev pub marks_of : Mark → List Mark → List Mark
+marks_of first tail = if first.number == 0 then [] else first ∷ tail
+
+-- the numbers of the marks of a lane ascend, and where there is no first one, there is none after it
+abbrev pub IsOneLane : Mark → List Mark → Type 0
+IsOneLane first tail = HasRisingNumbers (marks_of first tail) × (first.number ≡ 0 → tail ≡ [])
 
 -- the place is where the search for a number ends: marks before it have lesser numbers, and those from it on have not
 pub record EndsBelow (number : ℕ) (marks : List Mark) (place : ℕ) : Type 0 where

@@ -2,6 +2,7 @@ pub mod Queues
 pub mod LanesInner
 pub mod NextInner
 pub mod RowsInner
-pub mod InUseInner
+pub mod ListedInner
+pub mod UsesInner
 pub mod KeptInner
 pub mod NumbersInner

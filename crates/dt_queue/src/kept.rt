@@ -1,18 +1,21 @@
-ghost use Rattle.std.specs.Prelude.{◌≡◌, ◌<◌, ◌↔◌, ◌==◌, ◌-◌, ◌^◌, [], ◌∷◌, ◌++◌, length, not, option_to_list, IsTrue, None, IfOk, OnOk, OnErr};
+ghost use Rattle.std.specs.Prelude.{◌≡◌, ◌<◌, ◌==◌, ◌-◌, ◌^◌, false, [], ◌∷◌, ◌++◌, length, not, option_to_list, IsTrue, None, IfOk, OnOk, OnErr};
 ghost use Rattle.std.specs.List.{filter};
 ghost use Rattle.slab.specs.Slab.{ContainsKey, Updates};
-ghost use Rattle.dt_lists.specs.Lists.{AllIn, IsFront};
+ghost use Rattle.dt_lists.specs.Lists.{AllIn, Has, IsFront};
 ghost use Rattle.dt_queue.specs.LanesInner.{AreMarks};
 ghost use Rattle.dt_queue.specs.NextInner.{IsFirstAfter, IsKnownNext};
 
 use crate::cell::Cell;
-use crate::in_use::InUse;
 use crate::lane::Lane;
-use crate::lanes::{first_between, is_empty, last_between, push_mark, remove_mark};
+use crate::lanes::{first_between, last_between, push_mark, remove_mark};
+use crate::listed::Listed;
 use crate::mark::{Mark, Marks};
 use crate::nearest::{near_row, near_rows, near_write, number_or, only};
 use crate::next::Next;
 use crate::rows::Rows;
+use crate::uses::{
+    Uses, has_no_read, last_write, push_read, push_write, remove_read, remove_write,
+};
 use dt_access::Mode;
 use dt_text::{Key, NoMemory};
 use slab::Slab;
@@ -24,15 +27,17 @@ use std::alloc::Global;
 pub struct Kept {
     pub cells: Slab<Cell>,
     pub rows: Rows,
-    pub in_use: InUse,
-    pub reads: Vec<Lane>,
-    pub writes: Vec<Lane>,
+    pub listed: Listed,
+    pub uses: Vec<Uses>,
     pub wholes: Vec<Lane>,
     pub next_number: u64,
 }
 
 impl Kept {
-    ghost use Rattle.dt_queue.specs.KeptInner.{AddsCell, ChangesLaneOf, AreQueuesKept, HasOneNear, IsNearInMode, IsNearMark, IsNextInMode, IsInUse, IsNextMark, KeepsLanes, LeavesRow, lane, place_at};
+    ghost use Rattle.dt_access.specs.Clash.{is_whole};
+    ghost use Rattle.dt_queue.specs.KeptInner.{AddsCell, ChangesLaneOf, AreQueuesKept, AreRowsListed, HasOneNear, IsNearInMode, IsNearMark, IsNextInMode, IsNextMark, KeepsLanes, lane, place_at};
+    ghost use Rattle.dt_queue.specs.ListedInner.{rows_at};
+    ghost use Rattle.dt_queue.specs.RowsInner.{AreRowsLinked, granule_at};
 
     /// No entry waits. Takes no memory.
     pub fn new(alloc: Global) -> Self
@@ -42,9 +47,8 @@ impl Kept {
         Kept {
             cells: Slab::new(alloc),
             rows: Rows::new(alloc),
-            in_use: InUse::new(alloc),
-            reads: Vec::new(alloc),
-            writes: Vec::new(alloc),
+            listed: Listed::new(alloc),
+            uses: Vec::new(alloc),
             wholes: Vec::new(alloc),
             next_number: 1,
         }
@@ -68,8 +72,7 @@ impl Kept {
     {
         let number = self.next_number;
         let row = self.rows.row(alloc, home, key)?;
-        let granule = self.rows.granule_of(row);
-        self.in_use.reserve(alloc, granule, row)?;
+        self.enter(alloc, row, mode)?;
         self.cells.reserve(1)?;
         let slot = self.cells.vacant_key();
         self.add_mark(
@@ -82,7 +85,6 @@ impl Kept {
                 vertex,
             },
         )?;
-        self.in_use.add_in_mode(granule, row, mode);
         self.next_number = number + 1;
         Ok(
             self.cells.insert_reserved(Cell {
@@ -104,7 +106,6 @@ impl Kept {
     {
         let cell = self.cells.remove(slot);
         self.remove_mark(cell.row, cell.mode, cell.number);
-        self.leave_row(cell.row);
     }
 
     /// The marks of the neighbours of an entry, in the order of their pushes.
@@ -129,7 +130,7 @@ impl Kept {
     {
         match cell.mode {
             Mode::Read => true,
-            Mode::Write => is_empty(self.reads.as_slice(), cell.row),
+            Mode::Write => has_no_read(self.uses.as_slice(), cell.row),
             Mode::Whole => false,
         }
     }
@@ -144,7 +145,7 @@ impl Kept {
         let granule = self.rows.granule_of(cell.row);
         let whole = last_between(self.wholes.as_slice(), granule, 0, cell.number);
         let low = number_or(whole, 0);
-        let write = last_between(self.writes.as_slice(), cell.row, low, cell.number);
+        let write = last_write(self.uses.as_slice(), cell.row, low, cell.number);
         write.or(whole)
     }
 
@@ -164,6 +165,26 @@ impl Kept {
         Next::one(whole, after).first
     }
 
+    /// Before something waits for a row in this mode: lists the row, or, where its granule is to be taken whole, sees to it that just
+    /// those of its rows are listed in which something waits. So the rows that were listed in vain are looked at once at most.
+    fn enter(&mut self, alloc: Global, row: usize, mode: Mode) -> Result<(), NoMemory>
+        requires linked { AreRowsLinked self.old.rows }
+        requires listed { AreRowsListed self.old }
+        requires row_in { row < length self.old.rows.names.keys }
+        ensures listed { AreRowsListed self.new }
+        ensures entered { OnOk result (is_whole mode ≡ false → Has (rows_at self.new.listed (granule_at self.new.rows row)) row) }
+        ensures same { self.new ≡ record self.old { listed = self.new.listed } }
+    {
+        let granule = self.rows.granule_of(row);
+        match mode {
+            Mode::Read | Mode::Write => self.listed.add(alloc, granule, row),
+            Mode::Whole => {
+                self.listed.tidy(granule, self.uses.as_slice());
+                Ok(())
+            }
+        }
+    }
+
     /// Adds a mark at the back of the lane of its mode and row; after `NoMemory` all lanes are as before.
     fn add_mark(
         &mut self,
@@ -173,13 +194,14 @@ impl Kept {
         mark: Mark,
     ) -> Result<(), NoMemory>
         requires row_in { row < length self.old.rows.granule_of.items }
+        requires positive { 0 < mark.number }
         requires last { AllIn (λ m. m.number < mark.number) (lane self.old mode (place_at self.old.rows mode row)) }
         ensures added { OnOk result (ChangesLaneOf self.old mode (place_at self.old.rows mode row) (lane self.old mode (place_at self.old.rows mode row) ++ mark ∷ []) self.new) }
         ensures same { OnErr result (KeepsLanes self.old self.new) }
     {
         match mode {
-            Mode::Read => push_mark(alloc, &mut self.reads, row, mark),
-            Mode::Write => push_mark(alloc, &mut self.writes, row, mark),
+            Mode::Read => push_read(alloc, &mut self.uses, row, mark),
+            Mode::Write => push_write(alloc, &mut self.uses, row, mark),
             Mode::Whole => push_mark(alloc, &mut self.wholes, self.rows.granule_of(row), mark),
         }
     }
@@ -190,27 +212,10 @@ impl Kept {
         ensures { ChangesLaneOf self.old mode (place_at self.old.rows mode row) (filter (λ m. not (m.number == number)) (lane self.old mode (place_at self.old.rows mode row))) self.new }
     {
         match mode {
-            Mode::Read => remove_mark(&mut self.reads, row, number),
-            Mode::Write => remove_mark(&mut self.writes, row, number),
+            Mode::Read => remove_read(&mut self.uses, row, number),
+            Mode::Write => remove_write(&mut self.uses, row, number),
             Mode::Whole => remove_mark(&mut self.wholes, self.rows.granule_of(row), number),
         }
-    }
-
-    /// Takes a row out of those in use, where nothing waits to read or write it. Takes no memory.
-    fn leave_row(&mut self, row: usize)
-        ensures left { LeavesRow row self.old self.new }
-        ensures same { self.new ≡ record self.old { in_use = self.new.in_use } }
-    {
-        if !self.is_in_use(row) {
-            self.in_use.remove(row);
-        }
-    }
-
-    /// Whether something waits to read or write a row.
-    fn is_in_use(&self, row: usize) -> bool
-        ensures { IsTrue result ↔ IsInUse self.now row }
-    {
-        !is_empty(self.reads.as_slice(), row) || !is_empty(self.writes.as_slice(), row)
     }
 
     /// Of the marks of reads and writes above a number those of neighbours of an entry.
@@ -219,14 +224,13 @@ impl Kept {
         requires row_in { cell.now.row < length self.now.rows.names.keys }
         ensures { IfOk result (λ marks. AreMarks (IsNearInMode self.now cell.now low) marks.items) }
     {
-        let reads = self.reads.as_slice();
-        let writes = self.writes.as_slice();
+        let uses = self.uses.as_slice();
         match cell.mode {
-            Mode::Read => near_write(alloc, writes, cell.row, low, cell.number),
-            Mode::Write => near_row(alloc, reads, writes, cell.row, low, cell.number),
+            Mode::Read => near_write(alloc, uses, cell.row, low, cell.number),
+            Mode::Write => near_row(alloc, uses, cell.row, low, cell.number),
             Mode::Whole => {
-                let rows = self.in_use.of_granule(self.rows.granule_of(cell.row));
-                near_rows(alloc, reads, writes, rows, low, cell.number)
+                let rows = self.listed.of_granule(self.rows.granule_of(cell.row));
+                near_rows(alloc, uses, rows, low, cell.number)
             }
         }
     }
@@ -237,14 +241,13 @@ impl Kept {
         requires row_in { cell.now.row < length self.now.rows.names.keys }
         ensures { IsKnownNext (IsNextInMode self.now cell.now high) after result }
     {
-        let reads = self.reads.as_slice();
-        let writes = self.writes.as_slice();
+        let uses = self.uses.as_slice();
         match cell.mode {
-            Mode::Read => Next::in_lane(writes, cell.row, cell.number, high, after),
-            Mode::Write => Next::in_row(reads, writes, cell.row, cell.number, high, after),
+            Mode::Read => Next::in_writes(uses, cell.row, cell.number, high, after),
+            Mode::Write => Next::in_row(uses, cell.row, cell.number, high, after),
             Mode::Whole => {
-                let rows = self.in_use.of_granule(self.rows.granule_of(cell.row));
-                Next::in_rows(reads, writes, rows, cell.number, high, after)
+                let rows = self.listed.of_granule(self.rows.granule_of(cell.row));
+                Next::in_rows(uses, rows, cell.number, high, after)
             }
         }
     }

@@ -8,18 +8,19 @@
 
 mod cell;
 mod follower;
-mod in_use;
 mod kept;
 mod lane;
 mod lanes;
+mod listed;
 mod mark;
 mod nearest;
 mod next;
 mod numbers;
 mod queues;
 mod rows;
-mod spot;
+mod tail;
 mod used;
+mod uses;
 
 pub use follower::Follower;
 pub use queues::Queues;

@@ -1,10 +1,10 @@
 ghost use Rattle.std.specs.Prelude.{◌≡◌, ◌++◌, [], get_or, option_to_list, IfOk, OnOk};
 ghost use Rattle.dt_lists.specs.Lists.{AnyIn, Distinct};
 ghost use Rattle.dt_queue.specs.LanesInner.{AddsMarks, AreApart, AreMarks, HasRisingNumbers, IsLastIn, IsNearInRow, number_or};
+ghost use Rattle.dt_queue.specs.UsesInner.{reads_of, writes_of};
 
-use crate::lane::Lane;
-use crate::lanes::{add_between, last_between};
 use crate::mark::{Mark, Marks};
+use crate::uses::{Uses, add_reads, last_write};
 use dt_text::NoMemory;
 use smallvec::SmallVec;
 use std::alloc::Global;
@@ -38,36 +38,35 @@ pub fn only(alloc: Global, mark: Option<Mark>) -> Result<Marks, NoMemory>
     Ok(marks)
 }
 
-/// Of the marks of a lane between two numbers the last one, if there is one.
+/// Of the marks of those that write a row between two numbers the last one, if there is one.
 pub fn near_write(
     alloc: Global,
-    writes: &[Lane],
+    uses: &[Uses],
     row: usize,
     low: u64,
     high: u64,
 ) -> Result<Marks, NoMemory>
-    requires { HasRisingNumbers (get_or writes.now row []) }
-    ensures { IfOk result (λ marks. AreMarks (IsLastIn (get_or writes.now row []) low high) marks.items) }
+    requires { HasRisingNumbers (get_or (writes_of uses.now) row []) }
+    ensures { IfOk result (λ marks. AreMarks (IsLastIn (get_or (writes_of uses.now) row []) low high) marks.items) }
 {
-    only(alloc, last_between(writes, row, low, high))
+    only(alloc, last_write(uses, row, low, high))
 }
 
 /// Appends, of the marks of a row between two numbers, those that are nearest to an entry after them that writes the row: those
 /// that read it and after which none writes it, or, where there are none, the last one that writes it.
 pub fn add_row(
-    reads: &[Lane],
-    writes: &[Lane],
+    uses: &[Uses],
     row: usize,
     low: u64,
     high: u64,
     marks: &mut Marks,
 ) -> Result<(), NoMemory>
-    requires { AreApart reads.now writes.now }
-    ensures { OnOk result (AddsMarks (IsNearInRow (get_or reads.now row []) (get_or writes.now row []) low high) marks.old.items marks.new.items) }
+    requires { AreApart (reads_of uses.now) (writes_of uses.now) }
+    ensures { OnOk result (AddsMarks (IsNearInRow (get_or (reads_of uses.now) row []) (get_or (writes_of uses.now) row []) low high) marks.old.items marks.new.items) }
 {
-    let write = last_between(writes, row, low, high);
+    let write = last_write(uses, row, low, high);
     let had = marks.len();
-    add_between(reads, row, number_or(write, low), high, marks)?;
+    add_reads(uses, row, number_or(write, low), high, marks)?;
     if marks.len() == had {
         add(write, marks)?;
     }
@@ -77,36 +76,34 @@ pub fn add_row(
 /// The same marks of one row alone.
 pub fn near_row(
     alloc: Global,
-    reads: &[Lane],
-    writes: &[Lane],
+    uses: &[Uses],
     row: usize,
     low: u64,
     high: u64,
 ) -> Result<Marks, NoMemory>
-    requires { AreApart reads.now writes.now }
-    ensures { IfOk result (λ marks. AreMarks (IsNearInRow (get_or reads.now row []) (get_or writes.now row []) low high) marks.items) }
+    requires { AreApart (reads_of uses.now) (writes_of uses.now) }
+    ensures { IfOk result (λ marks. AreMarks (IsNearInRow (get_or (reads_of uses.now) row []) (get_or (writes_of uses.now) row []) low high) marks.items) }
 {
     let mut marks = SmallVec::new(alloc);
-    add_row(reads, writes, row, low, high, &mut marks)?;
+    add_row(uses, row, low, high, &mut marks)?;
     Ok(marks)
 }
 
 /// The same marks of several rows, in the order of their pushes.
 pub fn near_rows(
     alloc: Global,
-    reads: &[Lane],
-    writes: &[Lane],
+    uses: &[Uses],
     rows: &[usize],
     low: u64,
     high: u64,
 ) -> Result<Marks, NoMemory>
-    requires apart { AreApart reads.now writes.now }
+    requires apart { AreApart (reads_of uses.now) (writes_of uses.now) }
     requires once { Distinct rows.now }
-    ensures { IfOk result (λ marks. AreMarks (λ m. AnyIn (λ row. IsNearInRow (get_or reads.now row []) (get_or writes.now row []) low high m) rows.now) marks.items) }
+    ensures { IfOk result (λ marks. AreMarks (λ m. AnyIn (λ row. IsNearInRow (get_or (reads_of uses.now) row []) (get_or (writes_of uses.now) row []) low high m) rows.now) marks.items) }
 {
     let mut marks = SmallVec::new(alloc);
     for row in rows {
-        add_row(reads, writes, *row, low, high, &mut marks)?;
+        add_row(uses, *row, low, high, &mut marks)?;
     }
     marks.as_mut_slice().sort_by_key(alloc, |mark| mark.number)?;
     Ok(marks)

@@ -4,6 +4,7 @@ ghost use Rattle.dt_queue.specs.NumbersInner.{IsFirstFrom, IsGap, IsNumberAt, Re
 
 use crate::kept::Kept;
 use crate::lanes::renumber_mark;
+use crate::uses::{renumber_read, renumber_write};
 use dt_access::Mode;
 use dt_text::NoMemory;
 
@@ -86,13 +87,14 @@ impl Kept {
     /// Gives a mark a lesser number in the lane of its mode and row; no other of its marks lies between. Takes no memory.
     fn renumber_mark(&mut self, row: usize, mode: Mode, number: u64, new: u64)
         requires row_in { row < length self.old.rows.granule_of.items }
+        requires positive { 0 < new }
         requires lesser { new ≤ number }
         requires gap { AllIn (IsGap number new) (lane self.old mode (place_at self.old.rows mode row)) }
         ensures { ChangesLaneOf self.old mode (place_at self.old.rows mode row) (map (renumbered number new) (lane self.old mode (place_at self.old.rows mode row))) self.new }
     {
         match mode {
-            Mode::Read => renumber_mark(&mut self.reads, row, number, new),
-            Mode::Write => renumber_mark(&mut self.writes, row, number, new),
+            Mode::Read => renumber_read(&mut self.uses, row, number, new),
+            Mode::Write => renumber_write(&mut self.uses, row, number, new),
             Mode::Whole => renumber_mark(&mut self.wholes, self.rows.granule_of(row), number, new),
         }
     }

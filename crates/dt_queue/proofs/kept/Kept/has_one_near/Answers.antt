@@ -10,4 +10,4 @@ returns-in-Read c _ = inl c.in-Read.is
 pub returns-in-Write : goal.returns-in-Write
 returns-in-Write c empty =
     let reads = lane c.args.self.now Read c.args.cell.now.row in
-    inr (c.in-Write.is, empty_of reads (length reads) c.is_empty.result refl (rw c.as_slice.ensures.value at c.is_empty.ensures) empty)
+    inr (c.in-Write.is, empty_of reads (length reads) c.has_no_read.result refl (rw c.as_slice.ensures.value at c.has_no_read.ensures) empty)

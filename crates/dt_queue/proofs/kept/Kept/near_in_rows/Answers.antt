@@ -7,22 +7,22 @@ pub granule_of-requires : goal.granule_of-requires
 granule_of-requires c = let k = c.args.self.now in omega (arith, c.requires.row_in, c.requires.kept.linked.each_row, k.rows.granule_of.ok.0)
 
 pub near_write-requires : goal.near_write-requires
-near_write-requires c = rw c.as_slice-writes.ensures.value (c.requires.kept.lanes Write c.args.cell.now.row).numbered
+near_write-requires c = rw c.as_slice-uses.ensures.value (c.requires.kept.lanes Write c.args.cell.now.row).numbered
 
 pub near_row-requires : goal.near_row-requires
-near_row-requires c = rw (c.as_slice-reads.ensures.value, c.as_slice-writes.ensures.value) (apart_lanes c.args.self.now c.requires.kept)
+near_row-requires c = rw c.as_slice-uses.ensures.value (apart_lanes c.args.self.now c.requires.kept)
 
 pub near_rows-requires : goal.near_rows-requires
 near_rows-requires c = record {
-  apart = rw (c.as_slice-reads.ensures.value, c.as_slice-writes.ensures.value) (apart_lanes c.args.self.now c.requires.kept);
+  apart = rw c.as_slice-uses.ensures.value (apart_lanes c.args.self.now c.requires.kept);
   once = c.of_granule-rows.ensures.once;
 }
 
 pub returns-in-Read : goal.returns-in-Read
-returns-in-Read c = rw c.in-Read.is (rw c.as_slice-writes.ensures.value at c.near_write.ensures)
+returns-in-Read c = rw c.in-Read.is (rw c.as_slice-uses.ensures.value at c.near_write.ensures)
 
 pub returns-in-Write : goal.returns-in-Write
-returns-in-Write c = rw c.in-Write.is (rw (c.as_slice-reads.ensures.value, c.as_slice-writes.ensures.value) at c.near_row.ensures)
+returns-in-Write c = rw c.in-Write.is (rw c.as_slice-uses.ensures.value at c.near_row.ensures)
 
 pub returns-in-Whole : goal.returns-in-Whole
-returns-in-Whole c = rw c.in-Whole.is (rw (c.as_slice-reads.ensures.value, c.as_slice-writes.ensures.value, c.of_granule-rows.ensures.rows, c.granule_of.ensures) at c.near_rows.ensures)
+returns-in-Whole c = rw c.in-Whole.is (rw (c.as_slice-uses.ensures.value, c.of_granule-rows.ensures.rows, c.granule_of.ensures) at c.near_rows.ensures)

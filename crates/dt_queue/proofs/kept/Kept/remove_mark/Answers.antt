@@ -8,11 +8,11 @@ pub granule_of-requires : goal.granule_of-requires
 granule_of-requires c = omega (arith, c.requires, c.args.self.now.rows.granule_of.ok.0)
 
 pub returns-in-Read : goal.returns-in-Read
-returns-in-Read c = changed_read c.args.self.now _ (filter (λ (m : Mark). not (m.number == c.args.number))) c.args.mode c.args.row c.in-Read.is c.remove_mark.ensures refl refl refl refl refl refl
+returns-in-Read c = changed_read c.args.self.now _ (filter (λ (m : Mark). not (m.number == c.args.number))) c.args.mode c.args.row c.in-Read.is c.remove_read.ensures.reads refl refl refl refl c.remove_read.ensures.writes refl
 
 pub returns-in-Write : goal.returns-in-Write
-returns-in-Write c = changed_write c.args.self.now _ (filter (λ (m : Mark). not (m.number == c.args.number))) c.args.mode c.args.row c.in-Write.is c.remove_mark-in-Write.ensures refl refl refl refl refl refl
+returns-in-Write c = changed_write c.args.self.now _ (filter (λ (m : Mark). not (m.number == c.args.number))) c.args.mode c.args.row c.in-Write.is c.remove_write.ensures.writes refl refl refl refl c.remove_write.ensures.reads refl
 
 pub returns-in-Whole : goal.returns-in-Whole
 returns-in-Whole c =
-    changed_whole c.args.self.now _ (filter (λ (m : Mark). not (m.number == c.args.number))) c.args.mode c.args.row c.granule_of.result c.in-Whole.is c.granule_of.ensures c.remove_mark-in-Whole.ensures refl refl refl refl refl refl
+    changed_whole c.args.self.now _ (filter (λ (m : Mark). not (m.number == c.args.number))) c.args.mode c.args.row c.granule_of.result c.in-Whole.is c.granule_of.ensures c.remove_mark.ensures refl refl refl refl refl

@@ -1,32 +1,18 @@
-use Rattle.std.proofs.Common.{◌≡◌, ◌+◌, ◌<◌, ◌≤◌, deque_len, length, refl, arith, subst}
-use Rattle.dt_queue.specs.LanesInner.{EndsBelow}
-use Rattle.dt_queue.proofs.Marks.{first_is, first_is_none, first_is_past, past_all_places}
+use Rattle.std.proofs.Common.{sym, subst, ap, ◌∙◌}
+use Rattle.dt_queue.specs.LanesInner.{IsFirstBetween, is_between, tail_of}
+use Rattle.dt_queue.proofs.OneLane.{between_none, between_some, first_of_all, first_of_tail}
 use Rattle.dt_queue.proofs.lane.Lane.first_between.Goals as goal
 
-pub returns-in_err-mark : goal.returns-in_err-mark
-returns-in_err-mark c =
-    let a = c.self.inside in
-    let same : c.in_ok-checked_add.field-0 ≡ c.args.low + 1 = omega (arith, c.in_ok-checked_add.ensures) in
-    let ends : EndsBelow c.in_ok-checked_add.field-0 a.marks.items c.below-place.result = rw (← c.self.view_is) at c.below-place.ensures in
-    let past = past_all_places c.below-place.result (deque_len a.marks) c.in_err-mark.ensures.variant.1 in
-    let le : length a.marks.items ≤ c.below-place.result = omega (arith, past, a.marks.ok.0) in
-    rw (c.from_residual-in_err-mark.ensures, ← c.self.view_is)
-    (first_is_none c.args.low c.args.high a.marks.items c.below-place.result (subst (λ n. EndsBelow n a.marks.items c.below-place.result) same ends) le)
+pub returns-in-Some : goal.returns-in-Some
+returns-in-Some c =
+    let f = c.self.inside.first in
+    let b = between_none (is_between c.args.low c.args.high f) c.is_none.result f c.between-first.result c.between-first.ensures c.is_none.ensures c.if-is_none.true in
+    let found = subst (λ t. IsFirstBetween c.args.low c.args.high t c.first_between.result) (c.deref.ensures ∙ sym (ap tail_of c.in-Some.is)) c.first_between.ensures in
+    rw (← c.self.view_is) (first_of_tail c.args.low c.args.high f (tail_of c.self.inside.tail) c.first_between.result c.self.invariant b found)
 
-pub returns-then-mark-high : goal.returns-then-mark-high
-returns-then-mark-high c =
-    let a = c.self.inside in
-    let m = c.in_ok-mark.field-0.now in
-    let ends = subst (λ n. EndsBelow n a.marks.items c.below-place.result) (omega (arith, c.in_ok-checked_add.ensures)) (rw (← c.self.view_is) at c.below-place.ensures) in
-    let lt : c.below-place.result < length a.marks.items = omega (arith, c.in_ok-mark.ensures.variant.0 refl, a.marks.ok.0) in
-    rw (← c.self.view_is)
-    (first_is c.args.low c.args.high a.marks.items c.below-place.result m c.self.invariant ends lt c.in_ok-mark.ensures.lookup c.if-mark-high.true)
-
-pub returns-else-mark-high : goal.returns-else-mark-high
-returns-else-mark-high c =
-    let a = c.self.inside in
-    let m = c.in_ok-mark.field-0.now in
-    let ends = subst (λ n. EndsBelow n a.marks.items c.below-place.result) (omega (arith, c.in_ok-checked_add.ensures)) (rw (← c.self.view_is) at c.below-place.ensures) in
-    let lt : c.below-place.result < length a.marks.items = omega (arith, c.in_ok-mark.ensures.variant.0 refl, a.marks.ok.0) in
-    rw (← c.self.view_is)
-    (first_is_past c.args.low c.args.high a.marks.items c.below-place.result m c.self.invariant ends lt c.in_ok-mark.ensures.lookup c.if-mark-high.false)
+pub returns-in_default : goal.returns-in_default
+returns-in_default c =
+    let f = c.self.inside.first in
+    let t = tail_of c.self.inside.tail in
+    let b = between_some (is_between c.args.low c.args.high f) c.is_none.result f c.between-first.result c.between-first.ensures c.is_none.ensures c.if-is_none.false in
+    rw (b.1, ← c.self.view_is) (first_of_all c.args.low c.args.high f t c.self.invariant b.0)

@@ -1,23 +1,23 @@
-use Rattle.std.proofs.Common.{arith}
-use Rattle.dt_queue.proofs.Marks.{last_is, last_is_before, last_is_none}
+use Rattle.std.proofs.Common.{None, sym, subst, ap, ◌∙◌}
+use Rattle.dt_queue.specs.LanesInner.{IsLastBetween, tail_of}
+use Rattle.dt_queue.proofs.OneLane.{last_of_first, last_of_tail, none_found}
 use Rattle.dt_queue.proofs.lane.Lane.last_between.Goals as goal
+use Rattle.dt_queue.proofs.lane.Lane.last_between.Goals.{in-Some+else-is_some, in_default}
 
-pub returns-in_err-place : goal.returns-in_err-place
-returns-in_err-place c =
-    rw c.from_residual.ensures (last_is_none c.args.low c.args.high c.args.self.now c.below.result c.below.ensures (omega (arith, c.in_err-place.ensures)))
-
-pub returns-then-low-mark : goal.returns-then-low-mark
-returns-then-low-mark c =
-    let a = c.self.inside in
-    let m = c.in_ok-mark.field-0.now in
-    let ends = rw (← c.self.view_is) at c.below.ensures in
+pub returns-then-is_some : goal.returns-then-is_some
+returns-then-is_some c =
+    let found = subst (λ t. IsLastBetween c.args.low c.args.high t c.last_between-last.result) (c.deref.ensures ∙ sym (ap tail_of c.in-Some.is)) c.last_between-last.ensures in
     rw (← c.self.view_is)
-    (last_is c.args.low c.args.high a.marks.items c.below.result c.in_ok-place.place m c.self.invariant ends (omega (arith, c.in_ok-place.ensures)) c.in_ok-mark.ensures.lookup c.if-low-mark.true)
+    (last_of_tail c.args.low c.args.high c.self.inside.first (tail_of c.self.inside.tail) c.last_between-last.result c.self.invariant (sym c.is_some.ensures ∙ c.if-is_some.true) found)
 
-pub returns-else-low-mark : goal.returns-else-low-mark
-returns-else-low-mark c =
-    let a = c.self.inside in
-    let m = c.in_ok-mark.field-0.now in
-    let ends = rw (← c.self.view_is) at c.below.ensures in
-    rw (← c.self.view_is)
-    (last_is_before c.args.low c.args.high a.marks.items c.below.result c.in_ok-place.place m c.self.invariant ends (omega (arith, c.in_ok-place.ensures)) c.in_ok-mark.ensures.lookup c.if-low-mark.false)
+pub returns : goal.returns
+returns c =
+    let f = c.self.inside.first in
+    let t = tail_of c.self.inside.tail in
+    let none : IsLastBetween c.args.low c.args.high t None = elim c.match-self.branch [
+      | in-Some+else-is_some w ↦
+          let same = none_found w.is_some.result w.last_between-last.result w.is_some.ensures w.if-is_some.false in
+          subst (λ l. IsLastBetween c.args.low c.args.high l None) (w.deref.ensures ∙ sym (ap tail_of w.in-Some.is)) (subst (IsLastBetween c.args.low c.args.high w.deref.result.now) same w.last_between-last.ensures)
+      | in_default w ↦ subst (λ l. IsLastBetween c.args.low c.args.high l None) (sym (ap tail_of w.in_default.is)) (λ m h b. h)
+    ] in
+    rw (← c.self.view_is) (last_of_first c.args.low c.args.high f t c.between.result c.between.ensures none)

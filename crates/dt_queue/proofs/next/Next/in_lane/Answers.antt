@@ -1,9 +1,0 @@
-use Rattle.std.proofs.Common.{[], get_or}
-use Rattle.dt_queue.specs.LanesInner.{IsFirstIn}
-use Rattle.dt_queue.proofs.NearMarks.{next_first, next_of_one}
-use Rattle.dt_queue.proofs.next.Next.in_lane.Goals as goal
-
-pub returns : goal.returns
-returns c =
-    let ms = get_or c.args.lanes.now c.args.place [] in
-    next_of_one (IsFirstIn ms c.args.low c.args.high) c.first_between.result c.args.after c.one.result (next_first ms c.args.low c.args.high c.first_between.result c.requires c.first_between.ensures) c.one.ensures.any c.one.ensures.first

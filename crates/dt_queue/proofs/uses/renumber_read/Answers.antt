@@ -1,0 +1,20 @@
+use Rattle.std.proofs.Common.{◌<◌, length, map, refl, ap, arith, ◌∙◌}
+use Rattle.dt_queue.specs.NumbersInner.{renumbered}
+use Rattle.dt_queue.specs.declared.uses.Uses.{Uses}
+use Rattle.dt_queue.proofs.UsesLanes.{lane_at, lane_set, lane_stays}
+use Rattle.dt_queue.proofs.uses.renumber_read.Goals as goal
+
+pub returns-then-row-len-clause-reads : goal.returns-then-row-len-clause-reads
+returns-then-row-len-clause-reads c =
+    let xs = c.args.uses.now.items in
+    let u : Uses = c.index_mut.result.now in
+    let known : c.args.row < length xs = omega (arith, c.if-row-len.true, c.len.ensures, c.args.uses.now.ok.0) in
+    lane_set (λ (x : Uses). x.reads) xs c.args.row (record { reads = c.renumber.new.self; writes = u.writes }) _ known
+    (c.renumber.ensures ∙ ap (map (renumbered c.args.number c.args.new)) (lane_at (λ (x : Uses). x.reads) xs c.args.row u known c.index_mut.ensures.value))
+
+pub returns-then-row-len-clause-writes : goal.returns-then-row-len-clause-writes
+returns-then-row-len-clause-writes c =
+    let xs = c.args.uses.now.items in
+    let u : Uses = c.index_mut.result.now in
+    let known : c.args.row < length xs = omega (arith, c.if-row-len.true, c.len.ensures, c.args.uses.now.ok.0) in
+    lane_stays (λ (x : Uses). x.writes) xs c.args.row (record { reads = c.renumber.new.self; writes = u.writes }) u known c.index_mut.ensures.value refl
