@@ -19,6 +19,10 @@ use Rattle.dt_waits.specs.Steps.{Inserts, Leaves, Resolves}
 pub few_ids : (view : View) (resolved : List (List TxnId)) (done : List TxnId) (g : GraphView) → KeepsGraph view resolved done g → length g.ids ≤ parts_in view
 few_ids view resolved done g is = subst (λ n. length g.ids ≤ n) (ids_in_length view) (distinct_within g.ids (ids_in view) is.once (all_put _ g.ids (λ t h. has_of_present view t ((is.present t).0 h))))
 
+-- where ready ones changed alone, there may be more room too
+pub with_room : (old new : VerticesView) → new ≡ record old { ready = new.ready } → new ≡ record old { ready = new.ready; room = new.room }
+with_room old new e = e ∙ (λ i. record old { ready = new.ready; room = (sym e i).room })
+
 -- what is held stays fitted
 
 module _ (ids : List TxnId) (w : Waits) (f : IsFitted ids w) where

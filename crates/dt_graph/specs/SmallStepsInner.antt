@@ -66,6 +66,7 @@ pub record MayFinishIn (place : ℕ) (g : GraphView) : Type 0 where
   pub at_place : slice_get g.classes place ≡ Some kept
   pub waits : kept.next < length kept.members
   pub leaves : MayLeave g kept.members
+  pub not_stuck : AllIn (λ u. ¬ (Has g.stuck u)) kept.members
 
 -- it is done: another member is ready now, or the class leaves
 pub data FinishesIn (place : ℕ) (old new : GraphView) : Type 0 where
