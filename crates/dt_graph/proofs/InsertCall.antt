@@ -9,7 +9,7 @@ use Rattle.dt_graph.specs.declared.waits.Waits.{Waits}
 use Rattle.dt_waits.specs.LeftInGraph.{IsOrderly}
 use Rattle.dt_waits.specs.Graph.{GraphView, KeepsGraph, vertex_at}
 use Rattle.dt_waits.specs.Waits.{id_at}
-use Rattle.dt_waits.proofs.MissingParts.{none_lacking}
+use Rattle.dt_waits.proofs.Callers.{none_lacking}
 use Rattle.dt_lists.specs.Lists.{Has}
 use Rattle.dt_sched.proofs.Callers.{complete_of_closed, part_of_complete}
 use Rattle.dt_graph.specs.HeldInner.{kept_of}

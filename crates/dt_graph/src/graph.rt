@@ -154,12 +154,7 @@ impl Graph {
         if stuck.len() < 2 {
             return Ok(None);
         }
-        let among = gather(
-            alloc,
-            &self.waits.queues,
-            &self.waits.vertices,
-            stuck,
-        )?;
+        let among = gather(alloc, &self.waits.queues, &self.waits.vertices, stuck)?;
         match among.graph.source_class(alloc, among.blocked.as_slice())? {
             Some(places) => Ok(Some(self.ids_at(alloc, stuck, places.as_slice())?)),
             None => Ok(None),

@@ -48,11 +48,11 @@ impl Model for Vertices {
     ghost Value = { VerticesView };
 
     ghost view = { λ v. record {
-        vertices = vertices_of v.kept.items;
-        degrees = degrees_of v.kept.items;
-        ready = v.ready.items;
-        stuck = v.stuck.items;
-        room = room_of (vec_len v.kept) (vec_capacity v.kept) (vec_capacity v.ready) (vec_capacity v.stuck);
+      vertices = vertices_of v.kept.items;
+      degrees = degrees_of v.kept.items;
+      ready = v.ready.items;
+      stuck = v.stuck.items;
+      room = room_of (vec_len v.kept) (vec_capacity v.kept) (vec_capacity v.ready) (vec_capacity v.stuck);
     } };
 
     ghost invariant = { λ v. AreKept v.kept.items v.ready.items v.stuck.items (vec_capacity v.ready) (vec_capacity v.stuck) };
@@ -132,8 +132,8 @@ impl Vertices {
         requires within { number < length self.old.vertices }
         requires missing { 0 < (vertex_at self.old.vertices number).missing }
         ensures { self.new ≡ record self.old {
-            vertices = set self.old.vertices number (record (vertex_at self.old.vertices number) { missing = (vertex_at self.old.vertices number).missing - 1; slots = slots });
-            degrees = set self.old.degrees number degree;
+          vertices = set self.old.vertices number (record (vertex_at self.old.vertices number) { missing = (vertex_at self.old.vertices number).missing - 1; slots = slots });
+          degrees = set self.old.degrees number degree;
         } }
     {
         let kept = &mut self.kept[number as usize];

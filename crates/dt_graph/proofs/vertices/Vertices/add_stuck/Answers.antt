@@ -34,8 +34,8 @@ invariant_of-self c =
     let absent : ¬ (Has s.stuck.items c.args.number) = λ h. true≢false (sym (c.is_stuck.ensures.1 (subst (λ v. Has v.stuck c.args.number) c.self.view_is h)) ∙ c.if-not-is_stuck.true) in
     let place : c.len-place.result ≡ length s.stuck.items = omega (arith, c.len-place.ensures, s.stuck.ok.0) in
     let both = put_in stuck_laws _ _ _ _ _ c.self.invariant.are_stuck c.self.invariant.are_ready c.args.number below absent c.ranges.number.fits
-        (λ h. c.requires.apart (subst (λ v. Has v.ready c.args.number) c.self.view_is h)) _ c.push_reserved.ensures.room _
-        (c.set_state.ensures.states ∙ ap (λ p. Rattle.std.proofs.Common.set (Rattle.dt_graph.specs.VerticesInner.states_of kept) c.args.number (Stuck p)) place) in
+    (λ h. c.requires.apart (subst (λ v. Has v.ready c.args.number) c.self.view_is h)) _ c.push_reserved.ensures.room _
+    (c.set_state.ensures.states ∙ ap (λ p. Rattle.std.proofs.Common.set (Rattle.dt_graph.specs.VerticesInner.states_of kept) c.args.number (Stuck p)) place) in
     rw c.push_reserved.ensures.added (record { are_stuck = both.0; are_ready = both.1 })
 
 pub returns-then-not-is_stuck-clause-put : goal.returns-then-not-is_stuck-clause-put

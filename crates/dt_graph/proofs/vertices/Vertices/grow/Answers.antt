@@ -19,5 +19,5 @@ returns c =
     let now = record k { degree = c.args.degree; vertex = record k.vertex { slots = c.args.slots; missing = k.vertex.missing - 1 } } in
     let degrees = map-set (λ x. x.degree) kept c.args.number now in
     let vertices = map-set (λ x. x.vertex) kept c.args.number now
-        ∙ ap (λ x. set (vertices_of kept) c.args.number (record x { slots = c.args.slots; missing = x.missing - 1 })) (vertex_read kept c.args.number lt k c.index_mut-kept.ensures.value) in
+    ∙ ap (λ x. set (vertices_of kept) c.args.number (record x { slots = c.args.slots; missing = x.missing - 1 })) (vertex_read kept c.args.number lt k c.index_mut-kept.ensures.value) in
     rw (← c.self.view_is) (λ i. record { vertices = vertices i; degrees = degrees i; ready = s.ready.items; stuck = s.stuck.items; room = room_of (vec_len s.kept) (vec_capacity s.kept) (vec_capacity s.ready) (vec_capacity s.stuck) })

@@ -19,5 +19,5 @@ returns c =
     let now = record k { vertex = record k.vertex { class = c.at.result } } in
     let degrees = degrees_beside kept c.args.number lt k c.index_mut.ensures.value now refl in
     let vertices = map-set (λ x. x.vertex) kept c.args.number now ∙ ap (λ p. set (vertices_of kept) c.args.number (record k.vertex { class = p })) c.at.ensures
-        ∙ ap (λ x. set (vertices_of kept) c.args.number (record x { class = Some c.args.class })) (vertex_read kept c.args.number lt k c.index_mut.ensures.value) in
+    ∙ ap (λ x. set (vertices_of kept) c.args.number (record x { class = Some c.args.class })) (vertex_read kept c.args.number lt k c.index_mut.ensures.value) in
     rw (← c.self.view_is) (λ i. record { vertices = vertices i; degrees = degrees i; ready = s.ready.items; stuck = s.stuck.items; room = room_of (vec_len s.kept) (vec_capacity s.kept) (vec_capacity s.ready) (vec_capacity s.stuck) })

@@ -16,8 +16,14 @@ pub take_stuck-requires : goal.take_stuck-requires
 take_stuck-requires c =
     let below = all_get _ _ c.requires.within _ (has_at {A = ℕ} _ _ 0 c.loop-vertex-test.true) in
     let v = get_or c.args.members.now c.loop-vertex.vertex-index 0 in
-    omega (arith, below, c.loop-vertex.invariant.put.size, ap (λ x. length x.vertices) c.put_in_class.ensures, Rattle.std.proofs.lemmas.List.length-set c.loop-vertex.self.vertices.vertices v
-    (record (vertex_at c.loop-vertex.self.vertices.vertices v) { class = Some c.args.class }))
+    omega (
+      arith,
+      below,
+      c.loop-vertex.invariant.put.size,
+      ap (λ x. length x.vertices) c.put_in_class.ensures,
+      Rattle.std.proofs.lemmas.List.length-set c.loop-vertex.self.vertices.vertices v
+          (record (vertex_at c.loop-vertex.self.vertices.vertices v) { class = Some c.args.class }),
+    )
 
 pub loop-vertex-preserved : goal.loop-vertex-preserved
 loop-vertex-preserved c =
@@ -58,14 +64,18 @@ returns-in-Some c =
     let held : IsPutting c.args.class c.args.members.now old.vertices new.vertices old.stuck new.stuck =
     subst (λ l. IsPutting c.args.class c.args.members.now old.vertices l old.stuck new.stuck) (sym (ap (λ x. x.vertices) same))
     (subst (λ l. IsPutting c.args.class c.args.members.now old.vertices now.vertices old.stuck l) (sym (ap (λ x. x.stuck) same)) put) in
-    record { resolved = λ ids classes. resolves_held _ _ ids _ _ _ _ _ _ _ _ _ _ classes held (ap (λ x. x.degrees) same ∙ k.degrees) k.queues
-    (first_readied c.args.members.now c.in-Some.first.now old.ready new.ready (sym c.in-Some.ensures.value) (subst (λ r. PutsIn c.in-Some.first.now r new.ready) k.ready c.add_ready.ensures.put)) }
+    record {
+      resolved = λ ids classes. resolves_held _ _ ids _ _ _ _ _ _ _ _ _ _ classes held (ap (λ x. x.degrees) same ∙ k.degrees) k.queues
+          (first_readied c.args.members.now c.in-Some.first.now old.ready new.ready (sym c.in-Some.ensures.value) (subst (λ r. PutsIn c.in-Some.first.now r new.ready) k.ready c.add_ready.ensures.put));
+    }
 
 pub returns-in_default : goal.returns-in_default
 returns-in_default c =
     let k = c.loop-vertex.invariant in
     let old = c.args.self.now.vertices in let now = c.loop-vertex.self.vertices in
     let put = subst (λ l. IsPutting c.args.class l old.vertices now.vertices old.stuck now.stuck) (take_all _ _ c.loop-vertex-test.false) k.put in
-    record { resolved = λ ids classes. resolves_held _ _ ids _ _ _ _ _ _ _ _ _ _ classes put k.degrees k.queues
-    (subst (λ r. (v : ℕ) → Has r v ↔ Has old.ready v ⊎ (slice_get c.args.members.now 0 ≡ Some v)) (sym k.ready)
-    (none_readied c.args.members.now old.ready (sym c.in_default.ensures.value))) }
+    record {
+      resolved = λ ids classes. resolves_held _ _ ids _ _ _ _ _ _ _ _ _ _ classes put k.degrees k.queues
+          (subst (λ r. (v : ℕ) → Has r v ↔ Has old.ready v ⊎ (slice_get c.args.members.now 0 ≡ Some v)) (sym k.ready)
+          (none_readied c.args.members.now old.ready (sym c.in_default.ensures.value)));
+    }
