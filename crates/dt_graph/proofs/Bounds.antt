@@ -12,73 +12,64 @@ use Rattle.dt_waits.specs.declared.open.Open.{Open}
 use Rattle.dt_graph.specs.declared.waits.Waits.{Waits}
 use Rattle.dt_waits.specs.Graph.{GraphView, KeepsGraph}
 use Rattle.dt_graph.specs.HeldInner.{IsFitted, kept_of}
+use Rattle.dt_graph.specs.VerticesInner.{VerticesView}
 use Rattle.dt_waits.specs.Steps.{Inserts, Leaves, Resolves}
-use Rattle.dt_graph.specs.SubsetInner.{SubsetView}
 
 -- the ids that have a part are at most as many as the parts
 pub few_ids : (view : View) (resolved : List (List TxnId)) (done : List TxnId) (g : GraphView) → KeepsGraph view resolved done g → length g.ids ≤ parts_in view
 few_ids view resolved done g is = subst (λ n. length g.ids ≤ n) (ids_in_length view) (distinct_within g.ids (ids_in view) is.once (all_put _ g.ids (λ t h. has_of_present view t ((is.present t).0 h))))
 
+-- where ready ones changed alone, there may be more room too
+pub with_room : (old new : VerticesView) → new ≡ record old { ready = new.ready } → new ≡ record old { ready = new.ready; room = new.room }
+with_room old new e = e ∙ (λ i. record old { ready = new.ready; room = (sym e i).room })
+
 -- what is held stays fitted
 
 module _ (ids : List TxnId) (w : Waits) (f : IsFitted ids w) where
-  pub fitted_ready : (ready : SubsetView) → ready.bound ≡ w.ready.bound → ((v : ℕ) → Has ready.items v → v < length ids) → IsFitted ids (record w { ready = ready })
-  fitted_ready ready b all = record {
+  pub fitted_ready : (vertices : VerticesView) → vertices ≡ record w.vertices { ready = vertices.ready; room = vertices.room } → ((v : ℕ) → Has vertices.ready v → v < length ids)
+      → IsFitted ids (record w { vertices = vertices })
+  fitted_ready vertices e all = record {
     few = f.few;
-    vertices = f.vertices;
-    degrees = f.degrees;
-    ready_bound = subst (λ n. length ids ≤ n) (sym b) f.ready_bound;
-    stuck_bound = f.stuck_bound;
-    ready_within = all_put _ ready.items all;
-    stuck_within = f.stuck_within;
+    vertices = ap (λ v. length v.vertices) e ∙ f.vertices;
+    degrees = ap (λ v. length v.degrees) e ∙ f.degrees;
+    ready_within = all_put _ vertices.ready all;
+    stuck_within = subst (AllIn (λ v. v < length ids)) (sym (ap (λ v. v.stuck) e)) f.stuck_within;
   }
 
-  longer_bound : (m n : ℕ) → m ≤ n → length ids ≤ m → length ids ≤ n
-  longer_bound m n le l = omega (arith, le, l)
-
-  pub fitted_same : (new : Waits) (classes : List Open) → kept_of ids new classes ≡ kept_of ids w classes → w.ready.bound ≤ new.ready.bound → w.stuck.bound ≤ new.stuck.bound → IsFitted ids new
-  fitted_same new classes e ready stuck = record {
+  pub fitted_same : (new : Waits) (classes : List Open) → kept_of ids new classes ≡ kept_of ids w classes → IsFitted ids new
+  fitted_same new classes e = record {
     few = f.few;
     vertices = ap (λ g. length g.vertices) e ∙ f.vertices;
     degrees = ap (λ g. length g.degrees) e ∙ f.degrees;
-    ready_bound = longer_bound w.ready.bound new.ready.bound ready f.ready_bound;
-    stuck_bound = longer_bound w.stuck.bound new.stuck.bound stuck f.stuck_bound;
     ready_within = subst (AllIn (λ v. v < length ids)) (sym (ap (λ g. g.ready) e)) f.ready_within;
     stuck_within = subst (AllIn (λ v. v < length ids)) (sym (ap (λ g. g.stuck) e)) f.stuck_within;
   }
 
-  pub fitted_left : (leaving : List ℕ) (new : Waits) (classes : List Open) → Leaves leaving (kept_of ids w classes) (kept_of ids new classes) → new.ready.bound ≡ w.ready.bound → new.stuck.bound ≡ w.stuck.bound
-      → IsFitted ids new
-  fitted_left leaving new classes l ready stuck = record {
+  pub fitted_left : (leaving : List ℕ) (new : Waits) (classes : List Open) → Leaves leaving (kept_of ids w classes) (kept_of ids new classes) → IsFitted ids new
+  fitted_left leaving new classes l = record {
     few = f.few;
     vertices = ap length l.vertices ∙ f.vertices;
     degrees = l.size ∙ f.degrees;
-    ready_bound = subst (λ n. length ids ≤ n) (sym ready) f.ready_bound;
-    stuck_bound = subst (λ n. length ids ≤ n) (sym stuck) f.stuck_bound;
-    ready_within = all_put _ new.ready.items (λ v h. elim ((l.ready v).0 h) [ inl o ↦ all_get _ w.ready.items f.ready_within v o | inr s ↦ all_get _ w.stuck.items f.stuck_within v s.0 ]);
-    stuck_within = all_put _ new.stuck.items (λ v h. all_get _ w.stuck.items f.stuck_within v ((l.stuck v).0 h).0);
+    ready_within = all_put _ new.vertices.ready (λ v h. elim ((l.ready v).0 h) [ inl o ↦ all_get _ w.vertices.ready f.ready_within v o | inr s ↦ all_get _ w.vertices.stuck f.stuck_within v s.0 ]);
+    stuck_within = all_put _ new.vertices.stuck (λ v h. all_get _ w.vertices.stuck f.stuck_within v ((l.stuck v).0 h).0);
   }
 
   pub fitted_resolved : (members : List ℕ) (place : ℕ) (new : Waits) (classes more : List Open) → AllIn (λ v. v < length ids) members → Resolves members place (kept_of ids w classes) (kept_of ids new more)
-      → new.ready.bound ≡ w.ready.bound → new.stuck.bound ≡ w.stuck.bound → IsFitted ids new
-  fitted_resolved members place new classes more within r ready stuck = record {
+      → IsFitted ids new
+  fitted_resolved members place new classes more within r = record {
     few = f.few;
     vertices = r.size ∙ f.vertices;
     degrees = ap length r.degrees ∙ f.degrees;
-    ready_bound = subst (λ n. length ids ≤ n) (sym ready) f.ready_bound;
-    stuck_bound = subst (λ n. length ids ≤ n) (sym stuck) f.stuck_bound;
-    ready_within = all_put _ new.ready.items (λ v h. elim ((r.ready v).0 h) [ inl o ↦ all_get _ w.ready.items f.ready_within v o | inr e ↦ all_get _ members within v (has_place members 0 v e) ]);
-    stuck_within = all_put _ new.stuck.items (λ v h. all_get _ w.stuck.items f.stuck_within v ((r.stuck v).0 h).0);
+    ready_within = all_put _ new.vertices.ready (λ v h. elim ((r.ready v).0 h) [ inl o ↦ all_get _ w.vertices.ready f.ready_within v o | inr e ↦ all_get _ members within v (has_place members 0 v e) ]);
+    stuck_within = all_put _ new.vertices.stuck (λ v h. all_get _ w.vertices.stuck f.stuck_within v ((r.stuck v).0 h).0);
   }
 
-  pub fitted_inserted : (more : List TxnId) (new : Waits) (part : Part) (v : ℕ) (entries : List Waiting) (classes : List Open) → length more < 2 ^ 32 → length more ≤ new.ready.bound → length more ≤ new.stuck.bound
+  pub fitted_inserted : (more : List TxnId) (new : Waits) (part : Part) (v : ℕ) (entries : List Waiting) (classes : List Open) → length more < 2 ^ 32
       → Inserts part v entries (kept_of ids w classes) (kept_of more new classes) → IsFitted more new
-  fitted_inserted more new part v entries classes few ready stuck i = record {
+  fitted_inserted more new part v entries classes few i = record {
     few = few;
     vertices = i.vertices;
     degrees = i.degrees;
-    ready_bound = ready;
-    stuck_bound = stuck;
-    ready_within = all_put _ new.ready.items (λ u h. elim ((i.ready u).0 h) [ inl o ↦ (i.kept u (all_get _ w.ready.items f.ready_within u o)).0 | inr e ↦ subst (λ u. u < length more) (sym e.0) i.within ]);
-    stuck_within = all_put _ new.stuck.items (λ u h. elim ((i.stuck u).0 h) [ inl o ↦ (i.kept u (all_get _ w.stuck.items f.stuck_within u o)).0 | inr e ↦ subst (λ u. u < length more) (sym e.0) i.within ]);
+    ready_within = all_put _ new.vertices.ready (λ u h. elim ((i.ready u).0 h) [ inl o ↦ (i.kept u (all_get _ w.vertices.ready f.ready_within u o)).0 | inr e ↦ subst (λ u. u < length more) (sym e.0) i.within ]);
+    stuck_within = all_put _ new.vertices.stuck (λ u h. elim ((i.stuck u).0 h) [ inl o ↦ (i.kept u (all_get _ w.vertices.stuck f.stuck_within u o)).0 | inr e ↦ subst (λ u. u < length more) (sym e.0) i.within ]);
   }

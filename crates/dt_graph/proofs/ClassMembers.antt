@@ -8,19 +8,18 @@ use Rattle.dt_queue.specs.Queues.{Waiting}
 use Rattle.dt_waits.specs.declared.vertex.Vertex.{Vertex}
 use Rattle.dt_waits.specs.declared.open.Open.{Open}
 use Rattle.dt_waits.specs.Graph.{vertex_at}
-use Rattle.dt_graph.specs.SubsetInner.{PutsIn, Removes, SubsetView}
+use Rattle.dt_graph.specs.SubsetInner.{PutsIn, Removes}
 use Rattle.dt_waits.specs.Steps.{IsPut, Resolves}
 use Rattle.dt_graph.proofs.WalkByPlaces.{passed_at}
 
 -- the vertices in front were put into the class
-pub record IsPutting (class : ℕ) (front : List ℕ) (old now : List Vertex) (stuck stuck_now : SubsetView) : Type 0 where
+pub record IsPutting (class : ℕ) (front : List ℕ) (old now : List Vertex) (stuck stuck_now : List ℕ) : Type 0 where
   pub size : length now ≡ length old
   pub inside : (v : ℕ) → Has front v → IsPut class (vertex_at old v) (vertex_at now v)
   pub outside : (v : ℕ) → ¬ (Has front v) → vertex_at now v ≡ vertex_at old v
-  pub bound : stuck_now.bound ≡ stuck.bound
-  pub still_stuck : (v : ℕ) → Has stuck_now.items v ↔ Has stuck.items v × ¬ (Has front v)
+  pub still_stuck : (v : ℕ) → Has stuck_now v ↔ Has stuck v × ¬ (Has front v)
 
-module _ (class : ℕ) (members : List ℕ) (place : ℕ) (lt : place < length members) (old now : List Vertex) (stuck stuck_now stuck_next : SubsetView) where
+module _ (class : ℕ) (members : List ℕ) (place : ℕ) (lt : place < length members) (old now : List Vertex) (stuck stuck_now stuck_next : List ℕ) where
   abbrev item : ℕ
   item = get_or members place 0
 
@@ -31,12 +30,11 @@ module _ (class : ℕ) (members : List ℕ) (place : ℕ) (lt : place < length m
     size = length-set now item y ∙ p.size;
     inside = λ v h. in_class v ((passed_at members place lt v).0 h) (either_nat v item);
     outside = λ v n. other v (λ e. n ((passed_at members place lt v).1 (inr (sym e)))) ∙ p.outside v (λ h. n ((passed_at members place lt v).1 (inl h)));
-    bound = gone.bound ∙ p.bound;
     still_stuck = λ v. (
-      λ h. let m : Has stuck_now.items v × (v ≢ item) = (gone.members v).0 h in
-          let o : Has stuck.items v × ¬ (Has (take place members) v) = (p.still_stuck v).0 m.0 in
+      λ h. let m : Has stuck_now v × (v ≢ item) = (gone v).0 h in
+          let o : Has stuck v × ¬ (Has (take place members) v) = (p.still_stuck v).0 m.0 in
           (o.0, λ f. elim ((passed_at members place lt v).0 f) [ inl g ↦ o.1 g | inr e ↦ m.1 (sym e) ]),
-      λ h. (gone.members v).1 ((p.still_stuck v).1 (h.0, λ f. h.1 ((passed_at members place lt v).1 (inl f))), λ e. h.1 ((passed_at members place lt v).1 (inr (sym e)))),
+      λ h. (gone v).1 ((p.still_stuck v).1 (h.0, λ f. h.1 ((passed_at members place lt v).1 (inl f))), λ e. h.1 ((passed_at members place lt v).1 (inr (sym e)))),
     );
   }
     where
@@ -56,17 +54,17 @@ module _ (class : ℕ) (members : List ℕ) (place : ℕ) (lt : place < length m
       in_class v (inr e) (inr ne) = absurd (ne (sym e))
 
 -- the first of the members is ready, if there is one
-pub first_readied : (members : List ℕ) (first : ℕ) (ready ready_now : SubsetView) → slice_get members 0 ≡ Some first → PutsIn first ready ready_now
-    → (v : ℕ) → Has ready_now.items v ↔ Has ready.items v ⊎ (slice_get members 0 ≡ Some v)
+pub first_readied : (members : List ℕ) (first : ℕ) (ready ready_now : List ℕ) → slice_get members 0 ≡ Some first → PutsIn first ready ready_now
+    → (v : ℕ) → Has ready_now v ↔ Has ready v ⊎ (slice_get members 0 ≡ Some v)
 first_readied members first ready ready_now at p v = (
-  λ h. elim ((p.members v).0 h) [ inl o ↦ inl o | inr e ↦ inr (subst (λ x. slice_get members 0 ≡ Some x) (sym e) at) ],
-  λ h. (p.members v).1 (elim h [ inl o ↦ inl o | inr e ↦ inr (one e) ]),
+  λ h. elim ((p v).0 h) [ inl o ↦ inl o | inr e ↦ inr (subst (λ x. slice_get members 0 ≡ Some x) (sym e) at) ],
+  λ h. (p v).1 (elim h [ inl o ↦ inl o | inr e ↦ inr (one e) ]),
 )
   where
     one : slice_get members 0 ≡ Some v → v ≡ first
     one e = cc
 
-pub none_readied : (members : List ℕ) (ready : SubsetView) → slice_get members 0 ≡ None → (v : ℕ) → Has ready.items v ↔ Has ready.items v ⊎ (slice_get members 0 ≡ Some v)
+pub none_readied : (members : List ℕ) (ready : List ℕ) → slice_get members 0 ≡ None → (v : ℕ) → Has ready v ↔ Has ready v ⊎ (slice_get members 0 ≡ Some v)
 none_readied members ready at v = (λ h. inl h, λ h. elim h [ inl o ↦ o | inr e ↦ absurd (none e) ])
   where
     none : slice_get members 0 ≡ Some v → ⊥
@@ -74,15 +72,15 @@ none_readied members ready at v = (λ h. inl h, λ h. elim h [ inl o ↦ o | inr
 
 -- all of them were put into it, and the first is ready
 pub resolves_held : (class : ℕ) (members : List ℕ) (ids : List TxnId) (vertices vertices_now : List Vertex) (degrees degrees_now : List ℕ) (waiting waiting_now : List Waiting) (ready ready_now : List ℕ)
-    (stuck stuck_now : SubsetView) (classes : List Open) → IsPutting class members vertices vertices_now stuck stuck_now → degrees_now ≡ degrees → waiting_now ≡ waiting
+    (stuck stuck_now : List ℕ) (classes : List Open) → IsPutting class members vertices vertices_now stuck stuck_now → degrees_now ≡ degrees → waiting_now ≡ waiting
     → ((v : ℕ) → Has ready_now v ↔ Has ready v ⊎ (slice_get members 0 ≡ Some v))
-    → Resolves members class (record { ids = ids; vertices = vertices; degrees = degrees; waiting = waiting; ready = ready; stuck = stuck.items; classes = classes }) (record {
+    → Resolves members class (record { ids = ids; vertices = vertices; degrees = degrees; waiting = waiting; ready = ready; stuck = stuck; classes = classes }) (record {
       ids = ids;
       vertices = vertices_now;
       degrees = degrees_now;
       waiting = waiting_now;
       ready = ready_now;
-      stuck = stuck_now.items;
+      stuck = stuck_now;
       classes = classes ++ record { members = members; next = 0 } ∷ [];
     })
 resolves_held class members ids vertices vertices_now degrees degrees_now waiting waiting_now ready ready_now stuck stuck_now classes p same_degrees same_waiting readied = record {

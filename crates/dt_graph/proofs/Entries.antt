@@ -15,7 +15,6 @@ use Rattle.dt_queue.specs.Queues.{HasDistinctSlots, IsQueued, Waiting, neighbour
 use Rattle.dt_queue.proofs.Callers.{distinct_pushed, pushed_waits}
 use Rattle.dt_waits.specs.Waits.{degree, id_at, others}
 use Rattle.dt_waits.specs.Graph.{GraphView, vertex_at}
-use Rattle.dt_graph.specs.SubsetInner.{SubsetView}
 use Rattle.dt_waits.specs.Steps.{AreEntriesOf, Grows, Inserts, fresh_vertex}
 use Rattle.dt_graph.specs.SmallStepsInner.{Enters, Pushes, Sorts, raised}
 use Rattle.dt_waits.proofs.Callers.{degree_fits, degree_pushed, id_has, slot_other, slot_same}
@@ -121,17 +120,17 @@ more_of : (now : List ℕ) {P : ℕ → Type 0} {was old : List ℕ} → was ≡
 more_of now {P} {was} {old} e f = subst (λ l. (u : ℕ) → Has now u ↔ Has l u ⊎ P u) e f
 
 -- a transaction's first part is added, with a vertex of its own
-pub inserts_first : (part : Part) (old : GraphView) (waiting : List Waiting) (slots : List ℕ) (missing count : ℕ) (ready stuck ready_now stuck_now : SubsetView)
+pub inserts_first : (part : Part) (old : GraphView) (waiting : List Waiting) (slots : List ℕ) (missing count : ℕ) (ready stuck ready_now stuck_now : List ℕ)
     → Distinct old.ids → ¬ (Has old.ids part.id) → length old.vertices ≡ length old.ids → length old.degrees ≡ length old.ids → suc missing ≡ length part.homes
-    → (e : Enters part.home (length old.ids) part.keys old.waiting waiting [] slots count) → ready.items ≡ old.ready → stuck.items ≡ old.stuck
+    → (e : Enters part.home (length old.ids) part.keys old.waiting waiting [] slots count) → ready ≡ old.ready → stuck ≡ old.stuck
     → Sorts (length old.ids) (old.vertices ++ record { rank = part.rank; missing = missing; class = None; slots = slots } ∷ []) (old.degrees ++ count ∷ []) ready stuck ready_now stuck_now
     → Inserts part (length old.ids) e.pushed.more old (record {
       ids = old.ids ++ part.id ∷ [];
       vertices = old.vertices ++ record { rank = part.rank; missing = missing; class = None; slots = slots } ∷ [];
       degrees = old.degrees ++ count ∷ [];
       waiting = waiting;
-      ready = ready_now.items;
-      stuck = stuck_now.items;
+      ready = ready_now;
+      stuck = stuck_now;
       classes = old.classes;
     })
 inserts_first part old waiting slots missing count ready stuck ready_now stuck_now once fresh sv sd lacking e er es sorts = record {
@@ -158,8 +157,8 @@ inserts_first part old waiting slots missing count ready stuck ready_now stuck_n
   is_before = inr (refl, fresh, refl);
   grows = subst (Grows (fresh_vertex part) e.pushed.more) (sym vertex_is) (record { rank = refl; missing = lacking; class = refl; slots = e.pushed.at_slots });
   counted = degree_is ∙ e.counted;
-  ready = more_of ready_now.items er sorts.readied;
-  stuck = more_of stuck_now.items es sorts.stuck_more;
+  ready = more_of ready_now er sorts.readied;
+  stuck = more_of stuck_now es sorts.stuck_more;
   classes = refl;
 }
   where
@@ -180,17 +179,17 @@ inserts_first part old waiting slots missing count ready stuck ready_now stuck_n
     degree_is = ap (λ n. get_or (old.degrees ++ count ∷ []) n 0) (sym sd) ∙ last_at old.degrees count 0
 
 -- one more part is added to the vertex of its transaction
-pub inserts_again : (part : Part) (v : ℕ) (old : GraphView) (waiting : List Waiting) (slots : List ℕ) (missing count : ℕ) (ready stuck ready_now stuck_now : SubsetView)
+pub inserts_again : (part : Part) (v : ℕ) (old : GraphView) (waiting : List Waiting) (slots : List ℕ) (missing count : ℕ) (ready stuck ready_now stuck_now : List ℕ)
     → Distinct old.ids → v < length old.ids → id_at old.ids v ≡ part.id → length old.vertices ≡ length old.ids → length old.degrees ≡ length old.ids → suc missing ≡ (vertex_at old.vertices v).missing
-    → (e : Enters part.home v part.keys old.waiting waiting (vertex_at old.vertices v).slots slots count) → ready.items ≡ old.ready → stuck.items ≡ old.stuck
+    → (e : Enters part.home v part.keys old.waiting waiting (vertex_at old.vertices v).slots slots count) → ready ≡ old.ready → stuck ≡ old.stuck
     → Sorts v (set old.vertices v (record (vertex_at old.vertices v) { missing = missing; slots = slots })) (set old.degrees v count) ready stuck ready_now stuck_now
     → Inserts part v e.pushed.more old (record {
       ids = old.ids;
       vertices = set old.vertices v (record (vertex_at old.vertices v) { missing = missing; slots = slots });
       degrees = set old.degrees v count;
       waiting = waiting;
-      ready = ready_now.items;
-      stuck = stuck_now.items;
+      ready = ready_now;
+      stuck = stuck_now;
       classes = old.classes;
     })
 inserts_again part v old waiting slots missing count ready stuck ready_now stuck_now once lt named sv sd lacking e er es sorts = record {
@@ -213,8 +212,8 @@ inserts_again part v old waiting slots missing count ready stuck ready_now stuck
   is_before = inl (lt, refl);
   grows = subst (Grows (vertex_at old.vertices v) e.pushed.more) (sym vertex_is) (record { rank = refl; missing = lacking; class = refl; slots = e.pushed.at_slots });
   counted = degree_is ∙ e.counted;
-  ready = more_of ready_now.items er sorts.readied;
-  stuck = more_of stuck_now.items es sorts.stuck_more;
+  ready = more_of ready_now er sorts.readied;
+  stuck = more_of stuck_now es sorts.stuck_more;
   classes = refl;
 }
   where

@@ -4,7 +4,7 @@ use Rattle.std.proofs.Common.{Option, None, Some, refl, sym, ap, subst, inl, inr
 use Rattle.std.proofs.lemmas.List.{length-map}
 use Rattle.std.proofs.lemmas.Option.{get_or_from_slice_get, slice_get_within}
 use Rattle.dt_lists.specs.Lists.{Has}
-use Rattle.dt_lists.proofs.Callers.{all_get, few_below, has_place}
+use Rattle.dt_lists.proofs.Callers.{all_get, all_put, any_put, few_below, has_place}
 use Rattle.dt_access.specs.declared.TxnId.{TxnId}
 use Rattle.dt_sched.specs.Views.{View, IsClass}
 use Rattle.dt_sched.specs.Decide.{IsExecutable}
@@ -42,6 +42,9 @@ module _ (place : ℕ) (g : GraphView) (m : MayFinishIn place g) (o : Open) (e :
       has_of_at : (xs : List ℕ) (i : ℕ) → slice_get xs i ≡ Some next → Has xs next
       has_of_at xs i at = has_place xs i next at
 
+  pub open_not_stuck : (next : ℕ) → slice_get o.members (o.next + 1) ≡ Some next → ¬ (Has g.stuck next)
+  open_not_stuck next at = all_get _ m.kept.members m.not_stuck next (has_place m.kept.members (o.next + 1) next (subst (λ x. slice_get x.members (o.next + 1) ≡ Some next) open_is at))
+
   pub finishes_one : (next : ℕ) (ready : List ℕ) → slice_get o.members (o.next + 1) ≡ Some next → ((u : ℕ) → Has ready u ↔ Has g.ready u ⊎ (u ≡ next))
       → FinishesIn place g (record g { ready = ready; classes = set g.classes place (record { members = o.members; next = o.next + 1 }) })
   finishes_one next ready at r = subst (λ x. FinishesIn place g (record g { ready = ready; classes = set g.classes place x })) (sym now_is)
@@ -59,7 +62,7 @@ pub may_leave_without : (g : GraphView) (ready leaving : List ℕ) → MayLeave 
 may_leave_without g ready leaving m = record { once = m.once; within = m.within; distinct = m.distinct; below = m.below; slots = m.slots; enough = m.enough }
 
 pub may_finish_without : (place : ℕ) (g : GraphView) (ready : List ℕ) → MayFinishIn place g → MayFinishIn place (record g { ready = ready })
-may_finish_without place g ready m = record { kept = m.kept; at_place = m.at_place; waits = m.waits; leaves = may_leave_without g ready m.kept.members m.leaves }
+may_finish_without place g ready m = record { kept = m.kept; at_place = m.at_place; waits = m.waits; leaves = may_leave_without g ready m.kept.members m.leaves; not_stuck = m.not_stuck }
 
 module _ (g : GraphView) (id : TxnId) (r : MayFinish g id) where
   left : IsLeft r.0 r.2 id
@@ -76,7 +79,7 @@ module _ (g : GraphView) (id : TxnId) (r : MayFinish g id) where
       leaves u (inr h) = absurd h
 
   pub may_finish : (v place : ℕ) → slice_get g.ids v ≡ Some id → (vertex_at g.vertices v).class ≡ Some place → MayFinishIn place g
-  may_finish v place at some = record { kept = kept.0; at_place = kept.1; waits = waits; leaves = leaves }
+  may_finish v place at some = record { kept = kept.0; at_place = kept.1; waits = waits; leaves = leaves; not_stuck = all_put _ kept.0.members not_stuck }
     where
       lt : v < length g.ids
       lt = slice_get_within g.ids v id at
@@ -100,6 +103,10 @@ module _ (g : GraphView) (id : TxnId) (r : MayFinish g id) where
       leaves : MayLeave g kept.0.members
       leaves = may_leave r.0 r.1 r.2 g r.5 kept.0.members (distinct_members r.0 r.1 r.2 id r.3 r.4 g g r.5 v lt named place class.0 kept.0 class.1 kept.1 class.2) kept.2.within
           (λ u h. left_after r.0 r.2 left ((of_class.members (id_at g.ids u)).0 (member_of r.0 r.1 r.2 id r.3 r.4 g g r.5 v lt named place class.0 kept.0 class.1 kept.1 class.2 u h)).1)
+
+      not_stuck : (u : ℕ) → Has kept.0.members u → ¬ (Has g.stuck u)
+      not_stuck u h s = ((r.5.stuck u).0 s).1.apart (any_put (λ ids. Has ids (id_at g.ids u)) r.1 class.0 (has_place r.1 place class.0 class.1)
+          (member_of r.0 r.1 r.2 id r.3 r.4 g g r.5 v lt named place class.0 kept.0 class.1 kept.1 class.2 u h))
 
 -- what was done in a class, of an id that was ready
 pub finishes_in : (id : TxnId) (v place : ℕ) (ready : List ℕ) (old new : GraphView) → slice_get old.ids v ≡ Some id → (vertex_at old.vertices v).class ≡ Some place → IsReadyWithout old.ready v ready

@@ -14,7 +14,6 @@ use Rattle.dt_queue.specs.declared.Follower.{Follower}
 use Rattle.dt_queue.specs.Queues.{HasDistinctSlots, IsQueued, Waiting, follower_of, followers, followers_after}
 use Rattle.dt_waits.specs.Waits.{is_of, lowered}
 use Rattle.dt_waits.proofs.Callers.{slot_other}
-use Rattle.dt_graph.specs.SubsetInner.{SubsetView}
 use Rattle.dt_graph.specs.SmallStepsInner.{AreLowered, IsFollowedAt, Wakes, falls}
 use Rattle.dt_graph.proofs.Followers.{first_told, followers_onward}
 use Rattle.dt_graph.proofs.Degrees.{IsLowering, lowering_onward}
@@ -38,10 +37,8 @@ lowered_same count old now a v e = by (either_le (length old) v)
 
 -- of some, and then, after degrees of others alone were lowered, of the others
 wakes_lowered : (P Q : ℕ → Type 0) → ((v : ℕ) → Either (P v)) → ((v : ℕ) → Either (Q v)) → (count : ℕ → ℕ) → ((v : ℕ) → ¬ (Q v) → count v ≡ 0)
-    → (old now : List ℕ) → AreLowered count old now → (a b c r s t : SubsetView) → Wakes P old a r b s → Wakes Q now b s c t → Wakes (λ v. P v ⊎ Q v) now a r c t
+    → (old now : List ℕ) → AreLowered count old now → (a b c r s t : List ℕ) → Wakes P old a r b s → Wakes Q now b s c t → Wakes (λ v. P v ⊎ Q v) now a r c t
 wakes_lowered P Q is_p is_q count spares old now l a b c r s t p q = record {
-  stuck_bound = q.stuck_bound ∙ p.stuck_bound;
-  ready_bound = q.ready_bound ∙ p.ready_bound;
   woken = λ v. (
     λ h. elim ((q.woken v).0 h) [
       | inl m ↦ elim ((p.woken v).0 m) [ inl o ↦ inl o | inr w ↦ inr (w.0, fell v w.1, inl w.2) ]
@@ -50,8 +47,8 @@ wakes_lowered P Q is_p is_q count spares old now l a b c r s t p q = record {
     λ h. (q.woken v).1 (elim h [ inl o ↦ inl ((p.woken v).1 (inl o)) | inr w ↦ back v w.0 w.1 w.2 (is_q v) ]),
   );
   still_stuck = λ v. (
-    λ h. let m : Has b.items v × ¬ ((get_or now v 0 ≡ 0) × Q v) = (q.still_stuck v).0 h in
-        let o : Has a.items v × ¬ ((get_or old v 0 ≡ 0) × P v) = (p.still_stuck v).0 m.0 in
+    λ h. let m : Has b v × ¬ ((get_or now v 0 ≡ 0) × Q v) = (q.still_stuck v).0 h in
+        let o : Has a v × ¬ ((get_or old v 0 ≡ 0) × P v) = (p.still_stuck v).0 m.0 in
         (o.0, λ w. elim w.1 [ inl x ↦ elim (is_q v) [ inl y ↦ m.1 (w.0, y) | inr n ↦ o.1 (sym (same v n) ∙ w.0, x) ] | inr y ↦ m.1 (w.0, y) ]),
     λ h. (q.still_stuck v).1 ((p.still_stuck v).1 (h.0, λ w. h.1 (fell v w.0, inl w.1)), λ w. h.1 (w.0, inr w.1)),
   );
@@ -63,12 +60,12 @@ wakes_lowered P Q is_p is_q count spares old now l a b c r s t p q = record {
     same : (v : ℕ) → ¬ (Q v) → get_or now v 0 ≡ get_or old v 0
     same v n = lowered_same count old now l v (spares v n)
 
-    told : (v : ℕ) → Has a.items v → get_or now v 0 ≡ 0 → Q v → Either (P v) → Either (get_or old v 0 ≡ 0) → Has s.items v ⊎ Has b.items v × (get_or now v 0 ≡ 0) × Q v
+    told : (v : ℕ) → Has a v → get_or now v 0 ≡ 0 → Q v → Either (P v) → Either (get_or old v 0 ≡ 0) → Has s v ⊎ Has b v × (get_or now v 0 ≡ 0) × Q v
     told v h z y (inl x) (inl e) = inl ((p.woken v).1 (inr (h, e, x)))
     told v h z y (inl x) (inr n) = inr ((p.still_stuck v).1 (h, λ w. n w.0), z, y)
     told v h z y (inr n) d = inr ((p.still_stuck v).1 (h, λ w. n w.1), z, y)
 
-    back : (v : ℕ) → Has a.items v → get_or now v 0 ≡ 0 → P v ⊎ Q v → Either (Q v) → Has s.items v ⊎ Has b.items v × (get_or now v 0 ≡ 0) × Q v
+    back : (v : ℕ) → Has a v → get_or now v 0 ≡ 0 → P v ⊎ Q v → Either (Q v) → Has s v ⊎ Has b v × (get_or now v 0 ≡ 0) × Q v
     back v h z w (inl y) = told v h z y (is_p v) (either_nat (get_or old v 0) 0)
     back v h z (inl x) (inr n) = inl ((p.woken v).1 (inr (h, sym (same v n) ∙ z, x)))
     back v h z (inr y) (inr n) = absurd (n y)
@@ -100,12 +97,12 @@ slots_spare waiting u v (slot ∷ slots) n =
     omega (arith, sum_by-cons (λ slot. lowered waiting slot u v) slot slots, slot_spares waiting slot u v (λ h. n (inl h)), slots_spare waiting u v slots (λ h. n (inr h)))
 
 -- at a place of the walk over the followers of a slot of the vertex u
-pub record IsFreeing (waiting : List Waiting) (slot u place : ℕ) (old now : List ℕ) (stuck ready stuck_now ready_now : SubsetView) : Type 0 where
+pub record IsFreeing (waiting : List Waiting) (slot u place : ℕ) (old now : List ℕ) (stuck ready stuck_now ready_now : List ℕ) : Type 0 where
   pub lowering : IsLowering waiting slot u place old now
   pub waking : IsWaking waiting slot place now stuck ready stuck_now ready_now
 
-module _ (waiting : List Waiting) (distinct : HasDistinctSlots waiting) (slot u : ℕ) (old : List ℕ) (stuck ready : SubsetView) where
-  pub freeing_onward : (place : ℕ) (now next : List ℕ) (stuck_now ready_now stuck_next ready_next : SubsetView) (f : Follower) → IsFreeing waiting slot u place old now stuck ready stuck_now ready_now
+module _ (waiting : List Waiting) (distinct : HasDistinctSlots waiting) (slot u : ℕ) (old : List ℕ) (stuck ready : List ℕ) where
+  pub freeing_onward : (place : ℕ) (now next : List ℕ) (stuck_now ready_now stuck_next ready_next : List ℕ) (f : Follower) → IsFreeing waiting slot u place old now stuck ready stuck_now ready_now
       → slice_get (map follower_of (followers_after waiting slot place)) 0 ≡ Some f → AreLowered (falls u f.vertex) now next → Wakes (λ v. f.vertex ≡ v) next stuck_now ready_now stuck_next ready_next
       → IsFreeing waiting slot u f.slot old next stuck ready stuck_next ready_next
   freeing_onward place now next stuck_now ready_now stuck_next ready_next f k told lowered w =
@@ -132,7 +129,7 @@ module _ (waiting : List Waiting) (distinct : HasDistinctSlots waiting) (slot u 
 
 -- of what is said of the items of a list, up to a place and then, after what it takes was taken, of the item there
 pub wakes_next : (P : ℕ → ℕ → Type 0) → ((x v : ℕ) → Either (P x v)) → (takes : ℕ → ℕ → ℕ) → ((x v : ℕ) → ¬ (P x v) → takes x v ≡ 0) → (items : List ℕ) (place : ℕ) → place < length items
-    → (old now : List ℕ) → AreLowered (takes (get_or items place 0)) old now → (a b c r s t : SubsetView)
+    → (old now : List ℕ) → AreLowered (takes (get_or items place 0)) old now → (a b c r s t : List ℕ)
     → Wakes (λ v. AnyIn (λ x. P x v) (take place items)) old a r b s → Wakes (P (get_or items place 0)) now b s c t → Wakes (λ v. AnyIn (λ x. P x v) (take (place + 1) items)) now a r c t
 wakes_next P decided takes spares items place lt old now l a b c r s t p q = wakes_same _ _ same now a c r t
     (wakes_lowered (λ v. AnyIn (λ x. P x v) (take place items)) (P item) (λ v. either_any _ (take place items) (λ x. decided x v)) (decided item) (takes item) (spares item) old now l a b c r s t p q)

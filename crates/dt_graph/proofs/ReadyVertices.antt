@@ -5,55 +5,47 @@ use Rattle.std.proofs.lemmas.List.{append-nil}
 use Rattle.dt_lists.specs.Lists.{AnyIn, Has, Either}
 use Rattle.dt_lists.proofs.Callers.{any_get, either_any, either_nat}
 use Rattle.dt_queue.specs.Queues.{HasDistinctSlots, IsQueued, Waiting, follower_of, followers, followers_after}
-use Rattle.dt_graph.specs.SubsetInner.{PutsIn, Removes, SubsetView}
+use Rattle.dt_graph.specs.SubsetInner.{PutsIn, Removes}
 use Rattle.dt_graph.specs.SmallStepsInner.{IsFollowedAt, Wakes}
 use Rattle.dt_graph.proofs.Followers.{followers_begin, none_told}
 
 -- of no vertex
-pub wakes_none : (degrees : List ℕ) (stuck ready : SubsetView) → Wakes (λ v. ⊥) degrees stuck ready stuck ready
+pub wakes_none : (degrees : List ℕ) (stuck ready : List ℕ) → Wakes (λ v. ⊥) degrees stuck ready stuck ready
 wakes_none degrees stuck ready = record {
-  stuck_bound = refl;
-  ready_bound = refl;
   woken = λ v. (λ h. inl h, λ s. elim s [ inl h ↦ h | inr r ↦ absurd r.2 ]);
   still_stuck = λ v. (λ h. (h, λ r. r.1), λ r. r.0);
 }
 
 -- of one that is stuck and of degree 0
-pub wakes_one : (degrees : List ℕ) (u : ℕ) (stuck ready stuck_now ready_now : SubsetView) → get_or degrees u 0 ≡ 0 → Has stuck.items u → Removes u stuck stuck_now → PutsIn u ready ready_now
+pub wakes_one : (degrees : List ℕ) (u : ℕ) (stuck ready stuck_now ready_now : List ℕ) → get_or degrees u 0 ≡ 0 → Has stuck u → Removes u stuck stuck_now → PutsIn u ready ready_now
     → Wakes (λ v. u ≡ v) degrees stuck ready stuck_now ready_now
 wakes_one degrees u stuck ready stuck_now ready_now zero h r p = record {
-  stuck_bound = r.bound;
-  ready_bound = p.bound;
   woken = λ v. (
-    λ m. elim ((p.members v).0 m) [ inl o ↦ inl o | inr e ↦ inr (subst (Has stuck.items) (sym e) h, subst (λ x. get_or degrees x 0 ≡ 0) (sym e) zero, sym e) ],
-    λ s. (p.members v).1 (elim s [ inl o ↦ inl o | inr w ↦ inr (sym w.2) ]),
+    λ m. elim ((p v).0 m) [ inl o ↦ inl o | inr e ↦ inr (subst (Has stuck) (sym e) h, subst (λ x. get_or degrees x 0 ≡ 0) (sym e) zero, sym e) ],
+    λ s. (p v).1 (elim s [ inl o ↦ inl o | inr w ↦ inr (sym w.2) ]),
   );
   still_stuck = λ v. (
-    λ m. let o : Has stuck.items v × (v ≢ u) = (r.members v).0 m in (o.0, λ w. o.1 (sym w.1)),
-    λ s. (r.members v).1 (s.0, λ e. s.1 (subst (λ x. get_or degrees x 0 ≡ 0) (sym e) zero, sym e)),
+    λ m. let o : Has stuck v × (v ≢ u) = (r v).0 m in (o.0, λ w. o.1 (sym w.1)),
+    λ s. (r v).1 (s.0, λ e. s.1 (subst (λ x. get_or degrees x 0 ≡ 0) (sym e) zero, sym e)),
   );
 }
 
 -- of one that isn't stuck, or of a higher degree
-pub wakes_not : (degrees : List ℕ) (u : ℕ) (stuck ready : SubsetView) → ¬ ((get_or degrees u 0 ≡ 0) × Has stuck.items u) → Wakes (λ v. u ≡ v) degrees stuck ready stuck ready
+pub wakes_not : (degrees : List ℕ) (u : ℕ) (stuck ready : List ℕ) → ¬ ((get_or degrees u 0 ≡ 0) × Has stuck u) → Wakes (λ v. u ≡ v) degrees stuck ready stuck ready
 wakes_not degrees u stuck ready n = record {
-  stuck_bound = refl;
-  ready_bound = refl;
-  woken = λ v. (λ h. inl h, λ s. elim s [ inl h ↦ h | inr w ↦ absurd (n (subst (λ x. get_or degrees x 0 ≡ 0) (sym w.2) w.1, subst (Has stuck.items) (sym w.2) w.0)) ]);
-  still_stuck = λ v. (λ h. (h, λ w. n (subst (λ x. get_or degrees x 0 ≡ 0) (sym w.1) w.0, subst (Has stuck.items) (sym w.1) h)), λ r. r.0);
+  woken = λ v. (λ h. inl h, λ s. elim s [ inl h ↦ h | inr w ↦ absurd (n (subst (λ x. get_or degrees x 0 ≡ 0) (sym w.2) w.1, subst (Has stuck) (sym w.2) w.0)) ]);
+  still_stuck = λ v. (λ h. (h, λ w. n (subst (λ x. get_or degrees x 0 ≡ 0) (sym w.1) w.0, subst (Has stuck) (sym w.1) h)), λ r. r.0);
 }
 
 -- of the same, put otherwise
-pub wakes_same : (P Q : ℕ → Type 0) → ((v : ℕ) → P v ↔ Q v) → (degrees : List ℕ) (a b r s : SubsetView) → Wakes P degrees a r b s → Wakes Q degrees a r b s
+pub wakes_same : (P Q : ℕ → Type 0) → ((v : ℕ) → P v ↔ Q v) → (degrees : List ℕ) (a b r s : List ℕ) → Wakes P degrees a r b s → Wakes Q degrees a r b s
 wakes_same P Q same degrees a b r s p = record {
-  stuck_bound = p.stuck_bound;
-  ready_bound = p.ready_bound;
   woken = λ v. (
     λ h. elim ((p.woken v).0 h) [ inl o ↦ inl o | inr w ↦ inr (w.0, w.1, (same v).0 w.2) ],
     λ h. (p.woken v).1 (elim h [ inl o ↦ inl o | inr w ↦ inr (w.0, w.1, (same v).1 w.2) ]),
   );
   still_stuck = λ v. (
-    λ h. let o : Has a.items v × ¬ ((get_or degrees v 0 ≡ 0) × P v) = (p.still_stuck v).0 h in (o.0, λ w. o.1 (w.0, (same v).1 w.1)),
+    λ h. let o : Has a v × ¬ ((get_or degrees v 0 ≡ 0) × P v) = (p.still_stuck v).0 h in (o.0, λ w. o.1 (w.0, (same v).1 w.1)),
     λ h. (p.still_stuck v).1 (h.0, λ w. h.1 (w.0, (same v).0 w.1)),
   );
 }
@@ -66,13 +58,13 @@ pub of_some_decided : (entries : List Waiting) (v : ℕ) → Either (IsOfSome en
 of_some_decided entries v = either_any _ entries (λ w. either_nat w.vertex v)
 
 -- at a place of the walk over the followers of a slot: those in front are woken
-pub record IsWaking (waiting : List Waiting) (slot place : ℕ) (degrees : List ℕ) (stuck ready stuck_now ready_now : SubsetView) : Type 0 where
+pub record IsWaking (waiting : List Waiting) (slot place : ℕ) (degrees : List ℕ) (stuck ready stuck_now ready_now : List ℕ) : Type 0 where
   pub front : List Waiting
   pub split : followers waiting slot ≡ front ++ followers_after waiting slot place
   pub waits : IsQueued waiting place
   pub wakes : Wakes (IsOfSome front) degrees stuck ready stuck_now ready_now
 
-module _ (waiting : List Waiting) (distinct : HasDistinctSlots waiting) (slot : ℕ) (degrees : List ℕ) (stuck ready : SubsetView) where
+module _ (waiting : List Waiting) (distinct : HasDistinctSlots waiting) (slot : ℕ) (degrees : List ℕ) (stuck ready : List ℕ) where
   pub waking_begins : IsQueued waiting slot → IsWaking waiting slot slot degrees stuck ready stuck ready
   waking_begins h = record {
     front = [];
@@ -81,7 +73,7 @@ module _ (waiting : List Waiting) (distinct : HasDistinctSlots waiting) (slot : 
     wakes = wakes_none degrees stuck ready;
   }
 
-  pub waking_ends : (place : ℕ) (stuck_now ready_now : SubsetView) → IsWaking waiting slot place degrees stuck ready stuck_now ready_now → slice_get (map follower_of (followers_after waiting slot place)) 0 ≡ None
+  pub waking_ends : (place : ℕ) (stuck_now ready_now : List ℕ) → IsWaking waiting slot place degrees stuck ready stuck_now ready_now → slice_get (map follower_of (followers_after waiting slot place)) 0 ≡ None
       → Wakes (IsFollowedAt waiting slot) degrees stuck ready stuck_now ready_now
   waking_ends place stuck_now ready_now k e = subst (λ l. Wakes (IsOfSome l) degrees stuck ready stuck_now ready_now)
       (sym (k.split ∙ ap (λ l. k.front ++ l) (none_told _ e) ∙ append-nil k.front)) k.wakes

@@ -146,17 +146,13 @@ module _ (vertices : List Vertex) (leaving : List ℕ) (old : List Waiting) wher
       all_stay [] = refl
       all_stay (w ∷ ws) = ap (λ l. w ∷ l) (all_stay ws)
 
--- the slots that are read of a leaving vertex are those of its entries
-module _ (waiting : List Waiting) (vertices : List Vertex) (leaving : List ℕ) (have : HaveSlots waiting vertices leaving) (v : ℕ) (h : Has leaving v)
-    (read : Vertex) (is : read ≡ get_or vertices v read) (slots : List ℕ) (told : slots ≡ (get_or vertices v read).slots) where
-  pub read_slots : slots ≡ (vertex_at vertices v).slots
-  read_slots = told ∙ ap (λ x. x.slots) (sym is ∙ get_or_read vertices v read (all_get _ leaving have v h).0 is _)
+-- the slots of a leaving vertex are those of its entries
+module _ (waiting : List Waiting) (vertices : List Vertex) (leaving : List ℕ) (have : HaveSlots waiting vertices leaving) (v : ℕ) (h : Has leaving v) where
+  pub leaving_slots : (vertex_at vertices v).slots ≡ slots_of waiting v
+  leaving_slots = (all_get _ leaving have v h).1
 
-  pub leaving_slots : slots ≡ slots_of waiting v
-  leaving_slots = read_slots ∙ (all_get _ leaving have v h).1
-
-  pub leaving_wait : AllIn (IsQueued waiting) slots
+  pub leaving_wait : AllIn (IsQueued waiting) (vertex_at vertices v).slots
   leaving_wait = subst (AllIn (IsQueued waiting)) (sym leaving_slots) (slots_wait waiting v)
 
-  pub leaving_once : HasDistinctSlots waiting → Distinct slots
+  pub leaving_once : HasDistinctSlots waiting → Distinct (vertex_at vertices v).slots
   leaving_once distinct = subst Distinct (sym leaving_slots) (slots_once waiting v distinct)

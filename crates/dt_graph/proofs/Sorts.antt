@@ -2,31 +2,27 @@
 use Rattle.std.proofs.Common.{◌≡◌, ◌≢◌, ℕ, List, get_or, inl, inr, refl}
 use Rattle.dt_waits.specs.declared.vertex.Vertex.{Vertex}
 use Rattle.dt_waits.specs.Graph.{vertex_at}
-use Rattle.dt_graph.specs.SubsetInner.{PutsIn, SubsetView}
+use Rattle.dt_graph.specs.SubsetInner.{PutsIn}
 use Rattle.dt_graph.specs.SmallStepsInner.{Sorts}
 
 -- it is complete and of degree 0
-pub sorts_ready : (v : ℕ) (vertices : List Vertex) (degrees : List ℕ) (ready stuck now : SubsetView) → (vertex_at vertices v).missing ≡ 0 → get_or degrees v 0 ≡ 0 → PutsIn v ready now
+pub sorts_ready : (v : ℕ) (vertices : List Vertex) (degrees : List ℕ) (ready stuck now : List ℕ) → (vertex_at vertices v).missing ≡ 0 → get_or degrees v 0 ≡ 0 → PutsIn v ready now
     → Sorts v vertices degrees ready stuck now stuck
 sorts_ready v vertices degrees ready stuck now m d p = record {
-  ready_bound = p.bound;
-  stuck_bound = refl;
   readied = λ u. (
-    λ h. elim ((p.members u).0 h) [ inl o ↦ inl o | inr e ↦ inr (e, m, d) ],
-    λ s. (p.members u).1 (elim s [ inl o ↦ inl o | inr r ↦ inr r.0 ]),
+    λ h. elim ((p u).0 h) [ inl o ↦ inl o | inr e ↦ inr (e, m, d) ],
+    λ s. (p u).1 (elim s [ inl o ↦ inl o | inr r ↦ inr r.0 ]),
   );
   stuck_more = λ u. (λ h. inl h, λ s. elim s [ inl o ↦ o | inr r ↦ absurd (r.2 d) ]);
 }
 
 -- it is complete and of a higher degree
-pub sorts_stuck : (v : ℕ) (vertices : List Vertex) (degrees : List ℕ) (ready stuck now : SubsetView) → (vertex_at vertices v).missing ≡ 0 → get_or degrees v 0 ≢ 0 → PutsIn v stuck now
+pub sorts_stuck : (v : ℕ) (vertices : List Vertex) (degrees : List ℕ) (ready stuck now : List ℕ) → (vertex_at vertices v).missing ≡ 0 → get_or degrees v 0 ≢ 0 → PutsIn v stuck now
     → Sorts v vertices degrees ready stuck ready now
 sorts_stuck v vertices degrees ready stuck now m d p = record {
-  ready_bound = refl;
-  stuck_bound = p.bound;
   readied = λ u. (λ h. inl h, λ s. elim s [ inl o ↦ o | inr r ↦ absurd (d r.2) ]);
   stuck_more = λ u. (
-    λ h. elim ((p.members u).0 h) [ inl o ↦ inl o | inr e ↦ inr (e, m, d) ],
-    λ s. (p.members u).1 (elim s [ inl o ↦ inl o | inr r ↦ inr r.0 ]),
+    λ h. elim ((p u).0 h) [ inl o ↦ inl o | inr e ↦ inr (e, m, d) ],
+    λ s. (p u).1 (elim s [ inl o ↦ inl o | inr r ↦ inr r.0 ]),
   );
 }

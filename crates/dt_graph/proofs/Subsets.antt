@@ -41,15 +41,6 @@ set_has (x ∷ xs) (suc i) y z (inr h) = elim (set_has xs i y z h) [ inl e ↦ i
     same : (j : ℕ) → suc j ≡ suc i → j ≡ i
     same j e = omega (arith, e)
 
--- a test of a place
-pub none_of_test : {A : Type 0} (place : Option A) (b : Bool) → is_some place ≡ not b → b ≡ true → place ≡ None
-none_of_test None b e t = refl
-none_of_test (Some x) b e t = let n : true ≡ not true = e ∙ ap not t in cc
-
-pub some_of_test : {A : Type 0} (place : Option A) (b : Bool) → is_some place ≡ not b → b ≡ false → (x : A) × (place ≡ Some x)
-some_of_test None b e t = let n : false ≡ not false = e ∙ ap not t in cc
-some_of_test (Some x) b e t = (x, refl)
-
 -- more room serves as well
 pub subset_room : (items : List ℕ) (places : List (Option ℕ)) (less more : ℕ) → less ≤ more → IsSubset items places less → IsSubset items places more
 subset_room items places less more le s = record { few = s.few; fits = join _ _ _ s.fits le; once = s.once; within = s.within; narrow = s.narrow; placed = s.placed }
@@ -94,10 +85,21 @@ module _ (items : List ℕ) (places : List (Option ℕ)) (room : ℕ) (s : IsSub
   pub unplaced_absent : get_or places number None ≡ None → ¬ (Has items number)
   unplaced_absent e = subst (StandsAtPlace items number) e (s.placed number lt)
 
-  -- so the test of a place decides it
-  pub has_placed : (place : Option ℕ) → get_or places number None ≡ place → IsTrue (is_some place) ↔ Has items number
-  has_placed None e = (λ b. absurd (true≢false (sym b)), λ h. absurd (unplaced_absent e h))
-  has_placed (Some p) e = (λ b. placed_has p e, λ h. refl)
+  -- and the other way round
+
+  pub absent_unplaced : ¬ (Has items number) → get_or places number None ≡ None
+  absent_unplaced n = by (get_or places number None) refl
+    where
+      by : (place : Option ℕ) → get_or places number None ≡ place → place ≡ None
+      by None e = refl
+      by (Some p) e = absurd (n (placed_has p e))
+
+  pub has_placed : Has items number → (place : ℕ) × (get_or places number None ≡ Some place)
+  has_placed h = by (get_or places number None) refl
+    where
+      by : (place : Option ℕ) → get_or places number None ≡ place → (p : ℕ) × (place ≡ Some p)
+      by None e = absurd (unplaced_absent e h)
+      by (Some p) e = (p, refl)
 
   -- a number is put in, for which there is room
 
@@ -140,22 +142,11 @@ module _ (items : List ℕ) (places : List (Option ℕ)) (room : ℕ) (s : IsSub
           (subst (StandsAtPlace (items ++ number ∷ []) number) (sym (get_or-set_same places number (Some (length items)) None lt)) (last_place items number))
       at n ln (inr ne) = subst (StandsAtPlace (items ++ number ∷ []) n) (sym (get_or-set_other places number n (Some (length items)) None ne)) (longer n ne (get_or places n None) (s.placed n ln))
 
-  pub added : (bound : ℕ) → PutsIn number (record { bound = bound; items = items }) (record { bound = bound; items = items ++ number ∷ [] })
-  added bound = record {
-    bound = refl;
-    members = λ n. (
-      λ h. elim (has_more items number n h) [ inl o ↦ inl o | inr e ↦ inr (sym e) ],
-      λ o. elim o [ inl h ↦ has_longer items (number ∷ []) n h | inr e ↦ subst (Has (items ++ number ∷ [])) (sym e) (has_last items number) ],
-    );
-  }
-
-  -- the bound put otherwise
-  pub added_at : (bound later : ℕ) → later ≡ bound → PutsIn number (record { bound = bound; items = items }) (record { bound = later; items = items ++ number ∷ [] })
-  added_at bound later e = record { bound = e; members = (added bound).members }
-
-  -- a number that is there stays
-  pub added_already : (place : ℕ) → get_or places number None ≡ Some place → (bound : ℕ) → PutsIn number (record { bound = bound; items = items }) (record { bound = bound; items = items })
-  added_already place e bound = record { bound = refl; members = λ n. (λ h. inl h, λ o. elim o [ inl h ↦ h | inr f ↦ subst (Has items) (sym f) (placed_has place e) ]) }
+  pub added : PutsIn number items (items ++ number ∷ [])
+  added n = (
+    λ h. elim (has_more items number n h) [ inl o ↦ inl o | inr e ↦ inr (sym e) ],
+    λ o. elim o [ inl h ↦ has_longer items (number ∷ []) n h | inr e ↦ subst (Has (items ++ number ∷ [])) (sym e) (has_last items number) ],
+  )
 
   -- a number is taken out that was the last one
   module _ (front : List ℕ) (is : items ≡ front ++ number ∷ []) where
@@ -183,17 +174,11 @@ module _ (items : List ℕ) (places : List (Option ℕ)) (room : ℕ) (s : IsSub
         at n ln (inl f) = subst (λ n. StandsAtPlace front n (get_or (set places number None) n None)) (sym f) (subst (StandsAtPlace front number) (sym (get_or-set_same places number None None lt)) absent_front)
         at n ln (inr ne) = subst (StandsAtPlace front n) (sym (get_or-set_other places number n None None ne)) (shorter n ne (get_or places n None) (subst (λ l. StandsAtPlace l n (get_or places n None)) is (s.placed n ln)))
 
-    pub removed_last : (bound : ℕ) → Removes number (record { bound = bound; items = items }) (record { bound = bound; items = front })
-    removed_last bound = record {
-      bound = refl;
-      members = λ n. (
-        λ h. (subst (λ l. Has l n) (sym is) (has_longer front (number ∷ []) n h), λ e. absent_front (subst (Has front) e h)),
-        λ o. elim (has_more front number n (subst (λ l. Has l n) is o.0)) [ inl h ↦ h | inr e ↦ absurd (o.1 (sym e)) ],
-      );
-    }
-
-    pub removed_last_at : (bound later : ℕ) → later ≡ bound → Removes number (record { bound = bound; items = items }) (record { bound = later; items = front })
-    removed_last_at bound later e = record { bound = e; members = (removed_last bound).members }
+    pub removed_last : Removes number items front
+    removed_last n = (
+      λ h. (subst (λ l. Has l n) (sym is) (has_longer front (number ∷ []) n h), λ e. absent_front (subst (Has front) e h)),
+      λ o. elim (has_more front number n (subst (λ l. Has l n) is o.0)) [ inl h ↦ h | inr e ↦ absurd (o.1 (sym e)) ],
+    )
 
   -- a number is taken out, and the last one put in its place
   module _ (front : List ℕ) (last place : ℕ) (is : items ≡ front ++ last ∷ []) (other : last ≢ number) (at_place : get_or places number None ≡ Some place) where
@@ -250,25 +235,19 @@ module _ (items : List ℕ) (places : List (Option ℕ)) (room : ℕ) (s : IsSub
         at n ln (inr ne) (inr nl) = subst (StandsAtPlace (set front place last) n) (sym (get_or-set_other (set places last (Some place)) number n None None ne ∙ get_or-set_other places last n (Some place) None nl))
             (beside n ne nl (get_or places n None) (subst (λ l. StandsAtPlace l n (get_or places n None)) is (s.placed n ln)))
 
-    pub removed : (bound : ℕ) → Removes number (record { bound = bound; items = items }) (record { bound = bound; items = set front place last })
-    removed bound = record {
-      bound = refl;
-      members = λ n. (
-        λ h. (
-          elim (set_has front place last n h) [
-            | inl e ↦ subst (λ l. Has l n) (sym is) (subst (Has (front ++ last ∷ [])) e (has_last front last))
-            | inr r ↦ subst (λ l. Has l n) (sym is) (has_longer front (last ∷ []) n (has_place front r.0 n r.2))
-          ],
-          λ e. number_gone (subst (Has (set front place last)) e h),
-        ),
-        λ o. elim (has_more front last n (subst (λ l. Has l n) is o.0)) [
-          | inl h ↦
-              let p : (i : ℕ) × (slice_get front i ≡ Some n) = place_of front n h in
-              has_place (set front place last) p.0 n (set_beside front place p.0 last (λ e. o.1 (some_same (sym p.1 ∙ ap (slice_get front) e ∙ at_front))) ∙ p.1)
-          | inr e ↦ subst (Has (set front place last)) e (has_place (set front place last) place last (set_here front place last (slice_get_within front place number at_front)))
+    pub removed : Removes number items (set front place last)
+    removed n = (
+      λ h. (
+        elim (set_has front place last n h) [
+          | inl e ↦ subst (λ l. Has l n) (sym is) (subst (Has (front ++ last ∷ [])) e (has_last front last))
+          | inr r ↦ subst (λ l. Has l n) (sym is) (has_longer front (last ∷ []) n (has_place front r.0 n r.2))
         ],
-      );
-    }
-
-    pub removed_at : (bound later : ℕ) → later ≡ bound → Removes number (record { bound = bound; items = items }) (record { bound = later; items = set front place last })
-    removed_at bound later e = record { bound = e; members = (removed bound).members }
+        λ e. number_gone (subst (Has (set front place last)) e h),
+      ),
+      λ o. elim (has_more front last n (subst (λ l. Has l n) is o.0)) [
+        | inl h ↦
+            let p : (i : ℕ) × (slice_get front i ≡ Some n) = place_of front n h in
+            has_place (set front place last) p.0 n (set_beside front place p.0 last (λ e. o.1 (some_same (sym p.1 ∙ ap (slice_get front) e ∙ at_front))) ∙ p.1)
+        | inr e ↦ subst (Has (set front place last)) e (has_place (set front place last) place last (set_here front place last (slice_get_within front place number at_front)))
+      ],
+    )

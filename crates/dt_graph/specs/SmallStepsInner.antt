@@ -11,7 +11,6 @@ use Rattle.dt_queue.specs.Queues.{Waiting, HasDistinctSlots, followers}
 use Rattle.dt_waits.specs.Waits.{id_at, degree}
 use Rattle.dt_waits.specs.Graph.{GraphView, vertex_at}
 use Rattle.dt_waits.specs.Steps.{Leaves, MayLeave, with_one_done}
-use Rattle.dt_graph.specs.SubsetInner.{SubsetView}
 use Rattle.dt_waits.specs.declared.vertex.Vertex.{Vertex}
 use Rattle.dt_waits.specs.declared.open.Open.{Open}
 
@@ -43,22 +42,18 @@ abbrev pub falls : ℕ → ℕ → ℕ → ℕ
 falls u x v = if u == v then 0 else (if x == v then 1 else 0)
 
 -- of the vertices that P holds of, those that were stuck and are of degree 0 are ready now, and stuck no more
-pub record Wakes (P : ℕ → Type 0) (degrees : List ℕ) (stuck ready stuck_now ready_now : SubsetView) : Type 0 where
-  pub stuck_bound : stuck_now.bound ≡ stuck.bound
-  pub ready_bound : ready_now.bound ≡ ready.bound
-  pub woken : (v : ℕ) → Has ready_now.items v ↔ Has ready.items v ⊎ Has stuck.items v × (get_or degrees v 0 ≡ 0) × P v
-  pub still_stuck : (v : ℕ) → Has stuck_now.items v ↔ Has stuck.items v × ¬ ((get_or degrees v 0 ≡ 0) × P v)
+pub record Wakes (P : ℕ → Type 0) (degrees stuck ready stuck_now ready_now : List ℕ) : Type 0 where
+  pub woken : (v : ℕ) → Has ready_now v ↔ Has ready v ⊎ Has stuck v × (get_or degrees v 0 ≡ 0) × P v
+  pub still_stuck : (v : ℕ) → Has stuck_now v ↔ Has stuck v × ¬ ((get_or degrees v 0 ≡ 0) × P v)
 
 -- some follower of the entry at the slot is of the vertex
 abbrev pub IsFollowedAt : List Waiting → ℕ → ℕ → Type 0
 IsFollowedAt waiting slot v = AnyIn (λ w. w.vertex ≡ v) (followers waiting slot)
 
 -- a vertex is put to the ready ones, or to the stuck ones, if it is complete
-pub record Sorts (v : ℕ) (vertices : List Vertex) (degrees : List ℕ) (ready stuck ready_now stuck_now : SubsetView) : Type 0 where
-  pub ready_bound : ready_now.bound ≡ ready.bound
-  pub stuck_bound : stuck_now.bound ≡ stuck.bound
-  pub readied : (u : ℕ) → Has ready_now.items u ↔ Has ready.items u ⊎ (u ≡ v) × ((vertex_at vertices v).missing ≡ 0) × (get_or degrees v 0 ≡ 0)
-  pub stuck_more : (u : ℕ) → Has stuck_now.items u ↔ Has stuck.items u ⊎ (u ≡ v) × ((vertex_at vertices v).missing ≡ 0) × (get_or degrees v 0 ≢ 0)
+pub record Sorts (v : ℕ) (vertices : List Vertex) (degrees ready stuck ready_now stuck_now : List ℕ) : Type 0 where
+  pub readied : (u : ℕ) → Has ready_now u ↔ Has ready u ⊎ (u ≡ v) × ((vertex_at vertices v).missing ≡ 0) × (get_or degrees v 0 ≡ 0)
+  pub stuck_more : (u : ℕ) → Has stuck_now u ↔ Has stuck u ⊎ (u ≡ v) × ((vertex_at vertices v).missing ≡ 0) × (get_or degrees v 0 ≢ 0)
 
 -- the ids are those of the vertices at the places of a list, in ascending order
 pub record AreIdsAt (ids : List TxnId) (list places : List ℕ) (answer : List TxnId) : Type 0 where
@@ -71,6 +66,7 @@ pub record MayFinishIn (place : ℕ) (g : GraphView) : Type 0 where
   pub at_place : slice_get g.classes place ≡ Some kept
   pub waits : kept.next < length kept.members
   pub leaves : MayLeave g kept.members
+  pub not_stuck : AllIn (λ u. ¬ (Has g.stuck u)) kept.members
 
 -- it is done: another member is ready now, or the class leaves
 pub data FinishesIn (place : ℕ) (old new : GraphView) : Type 0 where

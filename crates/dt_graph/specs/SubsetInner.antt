@@ -1,13 +1,8 @@
 -- Some of the numbers below a bound, as they are kept: a list of them, in no order, and for each number below the bound its
 -- place in the list, or none. So whether a number is one of them is seen at once, and it is put in and taken out at once. The
--- list has room for all numbers below the bound; so neither takes memory. Read next: `HeldInner`, for which numbers are kept so.
+-- list has room for all numbers below the bound; so neither takes memory. Read next: `VerticesInner`, for which numbers are kept so.
 use Rattle.std.specs.Prelude.{◌≡◌, ◌≢◌, ◌<◌, ◌≤◌, ◌^◌, ◌⊎◌, ◌↔◌, ℕ, List, length, get_or, slice_get, Option, None, Some}
 use Rattle.dt_lists.specs.Lists.{AllIn, Has, Distinct}
-
--- a set of numbers as contracts see it: the bound, and the numbers, in no order
-pub record SubsetView : Type 0 where
-  pub bound : ℕ
-  pub items : List ℕ
 
 -- the number stands at the place in the list, or nowhere
 abbrev pub StandsAtPlace : List ℕ → ℕ → Option ℕ → Type 0
@@ -24,11 +19,9 @@ pub record IsSubset (items : List ℕ) (places : List (Option ℕ)) (room : ℕ)
   pub placed : (number : ℕ) → number < length places → StandsAtPlace items number (get_or places number None)
 
 -- the number was put in, if it wasn't one of them
-pub record PutsIn (number : ℕ) (old new : SubsetView) : Type 0 where
-  pub bound : new.bound ≡ old.bound
-  pub members : (n : ℕ) → Has new.items n ↔ Has old.items n ⊎ (n ≡ number)
+abbrev pub PutsIn : ℕ → List ℕ → List ℕ → Type 0
+PutsIn number old new = (n : ℕ) → Has new n ↔ Has old n ⊎ (n ≡ number)
 
 -- the number was taken out, if it was one of them
-pub record Removes (number : ℕ) (old new : SubsetView) : Type 0 where
-  pub bound : new.bound ≡ old.bound
-  pub members : (n : ℕ) → Has new.items n ↔ Has old.items n × (n ≢ number)
+abbrev pub Removes : ℕ → List ℕ → List ℕ → Type 0
+Removes number old new = (n : ℕ) → Has new n ↔ Has old n × (n ≢ number)

@@ -6,10 +6,10 @@ ghost use Rattle.dt_graph.specs.LinksInner.{IsSourceAt, IsSourceOf, HasLinked};
 ghost use Rattle.dt_waits.specs.Steps.{HaveSlots};
 
 use crate::group::Group;
+use crate::vertices::Vertices;
 use dt_class::Adj;
 use dt_queue::Queues;
 use dt_text::NoMemory;
-use dt_waits::Vertex;
 use std::alloc::Global;
 
 /// What vertices wait for among themselves, by their places in a list, and which of them wait for others too.
@@ -72,20 +72,20 @@ fn link(
 pub fn gather(
     alloc: Global,
     queues: &Queues,
-    vertices: &[Vertex],
+    vertices: &Vertices,
     list: &[u32],
 ) -> Result<Among, NoMemory>
     requires distinct { HasDistinctSlots queues.now }
     requires once { Distinct list.now }
     requires few { length list.now < 2 ^ 32 }
-    requires slots { HaveSlots queues.now vertices.now list.now }
+    requires slots { HaveSlots queues.now vertices.now.vertices list.now }
     ensures { IfOk result (λ among. IsAmong queues.now list.now among.graph among.blocked.items) }
 {
     let group = Group::of(alloc, list)?;
     let mut graph = Adj::new(alloc, list.len() as u32)?;
     let mut blocked = Vec::new(alloc);
     for (place, vertex) in list.iter().enumerate() {
-        let slots = vertices[*vertex as usize].slots.as_slice();
+        let slots = vertices.get(*vertex).slots.as_slice();
         if link(alloc, queues, slots, &group, place as u32, &mut graph)? {
             blocked.push(place as u32)?;
         }

@@ -85,7 +85,7 @@ impl Graph {
         ensures { IsTrue result ↔ (v : ℕ) × (slice_get self.now.ids v ≡ Some id) × Has self.now.ready v }
     {
         match self.names.number_of(id) {
-            Some(vertex) => self.waits.ready.has(vertex),
+            Some(vertex) => self.waits.vertices.is_ready(vertex),
             None => false,
         }
     }
@@ -95,7 +95,7 @@ impl Graph {
         ensures { MatchOption result ((v : ℕ) → Has self.now.ready v → Has busy.now (id_at self.now.ids v))
             (λ id. ((v : ℕ) × Has self.now.ready v × (id_at self.now.ids v ≡ id)) × (Has busy.now id → ⊥)) }
     {
-        for vertex in self.waits.ready.as_slice() {
+        for vertex in self.waits.vertices.ready() {
             let id = self.names.id_of(*vertex);
             if !busy.contains(&id) {
                 return Some(id);
@@ -111,7 +111,7 @@ impl Graph {
         let mut vertices = Vec::new(alloc);
         for id in ids {
             match self.names.number_of(*id) {
-                Some(vertex) if self.waits.stuck.has(vertex) => vertices.push(vertex)?,
+                Some(vertex) if self.waits.vertices.is_stuck(vertex) => vertices.push(vertex)?,
                 _ => return Ok(None),
             }
         }
@@ -134,7 +134,7 @@ impl Graph {
         let among = gather(
             alloc,
             &self.waits.queues,
-            self.waits.vertices.as_slice(),
+            &self.waits.vertices,
             vertices.as_slice(),
         )?;
         if !among.blocked.is_empty() {
@@ -150,16 +150,11 @@ impl Graph {
         ensures { (view : View) (resolved : List (List TxnId)) (done : List TxnId) → IsOrderly view resolved done → KeepsGraph view resolved done self.now →
             IfOk result (λ answer. MatchOption answer ((ids : List TxnId) → IsResolvable view resolved done ids → ⊥) (λ ids. IsResolvable view resolved done ids)) }
     {
-        let stuck = self.waits.stuck.as_slice();
+        let stuck = self.waits.vertices.stuck();
         if stuck.len() < 2 {
             return Ok(None);
         }
-        let among = gather(
-            alloc,
-            &self.waits.queues,
-            self.waits.vertices.as_slice(),
-            stuck,
-        )?;
+        let among = gather(alloc, &self.waits.queues, &self.waits.vertices, stuck)?;
         match among.graph.source_class(alloc, among.blocked.as_slice())? {
             Some(places) => Ok(Some(self.ids_at(alloc, stuck, places.as_slice())?)),
             None => Ok(None),
@@ -189,7 +184,7 @@ impl Graph {
         let mut members = Vec::with_capacity(alloc, ids.len())?;
         for id in ids {
             if let Some(vertex) = self.names.number_of(*id) {
-                let rank = self.waits.vertices[vertex as usize].rank;
+                let rank = self.waits.vertices.get(vertex).rank;
                 members.push(Member {
                     rank,
                     id: *id,
@@ -225,8 +220,8 @@ impl Graph {
         ensures { FinishesId id self.old self.new }
     {
         if let Some(vertex) = self.names.number_of(id) {
-            self.waits.ready.remove(vertex);
-            match self.waits.vertices[vertex as usize].class.get() {
+            self.waits.vertices.take_ready(vertex);
+            match self.waits.vertices.get(vertex).class.get() {
                 None => self.waits.leave(&[vertex]),
                 Some(class) => self.finish_in(class),
             }
@@ -241,7 +236,7 @@ impl Graph {
         let kept = &mut self.classes[class as usize];
         kept.next += 1;
         match kept.members.as_slice().get(kept.next) {
-            Some(vertex) => self.waits.ready.add(*vertex),
+            Some(vertex) => self.waits.vertices.add_ready(*vertex),
             None => self.waits.leave(kept.members.as_slice()),
         }
     }

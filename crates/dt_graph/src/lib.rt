@@ -25,7 +25,7 @@ mod numbers;
 mod room;
 mod sched;
 mod seen;
-mod subset;
+mod vertices;
 mod waits;
 
 pub use sched::QueueSched;

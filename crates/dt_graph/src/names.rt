@@ -1,5 +1,5 @@
 ghost use Rattle.std.specs.Prelude.{◌≡◌, ◌+◌, ◌<◌, ◌^◌, [], ◌∷◌, ◌++◌, OnOk, Some, length};
-ghost use Rattle.indexmap.specs.IndexMap.{Updates, spare};
+ghost use Rattle.indexmap.specs.IndexMap.{Updates, get, spare};
 ghost use Rattle.dt_access.specs.Ids.{same_id};
 ghost use Rattle.dt_lists.specs.Lists.{Has, Distinct};
 ghost use Rattle.dt_graph.specs.NamesInner.{HasRoomForId, IsNumberOf};
@@ -66,7 +66,7 @@ impl Names {
     {
         match number_at(self.near.as_slice(), id) {
             Some(number) => Some(number),
-            None => self.far.get(&id).copied(),
+            None => far_number(&self.far, id),
         }
     }
 
@@ -101,4 +101,14 @@ fn put_far(far: &mut IndexMap<TxnId, u32>, id: TxnId, number: u32)
     if far.insert(id, number).is_err() {
         unreachable!()
     }
+}
+
+/// The number of an id in a map. Mostly the map is empty, and then nothing is looked up.
+fn far_number(far: &IndexMap<TxnId, u32>, id: TxnId) -> Option<u32>
+    ensures { result ≡ get same_id far.now id }
+{
+    if far.is_empty() {
+        return None;
+    }
+    far.get(&id).copied()
 }

@@ -6,6 +6,7 @@ pub use Rattle.dt_waits.proofs.Degrees.{degree_pushed}
 pub use Rattle.dt_waits.proofs.Bounds.{degree_fits, degree_of_new}
 pub use Rattle.dt_waits.proofs.Sums.{filter_both, filter_same}
 pub use Rattle.dt_waits.proofs.DegreeZero.{id_has, place_has, same_place}
+pub use Rattle.dt_waits.proofs.MissingParts.{none_lacking}
 pub use Rattle.dt_waits.proofs.Classes.{each_leads, member_stuck, none_blocked, not_all_blocked, place_leads, source_resolvable}
 pub use Rattle.dt_waits.proofs.RunInOrder.{pairwise_get}
 pub use Rattle.dt_waits.proofs.InsertStep.{counted_before, missing_before}

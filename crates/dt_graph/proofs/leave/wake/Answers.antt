@@ -1,12 +1,14 @@
+use Rattle.std.proofs.Common.{◌∙◌, ap, refl, subst, sym}
+use Rattle.dt_graph.specs.SubsetInner.{PutsIn, Removes}
 use Rattle.dt_graph.proofs.ReadyVertices.{wakes_not, wakes_one}
 use Rattle.dt_graph.proofs.leave.wake.Goals as goal
-use Rattle.dt_graph.proofs.leave.wake.Goals.{else-degrees-vertex-eq0-via-then-degrees-vertex-eq0+else-has, else-degrees-vertex-eq0-via-else-degrees-vertex-eq0}
 
-pub returns-then-has : goal.returns-then-has
-returns-then-has c = wakes_one _ _ _ _ _ _ c.if-degrees-vertex-eq0.true (c.has.ensures.0 c.if-has.true) c.remove.ensures c.add.ensures
+pub add_ready-requires-clause-apart : goal.add_ready-requires-clause-apart
+add_ready-requires-clause-apart c h = ((c.take_stuck.ensures.removed c.args.vertex).0 h).1 refl
 
-pub returns-else-degrees-vertex-eq0 : goal.returns-else-degrees-vertex-eq0
-returns-else-degrees-vertex-eq0 c = wakes_not _ _ _ _ (elim c.else-degrees-vertex-eq0.branch [
-  | else-degrees-vertex-eq0-via-then-degrees-vertex-eq0+else-has w ↦ λ p. (let t = w.has.ensures.1 p.1 in let f = w.if-has.false in cc)
-  | else-degrees-vertex-eq0-via-else-degrees-vertex-eq0 w ↦ λ p. w.if-degrees-vertex-eq0.false p.0
-])
+pub returns-then-is_stuck-clause-woken : goal.returns-then-is_stuck-clause-woken
+returns-then-is_stuck-clause-woken c =
+    let old = c.args.vertices.now in let now = c.add_ready.new.self in
+    wakes_one old.degrees c.args.vertex old.stuck old.ready now.stuck now.ready (sym c.degree.ensures ∙ c.if-degree-eq0.true) (c.is_stuck.ensures.0 c.if-is_stuck.true)
+    (subst (λ l. Removes c.args.vertex old.stuck l) (sym (ap (λ x. x.stuck) c.add_ready.ensures.same)) c.take_stuck.ensures.removed)
+    (subst (λ l. PutsIn c.args.vertex l now.ready) (ap (λ x. x.ready) c.take_stuck.ensures.same) c.add_ready.ensures.put)

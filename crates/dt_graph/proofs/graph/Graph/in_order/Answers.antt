@@ -14,10 +14,9 @@ loop-id-preserved c =
     let g : GraphView = kept_of c.self.inside.names.ids c.self.inside.waits c.self.inside.classes.items in
     elim c.match-number_of.branch [
       | in-Some+in_ok-push w ↦
-          let lt : w.in-Some.vertex < length c.self.inside.waits.vertices.items = subst (λ n. w.in-Some.vertex < n) (sym c.self.invariant.vertices) (slice_get_within g.ids w.in-Some.vertex _ w.in-Some.ensures.number) in
-          let rank = ap (λ x. x.rank) (get_or_read c.self.inside.waits.vertices.items w.in-Some.vertex w.index.result.now lt w.index.ensures _) in
+          let rank = ap (λ x. x.rank) w.get.ensures in
           rw (← c.self.view_is, w.members-is, w.in_ok-push.ensures.items)
-          (members_more g c.args.ids.now c.loop-id.id-index (record { seq = 0; region = 0 }) c.loop-id.members.items w.index.result.now.rank w.in-Some.vertex c.loop-id-test.true
+          (members_more g c.args.ids.now c.loop-id.id-index (record { seq = 0; region = 0 }) c.loop-id.members.items w.get.result.now.rank w.in-Some.vertex c.loop-id-test.true
           (rw (← c.self.view_is) at c.loop-id.invariant) w.in-Some.ensures.number rank)
       | in_default w ↦
           absurd (all_numbered g c.args.ids.now c.loop-id.id-index (record { seq = 0; region = 0 }) c.number_of.result (subst (λ g. AllIn (Has g.ids) c.args.ids.now) (sym c.self.view_is) c.requires.there)

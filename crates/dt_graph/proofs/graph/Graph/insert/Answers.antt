@@ -2,11 +2,12 @@ use Rattle.std.proofs.Common.{◌≡◌, ◌∙◌, ◌<◌, ◌≤◌, ◌+◌,
 use Rattle.std.proofs.lemmas.List.{length-append}
 use Rattle.std.proofs.lemmas.Result.{on_ok_weaker}
 use Rattle.std.proofs.lemmas.Option.{slice_get_within}
+use Rattle.dt_lists.specs.Lists.{AllIn}
 use Rattle.dt_waits.specs.Graph.{GraphView}
 use Rattle.dt_graph.specs.HeldInner.{kept_of}
 use Rattle.dt_graph.proofs.Bounds.{fitted_inserted, fitted_same}
 use Rattle.dt_waits.proofs.Callers.{at_named, counted_before, missing_before}
-use Rattle.dt_graph.proofs.InsertCall.{MayInsert, few_more, kept_as, result_cases}
+use Rattle.dt_graph.proofs.InsertCall.{MayInsert, few_more, kept_as, not_ready, not_stuck, result_cases}
 use Rattle.dt_graph.proofs.graph.Graph.insert.Goals as goal
 
 pub extend-requires-clause-missing : goal.extend-requires-clause-missing
@@ -23,11 +24,23 @@ extend-requires-clause-counted c =
     counted_before r.0 r.1 r.2 c.args.part.now r.3 r.4 c.as_slice-homes.ensures.ascending g r.5 c.in-Some.vertex (slice_get_within g.ids c.in-Some.vertex c.args.part.now.id c.in-Some.ensures.number)
     (at_named g.ids c.in-Some.vertex c.args.part.now.id c.in-Some.ensures.number)
 
-pub extend-requires-clause-ready_bound : goal.extend-requires-clause-ready_bound
-extend-requires-clause-ready_bound c = omega (arith, slice_get_within c.self.inside.names.ids c.in-Some.vertex c.args.part.now.id c.in-Some.ensures.number, c.self.invariant.ready_bound)
+pub extend-requires-clause-not_ready : goal.extend-requires-clause-not_ready
+extend-requires-clause-not_ready c =
+    let g : GraphView = kept_of c.self.inside.names.ids c.self.inside.waits c.self.inside.classes.items in
+    let r : MayInsert g c.args.part.now = subst (λ g. MayInsert g c.args.part.now) (sym c.self.view_is) c.requires in
+    let lt = slice_get_within g.ids c.in-Some.vertex c.args.part.now.id c.in-Some.ensures.number in
+    not_ready g c.args.part.now r c.in-Some.vertex lt
+    (missing_before r.0 r.1 r.2 c.args.part.now r.3 r.4 c.as_slice-homes.ensures.ascending g r.5 c.in-Some.vertex lt
+    (at_named g.ids c.in-Some.vertex c.args.part.now.id c.in-Some.ensures.number))
 
-pub extend-requires-clause-stuck_bound : goal.extend-requires-clause-stuck_bound
-extend-requires-clause-stuck_bound c = omega (arith, slice_get_within c.self.inside.names.ids c.in-Some.vertex c.args.part.now.id c.in-Some.ensures.number, c.self.invariant.stuck_bound)
+pub extend-requires-clause-not_stuck : goal.extend-requires-clause-not_stuck
+extend-requires-clause-not_stuck c =
+    let g : GraphView = kept_of c.self.inside.names.ids c.self.inside.waits c.self.inside.classes.items in
+    let r : MayInsert g c.args.part.now = subst (λ g. MayInsert g c.args.part.now) (sym c.self.view_is) c.requires in
+    let lt = slice_get_within g.ids c.in-Some.vertex c.args.part.now.id c.in-Some.ensures.number in
+    not_stuck g c.args.part.now r c.in-Some.vertex lt
+    (missing_before r.0 r.1 r.2 c.args.part.now r.3 r.4 c.as_slice-homes.ensures.ascending g r.5 c.in-Some.vertex lt
+    (at_named g.ids c.in-Some.vertex c.args.part.now.id c.in-Some.ensures.number))
 
 pub invariant_of-self : goal.invariant_of-self
 invariant_of-self c =
@@ -35,21 +48,13 @@ invariant_of-self c =
     let classes = c.self.inside.classes.items in
     result_cases c.extend.result c.extend.ensures.extended (c.extend.ensures.same ids classes)
     (λ e. let i = e ids classes (sym c.self.invariant.vertices) c.number_of.ensures.once (at_named ids c.in-Some.vertex c.args.part.now.id c.in-Some.ensures.number) in
-    fitted_inserted ids c.self.inside.waits c.self.invariant ids c.extend.new.self c.args.part.now c.in-Some.vertex i.0 classes c.self.invariant.few
-    (subst (λ n. length ids ≤ n) (sym c.extend.ensures.ready) c.self.invariant.ready_bound) (subst (λ n. length ids ≤ n) (sym c.extend.ensures.stuck) c.self.invariant.stuck_bound) i.1)
-    (λ e. fitted_same ids c.self.inside.waits c.self.invariant c.extend.new.self classes e (omega (arith, c.extend.ensures.ready)) (omega (arith, c.extend.ensures.stuck)))
-
-pub reserve-requires-in-None : goal.reserve-requires-in-None
-reserve-requires-in-None c =
-    let g : GraphView = kept_of c.self.inside.names.ids c.self.inside.waits c.self.inside.classes.items in
-    let r : MayInsert g c.args.part.now = subst (λ g. MayInsert g c.args.part.now) (sym c.self.view_is) c.requires in
-    few_more g c.args.part.now r _ c.self.invariant.vertices
+    fitted_inserted ids c.self.inside.waits c.self.invariant ids c.extend.new.self c.args.part.now c.in-Some.vertex i.0 classes c.self.invariant.few i.1)
+    (λ e. fitted_same ids c.self.inside.waits c.self.invariant c.extend.new.self classes e)
 
 pub invariant_of-self-in_err-reserve-in-None-2 : goal.invariant_of-self-in_err-reserve-in-None-2
 invariant_of-self-in_err-reserve-in-None-2 c =
     rw c.reserve.ensures.same
-    (fitted_same c.self.inside.names.ids c.self.inside.waits c.self.invariant c.reserve-in-None.new.self c.self.inside.classes.items (c.reserve-in-None.ensures.same c.self.inside.names.ids c.self.inside.classes.items)
-    c.reserve-in-None.ensures.ready c.reserve-in-None.ensures.stuck)
+    (fitted_same c.self.inside.names.ids c.self.inside.waits c.self.invariant c.reserve-in-None.new.self c.self.inside.classes.items (c.reserve-in-None.ensures.same c.self.inside.names.ids c.self.inside.classes.items))
 
 pub returns-in_err-reserve-in-None-2-clause-same : goal.returns-in_err-reserve-in-None-2-clause-same
 returns-in_err-reserve-in-None-2-clause-same c =
@@ -78,15 +83,26 @@ add-requires-clause-below c =
     let g : GraphView = kept_of c.self.inside.names.ids c.self.inside.waits c.self.inside.classes.items in
     let r : MayInsert g c.args.part.now = subst (λ g. MayInsert g c.args.part.now) (sym c.self.view_is) c.requires in
     let same = c.reserve-in-None.ensures.same c.self.inside.names.ids c.self.inside.classes.items in
-    subst (λ w. Rattle.dt_waits.specs.Steps.AreEntriesBelow (length c.reserve-in-None.new.self.vertices.items) w) (sym (ap (λ g. g.waiting) same))
+    subst (λ w. Rattle.dt_waits.specs.Steps.AreEntriesBelow (length c.reserve-in-None.new.self.vertices.vertices) w) (sym (ap (λ g. g.waiting) same))
     (subst (λ n. Rattle.dt_waits.specs.Steps.AreEntriesBelow n g.waiting) (sym (ap (λ g. length g.vertices) same ∙ c.self.invariant.vertices)) r.5.uses.vertices)
+
+pub add-requires-clause-ready_within : goal.add-requires-clause-ready_within
+add-requires-clause-ready_within c =
+    let same = c.reserve-in-None.ensures.same c.self.inside.names.ids c.self.inside.classes.items in
+    subst (λ n. AllIn (λ v. v < n) c.reserve-in-None.new.self.vertices.ready) (sym (ap (λ g. length g.vertices) same ∙ c.self.invariant.vertices))
+    (subst (AllIn (λ v. v < length c.self.inside.names.ids)) (sym (ap (λ g. g.ready) same)) c.self.invariant.ready_within)
+
+pub add-requires-clause-stuck_within : goal.add-requires-clause-stuck_within
+add-requires-clause-stuck_within c =
+    let same = c.reserve-in-None.ensures.same c.self.inside.names.ids c.self.inside.classes.items in
+    subst (λ n. AllIn (λ v. v < n) c.reserve-in-None.new.self.vertices.stuck) (sym (ap (λ g. length g.vertices) same ∙ c.self.invariant.vertices))
+    (subst (AllIn (λ v. v < length c.self.inside.names.ids)) (sym (ap (λ g. g.stuck) same)) c.self.invariant.stuck_within)
 
 pub invariant_of-self-in_err-add-in-None : goal.invariant_of-self-in_err-add-in-None
 invariant_of-self-in_err-add-in-None c =
     rw c.reserve.ensures.same
     (fitted_same c.self.inside.names.ids c.self.inside.waits c.self.invariant c.add.new.self c.self.inside.classes.items
-    (c.in_err-add-in-None.ensures.same c.self.inside.names.ids c.self.inside.classes.items ∙ c.reserve-in-None.ensures.same c.self.inside.names.ids c.self.inside.classes.items)
-    (omega (arith, c.reserve-in-None.ensures.ready, c.add.ensures.ready)) (omega (arith, c.reserve-in-None.ensures.stuck, c.add.ensures.stuck)))
+    (c.in_err-add-in-None.ensures.same c.self.inside.names.ids c.self.inside.classes.items ∙ c.reserve-in-None.ensures.same c.self.inside.names.ids c.self.inside.classes.items))
 
 pub returns-in_err-add-in-None-clause-same : goal.returns-in_err-add-in-None-clause-same
 returns-in_err-add-in-None-clause-same c =
@@ -105,16 +121,14 @@ invariant_of-self-in-None c =
     let classes = c.self.inside.classes.items in
     let g : GraphView = kept_of ids c.self.inside.waits classes in
     let r : MayInsert g c.args.part.now = subst (λ g. MayInsert g c.args.part.now) (sym c.self.view_is) c.requires in
-    let size : length ids ≡ length c.reserve-in-None.new.self.vertices.items = sym (ap (λ g. length g.vertices) (c.reserve-in-None.ensures.same ids classes) ∙ c.self.invariant.vertices) in
+    let size : length ids ≡ length c.reserve-in-None.new.self.vertices.vertices = sym (ap (λ g. length g.vertices) (c.reserve-in-None.ensures.same ids classes) ∙ c.self.invariant.vertices) in
     let i = c.in_ok-add-in-None.ensures.added ids classes size c.number_of.ensures.once c.in-None.ensures.number in
     let more : length (ids ++ c.args.part.now.id ∷ []) ≡ length ids + 1 = length-append ids (c.args.part.now.id ∷ []) in
     let few : length ids + 1 < 2 ^ 32 = few_more g c.args.part.now r (length ids) refl in
     rw (c.add-in-None.ensures, c.reserve.ensures.same)
     (fitted_inserted ids c.reserve-in-None.new.self
-    (fitted_same ids c.self.inside.waits c.self.invariant c.reserve-in-None.new.self classes (c.reserve-in-None.ensures.same ids classes) c.reserve-in-None.ensures.ready c.reserve-in-None.ensures.stuck)
-    (ids ++ c.args.part.now.id ∷ []) c.add.new.self c.args.part.now (length ids) i.0 classes (subst (λ n. n < 2 ^ 32) (sym more) few)
-    (omega (arith, more, size, c.reserve-in-None.new.self.vertices.ok.0, c.in_ok-reserve-in-None-2.ensures.room.ready, c.add.ensures.ready))
-    (omega (arith, more, size, c.reserve-in-None.new.self.vertices.ok.0, c.in_ok-reserve-in-None-2.ensures.room.stuck, c.add.ensures.stuck)) i.1)
+    (fitted_same ids c.self.inside.waits c.self.invariant c.reserve-in-None.new.self classes (c.reserve-in-None.ensures.same ids classes))
+    (ids ++ c.args.part.now.id ∷ []) c.add.new.self c.args.part.now (length ids) i.0 classes (subst (λ n. n < 2 ^ 32) (sym more) few) i.1)
 
 pub returns-in-Some-clause-inserted : goal.returns-in-Some-clause-inserted
 returns-in-Some-clause-inserted c =
@@ -129,7 +143,7 @@ returns-in_ok-add-in-None-clause-inserted c =
     let ids = c.self.inside.names.ids in
     let classes = c.self.inside.classes.items in
     let same = c.reserve-in-None.ensures.same ids classes in
-    let size : length ids ≡ length c.reserve-in-None.new.self.vertices.items = sym (ap (λ g. length g.vertices) same ∙ c.self.invariant.vertices) in
+    let size : length ids ≡ length c.reserve-in-None.new.self.vertices.vertices = sym (ap (λ g. length g.vertices) same ∙ c.self.invariant.vertices) in
     let i = c.in_ok-add-in-None.ensures.added ids classes size c.number_of.ensures.once c.in-None.ensures.number in
     rw (← c.self.view_is, c.add-in-None.ensures, c.reserve.ensures.same)
     (length ids, i.0, subst (λ g. Rattle.dt_waits.specs.Steps.Inserts c.args.part.now (length ids) i.0 g (kept_of (ids ++ c.args.part.now.id ∷ []) c.add.new.self classes)) same i.1)

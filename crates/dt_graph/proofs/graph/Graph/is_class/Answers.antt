@@ -12,13 +12,13 @@ returns-in_default c view resolved done k is = unstuck_not_resolvable view resol
 
 pub gather-requires-clause-once : goal.gather-requires-clause-once
 gather-requires-clause-once c =
-    rw c.as_slice-2.ensures.value (vertices_once c.args.self.now c.args.ids.now c.in-Some.vertices.items c.requires.ascending (rw c.in-Some.is at c.in_ok-vertices.ensures))
+    rw c.as_slice.ensures.value (vertices_once c.args.self.now c.args.ids.now c.in-Some.vertices.items c.requires.ascending (rw c.in-Some.is at c.in_ok-vertices.ensures))
 
 pub gather-requires-clause-few : goal.gather-requires-clause-few
 gather-requires-clause-few c =
     let g = c.args.self.now in
     let are : AreVerticesOf g c.args.ids.now c.in-Some.vertices.items = rw c.in-Some.is at c.in_ok-vertices.ensures in
-    rw c.as_slice-2.ensures.value
+    rw c.as_slice.ensures.value
     (vertices_few g c.in-Some.vertices.items
     (subst (λ (g : GraphView). length g.ids < 2 ^ 32) c.self.view_is c.self.invariant.few)
     (subst (λ (g : GraphView). AllIn (λ v. v < length g.ids) g.stuck) c.self.view_is c.self.invariant.stuck_within)
@@ -27,14 +27,14 @@ gather-requires-clause-few c =
 pub gather-requires-clause-slots : goal.gather-requires-clause-slots
 gather-requires-clause-slots c =
     let are : AreVerticesOf c.args.self.now c.args.ids.now c.in-Some.vertices.items = rw c.in-Some.is at c.in_ok-vertices.ensures in
-    rw (c.as_slice.ensures.value, c.as_slice-2.ensures.value)
+    rw c.as_slice.ensures.value
     (subst (λ (g : GraphView). HaveSlots g.waiting g.vertices c.in-Some.vertices.items) (sym c.self.view_is) (stuck_slots c.args.self.now c.requires.known c.in-Some.vertices.items are.stuck))
 
 pub returns-then-not-is_empty : goal.returns-then-not-is_empty
 returns-then-not-is_empty c view resolved done k is =
     let g = c.args.self.now in
-    let list = c.as_slice-2.result.now in
-    let are : AreVerticesOf g c.args.ids.now list = rw c.as_slice-2.ensures.value (rw c.in-Some.is at c.in_ok-vertices.ensures) in
+    let list = c.as_slice.result.now in
+    let are : AreVerticesOf g c.args.ids.now list = rw c.as_slice.ensures.value (rw c.in-Some.is at c.in_ok-vertices.ensures) in
     let x = c.in_ok-among.among in
     let among : IsAmong g.waiting list x.graph x.blocked.items = subst (λ (g : GraphView). IsAmong g.waiting list x.graph x.blocked.items) c.self.view_is c.in_ok-among.ensures in
     blocked_not_resolvable view resolved done k g is c.args.ids.now c.requires.ascending list are x.graph x.blocked.items among
@@ -43,8 +43,8 @@ returns-then-not-is_empty c view resolved done k is =
 pub returns : goal.returns
 returns c view resolved done k is =
     let g = c.args.self.now in
-    let list = c.as_slice-2.result.now in
-    let are : AreVerticesOf g c.args.ids.now list = rw c.as_slice-2.ensures.value (rw c.in-Some.is at c.in_ok-vertices.ensures) in
+    let list = c.as_slice.result.now in
+    let are : AreVerticesOf g c.args.ids.now list = rw c.as_slice.ensures.value (rw c.in-Some.is at c.in_ok-vertices.ensures) in
     let x = c.in_ok-among.among in
     let among : IsAmong g.waiting list x.graph x.blocked.items = subst (λ (g : GraphView). IsAmong g.waiting list x.graph x.blocked.items) c.self.view_is c.in_ok-among.ensures in
     let free = nil_from_length x.blocked.items (empty_told x.blocked.items _ _ (omega (arith, x.blocked.ok.0)) c.is_empty.ensures c.if-not-is_empty.false) in

@@ -5,7 +5,7 @@ use Rattle.dt_graph.proofs.graph.Graph.ready_beside.Goals as goal
 
 pub returns-then-not-contains : goal.returns-then-not-contains
 returns-then-not-contains c =
-    rw (← c.self.view_is) (ready_at _ _ _ _ _ c.loop-vertex-test.true c.as_slice-vertex-items.ensures.items c.id_of-id.ensures, not_busy _ _ _ c.contains.ensures.value c.if-not-contains.true)
+    rw (← c.self.view_is) (ready_at _ _ _ _ _ c.loop-vertex-test.true c.ready-vertex-items.ensures c.id_of-id.ensures, not_busy _ _ _ c.contains.ensures.value c.if-not-contains.true)
 
 pub loop-vertex-preserved : goal.loop-vertex-preserved
 loop-vertex-preserved c =
@@ -13,4 +13,4 @@ loop-vertex-preserved c =
     (busy_more _ _ _ _ c.loop-vertex-test.true (rw (← c.self.view_is) at c.loop-vertex.invariant) (subst (Has c.args.busy.now) c.id_of-id.ensures (is_busy _ _ _ c.contains.ensures.value c.if-not-contains.false)))
 
 pub returns : goal.returns
-returns c = rw (← c.self.view_is) (busy_all _ _ _ _ _ c.loop-vertex-test.false c.as_slice-vertex-items.ensures.items (rw (← c.self.view_is) at c.loop-vertex.invariant))
+returns c = rw (← c.self.view_is) (busy_all _ _ _ _ _ c.loop-vertex-test.false c.ready-vertex-items.ensures (rw (← c.self.view_is) at c.loop-vertex.invariant))

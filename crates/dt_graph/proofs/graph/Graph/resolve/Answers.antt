@@ -19,7 +19,7 @@ resolve-requires-clause-within c =
     let same : c.as_slice.result.now ≡ c.in_ok-members.members = c.as_slice.ensures ∙ ap (λ o. o.members) (pushed_at c.self.inside.classes.items _ _ c.len-class.result size (rw c.in_ok-push.ensures.items at c.index.ensures)) in
     let run : RunInOrder (kept_of c.self.inside.names.ids c.self.inside.waits c.self.inside.classes.items) c.args.ids.now c.in_ok-members.members = subst (λ g. RunInOrder g c.args.ids.now c.in_ok-members.members)
     (sym c.self.view_is) c.in_ok-members.ensures in
-    subst (λ l. AllIn (λ v. v < length c.self.inside.waits.vertices.items) l) (sym same) (subst (λ n. AllIn (λ v. v < n) c.in_ok-members.members) (sym c.self.invariant.vertices) run.within)
+    subst (λ l. AllIn (λ v. v < length c.self.inside.waits.vertices.vertices) l) (sym same) (subst (λ n. AllIn (λ v. v < n) c.in_ok-members.members) (sym c.self.invariant.vertices) run.within)
 
 pub resolve-requires-clause-few : goal.resolve-requires-clause-few
 resolve-requires-clause-few c =
@@ -37,7 +37,7 @@ invariant_of-self-2 c =
     let run : RunInOrder (kept_of c.self.inside.names.ids c.self.inside.waits c.self.inside.classes.items) c.args.ids.now c.in_ok-members.members = subst (λ g. RunInOrder g c.args.ids.now c.in_ok-members.members)
     (sym c.self.view_is) c.in_ok-members.ensures in
     fitted_resolved ids c.self.inside.waits c.self.invariant c.as_slice.result.now c.len-class.result c.resolve.new.self classes (classes ++ record { members = c.as_slice.result.now; next = 0 } ∷ [])
-    (subst (λ l. AllIn (λ v. v < length ids) l) (sym same) run.within) (c.resolve.ensures.resolved ids classes) c.resolve.ensures.ready c.resolve.ensures.stuck
+    (subst (λ l. AllIn (λ v. v < length ids) l) (sym same) run.within) (c.resolve.ensures.resolved ids classes)
 
 pub returns-clause-resolved : goal.returns-clause-resolved
 returns-clause-resolved c =

@@ -14,5 +14,5 @@ returns-in-Some-clause-number c =
 pub returns-in-None-clause-number : goal.returns-in-None-clause-number
 returns-in-None-clause-number c =
     let n = c.self.inside in
-    rw (← c.self.view_is, c.copied.ensures ∙ c.get.ensures.value)
+    rw (← c.self.view_is, c.far_number.ensures)
     (number_far n.ids.items n.near.items (get same_id n.far) c.self.invariant c.args.id (ap (λ l. number_at l c.args.id) (sym c.as_slice.ensures.value) ∙ sym c.number_at.ensures ∙ c.in-None.is))
