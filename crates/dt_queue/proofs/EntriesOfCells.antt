@@ -13,7 +13,6 @@ use Rattle.dt_access.proofs.Callers.{clash_cases, uses_of_granule, uses_of_row}
 use Rattle.dt_queue.specs.declared.cell.Cell.{Cell}
 use Rattle.dt_queue.specs.declared.mark.Mark.{Mark}
 use Rattle.dt_queue.specs.declared.kept.Kept.{Kept}
-use Rattle.dt_queue.specs.declared.rows.Rows.{Rows}
 use Rattle.dt_access.specs.declared.access.Mode.{Mode}
 use Rattle.std.proofs.lemmas.List.{get_or_append_left, map-append}
 use Rattle.std.proofs.lemmas.Bool.{and_from, and_parts, or_cases, or_left, or_right}
@@ -21,7 +20,7 @@ use Rattle.dt_queue.specs.KeptInner.{AddsCell, CellsClash, AreQueuesKept, IsNear
 use Rattle.dt_queue.specs.LanesInner.{AreMarks}
 use Rattle.dt_queue.specs.NextInner.{IsFirstAfter}
 use Rattle.dt_queue.specs.Queues.{IsQueued, Waiting, follower_of, followers_after, is_at, is_neighbour, nearest, neighbours, taken_out}
-use Rattle.dt_queue.specs.RowsInner.{granule_at, granule_name, name_at}
+use Rattle.dt_queue.specs.RowsInner.{Links, granule_at, granule_name, links, name_at}
 use Rattle.dt_queue.proofs.InOrder.{IsListed, Rise, listed, listed_less, listed_more, same_list}
 use Rattle.dt_queue.proofs.EntryLists.{Slots, after_is, before_is, entry_is, greater, lesser, meets, near_in, near_rises, nearest_is, of_near, slots_of_list, to_near, without_is}
 
@@ -31,35 +30,35 @@ or_one s t c = elim c [ inl e ↦ or_left s t e | inr e ↦ or_right s t e ]
 module _ (k : Kept) (kept : AreQueuesKept k) where
   -- ---- cells clash where their entries do
 
-  known_name : (row : ℕ) → row < length k.rows.names.keys → slice_get k.rows.names.keys row ≡ Some (name_at k.rows.names.keys row)
-  known_name row lt = slice_get-get_or k.rows.names.keys row (0, []) lt
+  known_name : (row : ℕ) → row < length (links k.rows).names → slice_get (links k.rows).names row ≡ Some (name_at (links k.rows).names row)
+  known_name row lt = slice_get-get_or (links k.rows).names row (0, []) lt
 
-  one_row : (i j : ℕ) → i < length k.rows.names.keys → j < length k.rows.names.keys → name_at k.rows.names.keys i ≡ name_at k.rows.names.keys j → i ≡ j
-  one_row i j a b e = one_place k.rows.names.keys i j (name_at k.rows.names.keys j) kept.linked.names_once (known_name i a ∙ ap Some e) (known_name j b)
+  one_row : (i j : ℕ) → i < length (links k.rows).names → j < length (links k.rows).names → name_at (links k.rows).names i ≡ name_at (links k.rows).names j → i ≡ j
+  one_row i j a b e = one_place (links k.rows).names i j (name_at (links k.rows).names j) kept.linked.names_once (known_name i a ∙ ap Some e) (known_name j b)
 
-  one_granule : (i j : ℕ) → i < length k.rows.names.keys → j < length k.rows.names.keys → granule_name (name_at k.rows.names.keys i) ≡ granule_name (name_at k.rows.names.keys j)
-      → granule_at k.rows i ≡ granule_at k.rows j
+  one_granule : (i j : ℕ) → i < length (links k.rows).names → j < length (links k.rows).names → granule_name (name_at (links k.rows).names i) ≡ granule_name (name_at (links k.rows).names j)
+      → granule_at (links k.rows) i ≡ granule_at (links k.rows) j
   one_granule i j a b e =
-      one_place k.rows.granules.keys (granule_at k.rows i) (granule_at k.rows j) (granule_name (name_at k.rows.names.keys j)) kept.linked.granules_once (kept.linked.granule i a ∙ ap Some e) (kept.linked.granule j b)
+      one_place (links k.rows).granules (granule_at (links k.rows) i) (granule_at (links k.rows) j) (granule_name (name_at (links k.rows).names j)) kept.linked.granules_once (kept.linked.granule i a ∙ ap Some e) (kept.linked.granule j b)
 
-  same_name : (i j : ℕ) → i < length k.rows.names.keys → j < length k.rows.names.keys → granule_at k.rows i ≡ granule_at k.rows j
-      → granule_name (name_at k.rows.names.keys i) ≡ granule_name (name_at k.rows.names.keys j)
-  same_name i j a b e = same_Some _ _ (sym (kept.linked.granule i a) ∙ ap (slice_get k.rows.granules.keys) e ∙ kept.linked.granule j b)
+  same_name : (i j : ℕ) → i < length (links k.rows).names → j < length (links k.rows).names → granule_at (links k.rows) i ≡ granule_at (links k.rows) j
+      → granule_name (name_at (links k.rows).names i) ≡ granule_name (name_at (links k.rows).names j)
+  same_name i j a b e = same_Some _ _ (sym (kept.linked.granule i a) ∙ ap (slice_get (links k.rows).granules) e ∙ kept.linked.granule j b)
 
-  meets_of : (p q : ℕ × Cell) → p.1.row < length k.rows.names.keys → q.1.row < length k.rows.names.keys → CellsClash k.rows p.1 q.1 → meets k.rows.names.keys p q ≡ true
+  meets_of : (p q : ℕ × Cell) → p.1.row < length (links k.rows).names → q.1.row < length (links k.rows).names → CellsClash (links k.rows) p.1 q.1 → meets (links k.rows).names p q ≡ true
   meets_of p q a b (inl c) =
-      let name : name_at k.rows.names.keys p.1.row ≡ name_at k.rows.names.keys q.1.row = ap (name_at k.rows.names.keys) c.0 in
+      let name : name_at (links k.rows).names p.1.row ≡ name_at (links k.rows).names q.1.row = ap (name_at (links k.rows).names) c.0 in
       and_from _ _ (eq-eqb _ _ (ap (λ (n : ℕ × Bytes). n.0) name))
-      (uses_of_row ((name_at k.rows.names.keys p.1.row).1, p.1.mode) ((name_at k.rows.names.keys q.1.row).1, q.1.mode) (ap (λ (n : ℕ × Bytes). n.1) name) (or_one (may_change p.1.mode) (may_change q.1.mode) c.1))
+      (uses_of_row ((name_at (links k.rows).names p.1.row).1, p.1.mode) ((name_at (links k.rows).names q.1.row).1, q.1.mode) (ap (λ (n : ℕ × Bytes). n.1) name) (or_one (may_change p.1.mode) (may_change q.1.mode) c.1))
   meets_of p q a b (inr c) =
       let name = same_name p.1.row q.1.row a b c.0 in
       and_from _ _ (eq-eqb _ _ (ap (λ (n : ℕ × Bytes). n.0) name))
-      (uses_of_granule ((name_at k.rows.names.keys p.1.row).1, p.1.mode) ((name_at k.rows.names.keys q.1.row).1, q.1.mode) (ap (λ (n : ℕ × Bytes). n.1) name) (or_one (is_whole p.1.mode) (is_whole q.1.mode) c.1))
+      (uses_of_granule ((name_at (links k.rows).names p.1.row).1, p.1.mode) ((name_at (links k.rows).names q.1.row).1, q.1.mode) (ap (λ (n : ℕ × Bytes). n.1) name) (or_one (is_whole p.1.mode) (is_whole q.1.mode) c.1))
 
-  of_meets : (p q : ℕ × Cell) → p.1.row < length k.rows.names.keys → q.1.row < length k.rows.names.keys → meets k.rows.names.keys p q ≡ true → CellsClash k.rows p.1 q.1
+  of_meets : (p q : ℕ × Cell) → p.1.row < length (links k.rows).names → q.1.row < length (links k.rows).names → meets (links k.rows).names p q ≡ true → CellsClash (links k.rows) p.1 q.1
   of_meets p q a b e =
-      let home : (name_at k.rows.names.keys p.1.row).0 ≡ (name_at k.rows.names.keys q.1.row).0 = eqb-true _ _ (and_parts _ _ e).0 in
-      elim (clash_cases ((name_at k.rows.names.keys p.1.row).1, p.1.mode) ((name_at k.rows.names.keys q.1.row).1, q.1.mode) (and_parts _ _ e).1) [
+      let home : (name_at (links k.rows).names p.1.row).0 ≡ (name_at (links k.rows).names q.1.row).0 = eqb-true _ _ (and_parts _ _ e).0 in
+      elim (clash_cases ((name_at (links k.rows).names p.1.row).1, p.1.mode) ((name_at (links k.rows).names q.1.row).1, q.1.mode) (and_parts _ _ e).1) [
         | inl c ↦ inl (one_row p.1.row q.1.row a b (λ i. (home i, c.0 i)), or_cases (may_change p.1.mode) (may_change q.1.mode) c.1)
         | inr c ↦ inr (one_granule p.1.row q.1.row a b (λ i. (home i, c.0 i)), or_cases (is_whole p.1.mode) (is_whole q.1.mode) c.1)
       ]
@@ -78,13 +77,13 @@ module _ (k : Kept) (kept : AreQueuesKept k) where
   in_list : (slot : ℕ) (c : Cell) → get k.cells slot ≡ Some c → Has (in_order (entries k.cells)) (slot, c)
   in_list slot c e = (the_list.members (slot, c)).1 e
 
-  row_known : (p : ℕ × Cell) → Has (in_order (entries k.cells)) p → p.1.row < length k.rows.names.keys
+  row_known : (p : ℕ × Cell) → Has (in_order (entries k.cells)) p → p.1.row < length (links k.rows).names
   row_known p h = kept.known p.0 p.1 (cell_there p h)
 
   -- what waits has a cell
   pub waits : (slot : ℕ) → IsQueued (waiting_of k) slot → (c : Cell) × (get k.cells slot ≡ Some c)
   waits slot w =
-      let r = any_get (λ (p : ℕ × Cell). p.0 ≡ slot) (in_order (entries k.cells)) (any_of_image (λ (v : Waiting). v.slot ≡ slot) (entry k.rows.names.keys) (in_order (entries k.cells)) w) in
+      let r = any_get (λ (p : ℕ × Cell). p.0 ≡ slot) (in_order (entries k.cells)) (any_of_image (λ (v : Waiting). v.slot ≡ slot) (entry (links k.rows).names) (in_order (entries k.cells)) w) in
       (r.0.1, sym (ap (get k.cells) r.2) ∙ cell_there r.0 r.1)
 
   -- ---- neighbours
@@ -100,23 +99,23 @@ module _ (k : Kept) (kept : AreQueuesKept k) where
 
   -- the neighbours of an entry, as cells
   abbrev pub near_cells : ℕ × Cell → List (ℕ × Cell)
-  near_cells p = near_in k.rows.names.keys p (lesser p.1.number (in_order (entries k.cells)))
+  near_cells p = near_in (links k.rows).names p (lesser p.1.number (in_order (entries k.cells)))
 
-  neighbours_shown : (p : ℕ × Cell) → Has (in_order (entries k.cells)) p → neighbours (waiting_of k) p.0 ≡ map (entry k.rows.names.keys) (near_cells p)
+  neighbours_shown : (p : ℕ × Cell) → Has (in_order (entries k.cells)) p → neighbours (waiting_of k) p.0 ≡ map (entry (links k.rows).names) (near_cells p)
   neighbours_shown p h =
-      ap₂ nearest (entry_is k.rows.names.keys (in_order (entries k.cells)) p the_slots h) (before_is k.rows.names.keys (in_order (entries k.cells)) p the_list.numbered the_slots h)
-      ∙ nearest_is k.rows.names.keys p (lesser p.1.number (in_order (entries k.cells)))
+      ap₂ nearest (entry_is (links k.rows).names (in_order (entries k.cells)) p the_slots h) (before_is (links k.rows).names (in_order (entries k.cells)) p the_list.numbered the_slots h)
+      ∙ nearest_is (links k.rows).names p (lesser p.1.number (in_order (entries k.cells)))
 
   -- a cell is among the neighbours where it is the nearest that clashes
   record IsNear (p q : ℕ × Cell) : Type 0 where
     pub there : Has (in_order (entries k.cells)) q
     pub before : q.1.number < p.1.number
-    pub clash : CellsClash k.rows q.1 p.1
-    pub free : (t : ℕ) (d : Cell) → get k.cells t ≡ Some d → q.1.number < d.number → d.number < p.1.number → CellsClash k.rows q.1 d → ¬ (CellsClash k.rows d p.1)
+    pub clash : CellsClash (links k.rows) q.1 p.1
+    pub free : (t : ℕ) (d : Cell) → get k.cells t ≡ Some d → q.1.number < d.number → d.number < p.1.number → CellsClash (links k.rows) q.1 d → ¬ (CellsClash (links k.rows) d p.1)
 
   of_near_cells : (p q : ℕ × Cell) → Has (in_order (entries k.cells)) p → Has (near_cells p) q → IsNear p q
   of_near_cells p q own h =
-      let r = of_near k.rows.names.keys p (lesser p.1.number (in_order (entries k.cells))) (earlier_rises p.1.number) q h in
+      let r = of_near (links k.rows).names p (lesser p.1.number (in_order (entries k.cells))) (earlier_rises p.1.number) q h in
       let b = of_earlier p.1.number q r.0 in
       record {
         there = b.0;
@@ -127,14 +126,14 @@ module _ (k : Kept) (kept : AreQueuesKept k) where
 
   to_near_cells : (p q : ℕ × Cell) → Has (in_order (entries k.cells)) p → IsNear p q → Has (near_cells p) q
   to_near_cells p q own n =
-      to_near k.rows.names.keys p (lesser p.1.number (in_order (entries k.cells))) (earlier_rises p.1.number) q (to_earlier p.1.number q n.there n.before)
+      to_near (links k.rows).names p (lesser p.1.number (in_order (entries k.cells))) (earlier_rises p.1.number) q (to_earlier p.1.number q n.there n.before)
       (meets_of q p (row_known q n.there) (row_known p own) n.clash) (λ m h lt s f. clear m (of_earlier p.1.number m h) lt s f)
     where
-      clear : (m : ℕ × Cell) → Has (in_order (entries k.cells)) m × (m.1.number < p.1.number) → q.1.number < m.1.number → meets k.rows.names.keys q m ≡ true → meets k.rows.names.keys m p ≡ true → ⊥
+      clear : (m : ℕ × Cell) → Has (in_order (entries k.cells)) m × (m.1.number < p.1.number) → q.1.number < m.1.number → meets (links k.rows).names q m ≡ true → meets (links k.rows).names m p ≡ true → ⊥
       clear m b lt s f = n.free m.0 m.1 (cell_there m b.0) lt b.1 (of_meets q m (row_known q n.there) (row_known m b.0) s) (of_meets m p (row_known m b.0) (row_known p own) f)
 
   near_cells_rise : (p : ℕ × Cell) → EachThen Rise (near_cells p)
-  near_cells_rise p = near_rises k.rows.names.keys p (lesser p.1.number (in_order (entries k.cells))) (earlier_rises p.1.number)
+  near_cells_rise p = near_rises (links k.rows).names p (lesser p.1.number (in_order (entries k.cells))) (earlier_rises p.1.number)
 
   -- the marks that were found are those of the neighbours
   pub neighbours_are : (slot : ℕ) (x : Cell) → get k.cells slot ≡ Some x → (ms : List Mark) → AreMarks (IsNearMark k x) ms → map (λ m. m.vertex) ms ≡ map (λ w. w.vertex) (neighbours (waiting_of k) slot)
@@ -145,7 +144,7 @@ module _ (k : Kept) (kept : AreQueuesKept k) where
       ascending_same (λ (m n : Mark). m.number < n.number) (λ m lt. omega (arith, lt)) (λ m n o lt le. omega (arith, lt, le)) ms (map (λ (q : ℕ × Cell). mark_of q.0 q.1) (near_cells p)) found.numbered
       (each_image (λ (m n : Mark). m.number < n.number) (λ (q : ℕ × Cell). mark_of q.0 q.1) (near_cells p) (near_cells_rise p)) (λ m h. down own m ((found.members m).0 h)) (λ m h. (found.members m).1 (up own m h)) in
       ap (map (λ m. m.vertex)) same ∙ map-map (λ m. m.vertex) (λ (q : ℕ × Cell). mark_of q.0 q.1) (near_cells p)
-      ∙ sym (map-map (λ w. w.vertex) (entry k.rows.names.keys) (near_cells p)) ∙ ap (map (λ w. w.vertex)) (sym (neighbours_shown p own))
+      ∙ sym (map-map (λ w. w.vertex) (entry (links k.rows).names) (near_cells p)) ∙ ap (map (λ w. w.vertex)) (sym (neighbours_shown p own))
     where
       down : Has (in_order (entries k.cells)) (slot, x) → (m : Mark) → IsNearMark k x m → Has (map (λ (q : ℕ × Cell). mark_of q.0 q.1) (near_cells (slot, x))) m
       down own m n =
@@ -164,16 +163,16 @@ module _ (k : Kept) (kept : AreQueuesKept k) where
   -- an entry is a follower where its mark is next
   next_of : (slot : ℕ) (x : Cell) → get k.cells slot ≡ Some x → (q : ℕ × Cell) → Has (in_order (entries k.cells)) q → is_neighbour (waiting_of k) slot q.0 ≡ true → IsNextMark k x (mark_of q.0 q.1)
   next_of slot x e q own t =
-      let found : AnyIn (λ w. is_at slot w ≡ true) (map (entry k.rows.names.keys) (near_cells q)) = subst (AnyIn (λ w. is_at slot w ≡ true)) (neighbours_shown q own) (any_of_test (is_at slot) (neighbours (waiting_of k) q.0) t) in
-      let r = any_get (λ (p : ℕ × Cell). (p.0 == slot) ≡ true) (near_cells q) (any_of_image (λ w. is_at slot w ≡ true) (entry k.rows.names.keys) (near_cells q) found) in
+      let found : AnyIn (λ w. is_at slot w ≡ true) (map (entry (links k.rows).names) (near_cells q)) = subst (AnyIn (λ w. is_at slot w ≡ true)) (neighbours_shown q own) (any_of_test (is_at slot) (neighbours (waiting_of k) q.0) t) in
+      let r = any_get (λ (p : ℕ × Cell). (p.0 == slot) ≡ true) (near_cells q) (any_of_image (λ w. is_at slot w ≡ true) (entry (links k.rows).names) (near_cells q) found) in
       let n = of_near_cells q r.0 own r.1 in
       let one : r.0.1 ≡ x = same_Some r.0.1 x (sym (cell_there r.0 n.there) ∙ ap (get k.cells) (eqb-true r.0.0 slot r.2) ∙ e) in (
         q.1,
         cell_there q own,
         refl,
         subst (λ (c : Cell). c.number < q.1.number) one n.before,
-        subst (λ (c : Cell). CellsClash k.rows c q.1) one n.clash,
-        subst (λ (c : Cell). (t : ℕ) (d : Cell) → get k.cells t ≡ Some d → c.number < d.number → d.number < q.1.number → CellsClash k.rows c d → ¬ (CellsClash k.rows d q.1)) one n.free,
+        subst (λ (c : Cell). CellsClash (links k.rows) c q.1) one n.clash,
+        subst (λ (c : Cell). (t : ℕ) (d : Cell) → get k.cells t ≡ Some d → c.number < d.number → d.number < q.1.number → CellsClash (links k.rows) c d → ¬ (CellsClash (links k.rows) d q.1)) one n.free,
       )
 
   to_next : (slot : ℕ) (x : Cell) → get k.cells slot ≡ Some x → (q : ℕ × Cell) → Has (in_order (entries k.cells)) q → IsNextMark k x (mark_of q.0 q.1) → is_neighbour (waiting_of k) slot q.0 ≡ true
@@ -182,17 +181,17 @@ module _ (k : Kept) (kept : AreQueuesKept k) where
       let near : IsNear q (slot, x) = subst (λ (c : Cell). IsNear (q.0, c) (slot, x)) one (record { there = in_list slot x e; before = n.3; clash = n.4; free = n.5 }) in
       test_of_any (is_at slot) (neighbours (waiting_of k) q.0)
       (subst (AnyIn (λ w. is_at slot w ≡ true)) (sym (neighbours_shown q own))
-      (any_image (λ w. is_at slot w ≡ true) (entry k.rows.names.keys) (near_cells q) (any_put (λ (p : ℕ × Cell). (p.0 == slot) ≡ true) (near_cells q) (slot, x) (to_near_cells q (slot, x) own near) (eq-eqb slot slot refl))))
+      (any_image (λ w. is_at slot w ≡ true) (entry (links k.rows).names) (near_cells q) (any_put (λ (p : ℕ × Cell). (p.0 == slot) ≡ true) (near_cells q) (slot, x) (to_near_cells q (slot, x) own near) (eq-eqb slot slot refl))))
 
-  filter_shown : (slot : ℕ) (G : List (ℕ × Cell)) → filter (λ w. is_neighbour (waiting_of k) slot w.slot) (map (entry k.rows.names.keys) G)
-      ≡ map (entry k.rows.names.keys) (filter (λ (q : ℕ × Cell). is_neighbour (waiting_of k) slot q.0) G)
+  filter_shown : (slot : ℕ) (G : List (ℕ × Cell)) → filter (λ w. is_neighbour (waiting_of k) slot w.slot) (map (entry (links k.rows).names) G)
+      ≡ map (entry (links k.rows).names) (filter (λ (q : ℕ × Cell). is_neighbour (waiting_of k) slot q.0) G)
   filter_shown slot [] = refl
   filter_shown slot (q ∷ G) = by (is_neighbour (waiting_of k) slot q.0) (filter_shown slot G)
     where
-      by : (t : Bool) → filter (λ w. is_neighbour (waiting_of k) slot w.slot) (map (entry k.rows.names.keys) G) ≡ map (entry k.rows.names.keys) (filter (λ (q : ℕ × Cell). is_neighbour (waiting_of k) slot q.0) G)
-          → cond t (entry k.rows.names.keys q ∷ filter (λ w. is_neighbour (waiting_of k) slot w.slot) (map (entry k.rows.names.keys) G)) (filter (λ w. is_neighbour (waiting_of k) slot w.slot) (map (entry k.rows.names.keys) G))
-          ≡ map (entry k.rows.names.keys) (cond t (q ∷ filter (λ (q : ℕ × Cell). is_neighbour (waiting_of k) slot q.0) G) (filter (λ (q : ℕ × Cell). is_neighbour (waiting_of k) slot q.0) G))
-      by true e = ap (λ l. entry k.rows.names.keys q ∷ l) e
+      by : (t : Bool) → filter (λ w. is_neighbour (waiting_of k) slot w.slot) (map (entry (links k.rows).names) G) ≡ map (entry (links k.rows).names) (filter (λ (q : ℕ × Cell). is_neighbour (waiting_of k) slot q.0) G)
+          → cond t (entry (links k.rows).names q ∷ filter (λ w. is_neighbour (waiting_of k) slot w.slot) (map (entry (links k.rows).names) G)) (filter (λ w. is_neighbour (waiting_of k) slot w.slot) (map (entry (links k.rows).names) G))
+          ≡ map (entry (links k.rows).names) (cond t (q ∷ filter (λ (q : ℕ × Cell). is_neighbour (waiting_of k) slot q.0) G) (filter (λ (q : ℕ × Cell). is_neighbour (waiting_of k) slot q.0) G))
+      by true e = ap (λ l. entry (links k.rows).names q ∷ l) e
       by false e = e
 
   -- the cells that follow a cell of a slot behind another cell
@@ -205,8 +204,8 @@ module _ (k : Kept) (kept : AreQueuesKept k) where
   follower_is slot x e place y f o first =
       shown o first ∙ ap (λ ws. slice_get (map follower_of ws) 0) (sym list)
     where
-      list : followers_after (waiting_of k) slot place ≡ map (entry k.rows.names.keys) (cells_behind slot y)
-      list = ap (filter (λ w. is_neighbour (waiting_of k) slot w.slot)) (after_is k.rows.names.keys (in_order (entries k.cells)) (place, y) the_list.numbered the_slots (in_list place y f))
+      list : followers_after (waiting_of k) slot place ≡ map (entry (links k.rows).names) (cells_behind slot y)
+      list = ap (filter (λ w. is_neighbour (waiting_of k) slot w.slot)) (after_is (links k.rows).names (in_order (entries k.cells)) (place, y) the_list.numbered the_slots (in_list place y f))
           ∙ filter_shown slot (greater y.number (in_order (entries k.cells)))
 
       rises : EachThen Rise (cells_behind slot y)
@@ -227,10 +226,10 @@ module _ (k : Kept) (kept : AreQueuesKept k) where
 
       shown : (o : Option Mark) → IsFirstAfter (IsNextMark k x) y.number o
           → option_map (λ (m : Mark). record { slot = m.slot; vertex = m.vertex }) o
-          ≡ slice_get (map follower_of (map (entry k.rows.names.keys) (cells_behind slot y))) 0
+          ≡ slice_get (map follower_of (map (entry (links k.rows).names) (cells_behind slot y))) 0
       shown None none = by (cells_behind slot y) (λ q h. of_F q h)
         where
-          by : (L : List (ℕ × Cell)) → ((q : ℕ × Cell) → Has L q → IsNextMark k x (mark_of q.0 q.1) × (y.number < q.1.number)) → None ≡ slice_get (map follower_of (map (entry k.rows.names.keys) L)) 0
+          by : (L : List (ℕ × Cell)) → ((q : ℕ × Cell) → Has L q → IsNextMark k x (mark_of q.0 q.1) × (y.number < q.1.number)) → None ≡ slice_get (map follower_of (map (entry (links k.rows).names) L)) 0
           by [] g = refl
           by (q ∷ L) g = let r = g q (inl refl) in absurd (late q (none (mark_of q.0 q.1) r.0) r.1)
             where
@@ -244,11 +243,11 @@ module _ (k : Kept) (kept : AreQueuesKept k) where
           here : Has (cells_behind slot y) (m.slot, found.0.0)
           here = to_F (m.slot, found.0.0) (in_list m.slot found.0.0 found.0.1) (subst (IsNextMark k x) found.0.2 found.0) (subst (λ n. y.number < n) number found.1)
 
-          told : (q : ℕ × Cell) → q ≡ (m.slot, found.0.0) → record { slot = m.slot; vertex = m.vertex } ≡ follower_of (entry k.rows.names.keys q)
-          told q s = ap (λ (n : Mark). record { slot = m.slot; vertex = n.vertex }) found.0.2 ∙ ap (λ (z : ℕ × Cell). follower_of (entry k.rows.names.keys z)) (sym s)
+          told : (q : ℕ × Cell) → q ≡ (m.slot, found.0.0) → record { slot = m.slot; vertex = m.vertex } ≡ follower_of (entry (links k.rows).names q)
+          told q s = ap (λ (n : Mark). record { slot = m.slot; vertex = n.vertex }) found.0.2 ∙ ap (λ (z : ℕ × Cell). follower_of (entry (links k.rows).names z)) (sym s)
 
           by : (L : List (ℕ × Cell)) → EachThen Rise L → ((q : ℕ × Cell) → Has L q → IsNextMark k x (mark_of q.0 q.1) × (y.number < q.1.number)) → Has L (m.slot, found.0.0)
-              → Some (record { slot = m.slot; vertex = m.vertex }) ≡ slice_get (map follower_of (map (entry k.rows.names.keys) L)) 0
+              → Some (record { slot = m.slot; vertex = m.vertex }) ≡ slice_get (map follower_of (map (entry (links k.rows).names) L)) 0
           by [] num g h = absurd h
           by (q ∷ L) num g (inl s) = ap Some (told q s)
           by (q ∷ L) num g (inr h) =
@@ -269,28 +268,28 @@ same_entries old new front (p ∷ K) known =
     let first : entry new p ≡ entry old p = ap (λ (n : ℕ × Bytes). record { slot = p.0; home = n.0; key = n.1; mode = p.1.mode; vertex = p.1.vertex }) name in
     ap₂ (λ w ws. w ∷ ws) first (same_entries old new front K (λ q h. known q (inr h)))
 
-row_of_cell : (k : Kept) → AreQueuesKept k → (p : ℕ × Cell) → Has (in_order (entries k.cells)) p → p.1.row < length k.rows.names.keys
+row_of_cell : (k : Kept) → AreQueuesKept k → (p : ℕ × Cell) → Has (in_order (entries k.cells)) p → p.1.row < length (links k.rows).names
 row_of_cell k kept p h = kept.known p.0 p.1 (((listed k.cells kept.alone).members p).0 h)
 
 -- the same cells show the same
-pub shown_same : (k n : Kept) → AreQueuesKept k → IsFront k.rows.names.keys n.rows.names.keys → n.cells.slots ≡ k.cells.slots → waiting_of n ≡ waiting_of k
+pub shown_same : (k n : Kept) → AreQueuesKept k → IsFront (links k.rows).names (links n.rows).names → n.cells.slots ≡ k.cells.slots → waiting_of n ≡ waiting_of k
 shown_same k n kept front slots =
-    ap (λ l. map (entry n.rows.names.keys) (in_order (entries_from 0 l))) slots ∙ same_entries k.rows.names.keys n.rows.names.keys front (in_order (entries k.cells)) (row_of_cell k kept)
+    ap (λ l. map (entry (links n.rows).names) (in_order (entries_from 0 l))) slots ∙ same_entries (links k.rows).names (links n.rows).names front (in_order (entries k.cells)) (row_of_cell k kept)
 
 -- a cell that was put behind all others shows its entry
-pub shown_push : (k n : Kept) (slot : ℕ) (name : ℕ × Bytes) (mode : Mode) (vertex : ℕ) → AreQueuesKept k → AreQueuesKept n → IsFront k.rows.names.keys n.rows.names.keys → AddsCell k n slot name mode vertex
+pub shown_push : (k n : Kept) (slot : ℕ) (name : ℕ × Bytes) (mode : Mode) (vertex : ℕ) → AreQueuesKept k → AreQueuesKept n → IsFront (links k.rows).names (links n.rows).names → AddsCell k n slot name mode vertex
     → waiting_of n ≡ waiting_of k ++ record { slot = slot; home = name.0; key = name.1; mode = mode; vertex = vertex } ∷ []
 shown_push k n slot name mode vertex kept later front adds =
     let K = in_order (entries k.cells) in
     let list : in_order (entries n.cells) ≡ K ++ (slot, adds.cell) ∷ [] = same_list n.cells n.cells (in_order (entries n.cells)) (K ++ (slot, adds.cell) ∷ []) (listed n.cells later.alone)
     (listed_more k.cells n.cells K slot adds.cell (listed k.cells kept.alone) adds.updates adds.vacant (λ p h. last p (((listed k.cells kept.alone).members p).0 h))) (λ s. refl) in
-    ap (map (entry n.rows.names.keys)) list ∙ map-append (entry n.rows.names.keys) K ((slot, adds.cell) ∷ [])
-    ∙ ap₂ (λ a b. a ++ b ∷ []) (same_entries k.rows.names.keys n.rows.names.keys front K (row_of_cell k kept)) own
+    ap (map (entry (links n.rows).names)) list ∙ map-append (entry (links n.rows).names) K ((slot, adds.cell) ∷ [])
+    ∙ ap₂ (λ a b. a ++ b ∷ []) (same_entries (links k.rows).names (links n.rows).names front K (row_of_cell k kept)) own
   where
     last : (p : ℕ × Cell) → get k.cells p.0 ≡ Some p.1 → p.1.number < adds.cell.number
     last p e = let b = kept.counted p.0 p.1 e in omega (arith, b.1, adds.number)
 
-    own : entry n.rows.names.keys (slot, adds.cell) ≡ record { slot = slot; home = name.0; key = name.1; mode = mode; vertex = vertex }
+    own : entry (links n.rows).names (slot, adds.cell) ≡ record { slot = slot; home = name.0; key = name.1; mode = mode; vertex = vertex }
     own = λ i. record { slot = slot; home = (adds.name i).0; key = (adds.name i).1; mode = adds.mode_is i; vertex = adds.vertex_is i }
 
 -- no entry waited at the slot
@@ -301,9 +300,9 @@ shown_fresh k n slot name mode vertex kept adds w = let c = waits k kept slot w 
     none d e = cc
 
 -- a cell that was taken out shows no more
-pub shown_remove : (k n : Kept) (slot : ℕ) → AreQueuesKept k → AreQueuesKept n → Updates k.cells n.cells slot None → n.rows ≡ k.rows → waiting_of n ≡ taken_out (waiting_of k) slot
+pub shown_remove : (k n : Kept) (slot : ℕ) → AreQueuesKept k → AreQueuesKept n → Updates k.cells n.cells slot None → (links n.rows) ≡ (links k.rows) → waiting_of n ≡ taken_out (waiting_of k) slot
 shown_remove k n slot kept later up rows =
     let K = in_order (entries k.cells) in
     let list : in_order (entries n.cells) ≡ filter (λ (p : ℕ × Cell). not (p.0 == slot)) K = same_list n.cells n.cells (in_order (entries n.cells)) (filter (λ (p : ℕ × Cell). not (p.0 == slot)) K) (listed n.cells later.alone)
     (listed_less k.cells n.cells K slot (listed k.cells kept.alone) up) (λ s. refl) in
-    ap (λ (r : Rows). map (entry r.names.keys) (in_order (entries n.cells))) rows ∙ ap (map (entry k.rows.names.keys)) list ∙ sym (without_is k.rows.names.keys K slot)
+    ap (λ (r : Links). map (entry r.names) (in_order (entries n.cells))) rows ∙ ap (map (entry (links k.rows).names)) list ∙ sym (without_is (links k.rows).names K slot)

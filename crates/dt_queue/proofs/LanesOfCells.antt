@@ -14,8 +14,8 @@ use Rattle.dt_queue.specs.declared.kept.Kept.{Kept}
 use Rattle.dt_queue.specs.declared.rows.Rows.{Rows}
 use Rattle.dt_queue.specs.KeptInner.{AreRowsListed, ChangesLaneOf, IsInLane, AreQueuesKept, IsLane, KeepsLanes, lane, mark_of, place_at}
 use Rattle.dt_queue.specs.LanesInner.{ChangesLane, SameLanes}
-use Rattle.dt_queue.specs.UsesInner.{reads_of, writes_of}
-use Rattle.dt_queue.specs.RowsInner.{AreRowsLinked, KeepsRows, granule_at}
+use Rattle.dt_queue.specs.TableInner.{granules_of, reads_of, writes_of}
+use Rattle.dt_queue.specs.RowsInner.{AreRowsLinked, KeepsRows, Links, granule_at, links}
 use Rattle.dt_queue.proofs.Marks.{numbered_more}
 use Rattle.dt_queue.proofs.InOrder.{AreAlone}
 
@@ -130,22 +130,23 @@ either_place m n p q = elim (either_mode m n) [
   | inr ne ↦ inr (λ b. ne b.0)
 ]
 
--- lanes are the same where both lists are
-pub same_lanes : (a b : Kept) → a.uses ≡ b.uses → a.wholes ≡ b.wholes → (m : Mode) (p : ℕ) → lane a m p ≡ lane b m p
-same_lanes a b u t Read p = ap (λ l. get_or (reads_of l.items) p []) u
-same_lanes a b u t Write p = ap (λ l. get_or (writes_of l.items) p []) u
-same_lanes a b u t Whole p = ap (λ l. get_or l.items p []) t
+-- lanes are the same where all three lists are
+pub same_lanes : (a b : Kept) → SameLanes (reads_of b.rows.table.items) (reads_of a.rows.table.items) → SameLanes (writes_of b.rows.table.items) (writes_of a.rows.table.items) → a.wholes ≡ b.wholes
+    → (m : Mode) (p : ℕ) → lane a m p ≡ lane b m p
+same_lanes a b r w t Read p = r p
+same_lanes a b r w t Write p = w p
+same_lanes a b r w t Whole p = ap (λ l. get_or l.items p []) t
 
-pub place_same : (old new : Rows) → KeepsRows old new → (m : Mode) (row : ℕ) → row < length old.names.keys → place_at new m row ≡ place_at old m row
+pub place_same : (old new : Links) → KeepsRows old new → (m : Mode) (row : ℕ) → row < length old.names → place_at new m row ≡ place_at old m row
 place_same old new k Read row lt = refl
 place_same old new k Write row lt = refl
 place_same old new k Whole row lt = k.granules row lt
 
-pub rows_refl : (r : Rows) → KeepsRows r r
-rows_refl r = record { names = front_refl r.names.keys; granules = λ row lt. refl }
+pub rows_refl : (r : Links) → KeepsRows r r
+rows_refl r = record { names = front_refl r.names; granules = λ row lt. refl }
 
 -- rows may have been added, and nothing else
-pub kept_same : (k n : Kept) → AreQueuesKept k → AreRowsLinked n.rows → KeepsRows k.rows n.rows → ((s : ℕ) → get n.cells s ≡ get k.cells s) → n.next_number ≡ k.next_number
+pub kept_same : (k n : Kept) → AreQueuesKept k → AreRowsLinked (links n.rows) → KeepsRows (links k.rows) (links n.rows) → ((s : ℕ) → get n.cells s ≡ get k.cells s) → n.next_number ≡ k.next_number
     → ((m : Mode) (p : ℕ) → lane n m p ≡ lane k m p) → AreRowsListed n → AreQueuesKept n
 kept_same k n kept linked keeps cells next lanes used = record {
   linked = linked;
@@ -154,20 +155,20 @@ kept_same k n kept linked keeps cells next lanes used = record {
   counted = λ s c e. let b = kept.counted s c (sym (cells s) ∙ e) in (b.0, subst (λ i. c.number < i) (sym next) b.1);
   alone = λ s t c d e f g. kept.alone s t c d (sym (cells s) ∙ e) (sym (cells t) ∙ f) g;
   known = λ s c e. let lt = kept.known s c (sym (cells s) ∙ e) in omega (arith, lt, front_length _ _ keeps.names);
-  lanes = λ m p. subst (IsLane n.cells (IsInLane n.rows m p)) (sym (lanes m p))
-      (lane_as k.cells n.cells (IsInLane n.rows m p) (lane k m p) cells
-      (lane_map k.cells (IsInLane k.rows m p) (IsInLane n.rows m p) (lane k m p) (moved m p) (kept.lanes m p)));
+  lanes = λ m p. subst (IsLane n.cells (IsInLane (links n.rows) m p)) (sym (lanes m p))
+      (lane_as k.cells n.cells (IsInLane (links n.rows) m p) (lane k m p) cells
+      (lane_map k.cells (IsInLane (links k.rows) m p) (IsInLane (links n.rows) m p) (lane k m p) (moved m p) (kept.lanes m p)));
   listed = used;
 }
   where
-    moved : (m : Mode) (p s : ℕ) (c : Cell) → get k.cells s ≡ Some c → IsInLane k.rows m p c ↔ IsInLane n.rows m p c
-    moved m p s c e = let same = place_same k.rows n.rows keeps m c.row (kept.known s c e) in (λ b. (b.0, same ∙ b.1), λ b. (b.0, sym same ∙ b.1))
+    moved : (m : Mode) (p s : ℕ) (c : Cell) → get k.cells s ≡ Some c → IsInLane (links k.rows) m p c ↔ IsInLane (links n.rows) m p c
+    moved m p s c e = let same = place_same (links k.rows) (links n.rows) keeps m c.row (kept.known s c e) in (λ b. (b.0, same ∙ b.1), λ b. (b.0, sym same ∙ b.1))
 
 -- a cell was put behind all others, and its mark in its lane
-pub kept_pushed : (k n : Kept) (slot : ℕ) (c : Cell) → AreQueuesKept k → AreRowsLinked n.rows → KeepsRows k.rows n.rows → Updates k.cells n.cells slot (Some c) → get k.cells slot ≡ None
-    → c.number ≡ k.next_number → n.next_number ≡ c.number + 1 → n.next_number < 2 ^ 64 → c.row < length n.rows.names.keys
-    → lane n c.mode (place_at n.rows c.mode c.row) ≡ lane k c.mode (place_at n.rows c.mode c.row) ++ mark_of slot c ∷ []
-    → ((m : Mode) (p : ℕ) → ¬ ((m ≡ c.mode) × (p ≡ place_at n.rows c.mode c.row)) → lane n m p ≡ lane k m p) → AreRowsListed n → AreQueuesKept n
+pub kept_pushed : (k n : Kept) (slot : ℕ) (c : Cell) → AreQueuesKept k → AreRowsLinked (links n.rows) → KeepsRows (links k.rows) (links n.rows) → Updates k.cells n.cells slot (Some c) → get k.cells slot ≡ None
+    → c.number ≡ k.next_number → n.next_number ≡ c.number + 1 → n.next_number < 2 ^ 64 → c.row < length (links n.rows).names
+    → lane n c.mode (place_at (links n.rows) c.mode c.row) ≡ lane k c.mode (place_at (links n.rows) c.mode c.row) ++ mark_of slot c ∷ []
+    → ((m : Mode) (p : ℕ) → ¬ ((m ≡ c.mode) × (p ≡ place_at (links n.rows) c.mode c.row)) → lane n m p ≡ lane k m p) → AreRowsListed n → AreQueuesKept n
 kept_pushed k n slot c kept linked keeps up vacant number next within row changed others used = record {
   linked = linked;
   first = omega (arith, next);
@@ -175,7 +176,7 @@ kept_pushed k n slot c kept linked keeps up vacant number next within row change
   counted = λ s d e. counted s d e (either_nat s slot);
   alone = λ s t d x e f g. alone s t d x e f g (either_nat s slot) (either_nat t slot);
   known = λ s d e. known s d e (either_nat s slot);
-  lanes = λ m p. lanes m p (either_place m c.mode p (place_at n.rows c.mode c.row));
+  lanes = λ m p. lanes m p (either_place m c.mode p (place_at (links n.rows) c.mode c.row));
   listed = used;
 }
   where
@@ -198,71 +199,71 @@ kept_pushed k n slot c kept linked keeps up vacant number next within row change
     alone s t d x e f g (inr a) (inl b) = let v : x.number ≡ c.number = ap (λ (x : Cell). x.number) (is_new t x b f) in absurd (omega (arith, v, g, below s d a e))
     alone s t d x e f g (inr a) (inr b) = kept.alone s t d x (is_old s d a e) (is_old t x b f) g
 
-    known : (s : ℕ) (d : Cell) → get n.cells s ≡ Some d → (s ≡ slot) ⊎ (s ≢ slot) → d.row < length n.rows.names.keys
-    known s d e (inl s') = subst (λ (x : Cell). x.row < length n.rows.names.keys) (sym (is_new s d s' e)) row
+    known : (s : ℕ) (d : Cell) → get n.cells s ≡ Some d → (s ≡ slot) ⊎ (s ≢ slot) → d.row < length (links n.rows).names
+    known s d e (inl s') = subst (λ (x : Cell). x.row < length (links n.rows).names) (sym (is_new s d s' e)) row
     known s d e (inr ne) = let lt = kept.known s d (is_old s d ne e) in omega (arith, lt, front_length _ _ keeps.names)
 
-    moved : (m : Mode) (p s : ℕ) (d : Cell) → get k.cells s ≡ Some d → IsInLane k.rows m p d ↔ IsInLane n.rows m p d
-    moved m p s d e = let same = place_same k.rows n.rows keeps m d.row (kept.known s d e) in (λ b. (b.0, same ∙ b.1), λ b. (b.0, sym same ∙ b.1))
+    moved : (m : Mode) (p s : ℕ) (d : Cell) → get k.cells s ≡ Some d → IsInLane (links k.rows) m p d ↔ IsInLane (links n.rows) m p d
+    moved m p s d e = let same = place_same (links k.rows) (links n.rows) keeps m d.row (kept.known s d e) in (λ b. (b.0, same ∙ b.1), λ b. (b.0, sym same ∙ b.1))
 
-    had : (m : Mode) (p : ℕ) → IsLane k.cells (IsInLane n.rows m p) (lane k m p)
-    had m p = lane_map k.cells (IsInLane k.rows m p) (IsInLane n.rows m p) (lane k m p) (moved m p) (kept.lanes m p)
+    had : (m : Mode) (p : ℕ) → IsLane k.cells (IsInLane (links n.rows) m p) (lane k m p)
+    had m p = lane_map k.cells (IsInLane (links k.rows) m p) (IsInLane (links n.rows) m p) (lane k m p) (moved m p) (kept.lanes m p)
 
     all_below : (m : Mode) (p : ℕ) → AllIn (λ (x : Mark). x.number < c.number) (lane k m p)
     all_below m p = all_put _ (lane k m p) (λ x h. let r = ((kept.lanes m p).members x).0 h in
         let v : x.number ≡ r.0.number = ap (λ (y : Mark). y.number) r.3 in
         omega (arith, v, (kept.counted x.slot r.0 r.1).1, number))
 
-    lanes : (m : Mode) (p : ℕ) → ((m ≡ c.mode) × (p ≡ place_at n.rows c.mode c.row)) ⊎ ¬ ((m ≡ c.mode) × (p ≡ place_at n.rows c.mode c.row)) → IsLane n.cells (IsInLane n.rows m p) (lane n m p)
-    lanes m p (inr ne) = subst (IsLane n.cells (IsInLane n.rows m p)) (sym (others m p ne))
-        (lane_same k.cells n.cells (IsInLane n.rows m p) (lane k m p) slot c (had m p) up vacant (λ b. ne (sym b.0, sym b.1 ∙ ap (λ x. place_at n.rows x c.row) (sym b.0))))
+    lanes : (m : Mode) (p : ℕ) → ((m ≡ c.mode) × (p ≡ place_at (links n.rows) c.mode c.row)) ⊎ ¬ ((m ≡ c.mode) × (p ≡ place_at (links n.rows) c.mode c.row)) → IsLane n.cells (IsInLane (links n.rows) m p) (lane n m p)
+    lanes m p (inr ne) = subst (IsLane n.cells (IsInLane (links n.rows) m p)) (sym (others m p ne))
+        (lane_same k.cells n.cells (IsInLane (links n.rows) m p) (lane k m p) slot c (had m p) up vacant (λ b. ne (sym b.0, sym b.1 ∙ ap (λ x. place_at (links n.rows) x c.row) (sym b.0))))
     lanes m p (inl b) =
-        subst (λ x. IsLane n.cells (IsInLane n.rows x p) (lane n x p)) (sym b.0)
-        (subst (λ q. IsLane n.cells (IsInLane n.rows c.mode q) (lane n c.mode q)) (sym b.1)
-        (subst (IsLane n.cells (IsInLane n.rows c.mode (place_at n.rows c.mode c.row))) (sym changed)
-        (lane_more k.cells n.cells (IsInLane n.rows c.mode (place_at n.rows c.mode c.row)) (lane k c.mode (place_at n.rows c.mode c.row)) slot c
-        (had c.mode (place_at n.rows c.mode c.row)) up vacant (refl, refl) (all_below c.mode (place_at n.rows c.mode c.row)))))
+        subst (λ x. IsLane n.cells (IsInLane (links n.rows) x p) (lane n x p)) (sym b.0)
+        (subst (λ q. IsLane n.cells (IsInLane (links n.rows) c.mode q) (lane n c.mode q)) (sym b.1)
+        (subst (IsLane n.cells (IsInLane (links n.rows) c.mode (place_at (links n.rows) c.mode c.row))) (sym changed)
+        (lane_more k.cells n.cells (IsInLane (links n.rows) c.mode (place_at (links n.rows) c.mode c.row)) (lane k c.mode (place_at (links n.rows) c.mode c.row)) slot c
+        (had c.mode (place_at (links n.rows) c.mode c.row)) up vacant (refl, refl) (all_below c.mode (place_at (links n.rows) c.mode c.row)))))
 
 -- a cell was taken out, and its mark out of its lane
-pub kept_removed : (k n : Kept) (slot : ℕ) (c : Cell) → AreQueuesKept k → n.rows ≡ k.rows → get k.cells slot ≡ Some c → Updates k.cells n.cells slot None → n.next_number ≡ k.next_number
-    → lane n c.mode (place_at k.rows c.mode c.row) ≡ filter (λ m. not (m.number == c.number)) (lane k c.mode (place_at k.rows c.mode c.row))
-    → ((m : Mode) (p : ℕ) → ¬ ((m ≡ c.mode) × (p ≡ place_at k.rows c.mode c.row)) → lane n m p ≡ lane k m p) → AreRowsListed n → AreQueuesKept n
+pub kept_removed : (k n : Kept) (slot : ℕ) (c : Cell) → AreQueuesKept k → (links n.rows) ≡ (links k.rows) → get k.cells slot ≡ Some c → Updates k.cells n.cells slot None → n.next_number ≡ k.next_number
+    → lane n c.mode (place_at (links k.rows) c.mode c.row) ≡ filter (λ m. not (m.number == c.number)) (lane k c.mode (place_at (links k.rows) c.mode c.row))
+    → ((m : Mode) (p : ℕ) → ¬ ((m ≡ c.mode) × (p ≡ place_at (links k.rows) c.mode c.row)) → lane n m p ≡ lane k m p) → AreRowsListed n → AreQueuesKept n
 kept_removed k n slot c kept rows there up next changed others used = record {
   linked = subst AreRowsLinked (sym rows) kept.linked;
   first = subst (λ i. 0 < i) (sym next) kept.first;
   last = subst (λ i. i < 2 ^ 64) (sym next) kept.last;
   counted = λ s d e. let b = kept.counted s d (old s d e) in (b.0, subst (λ i. d.number < i) (sym next) b.1);
   alone = λ s t d x e f g. kept.alone s t d x (old s d e) (old t x f) g;
-  known = λ s d e. subst (λ (r : Rows). d.row < length r.names.keys) (sym rows) (kept.known s d (old s d e));
-  lanes = λ m p. subst (λ (r : Rows). IsLane n.cells (IsInLane r m p) (lane n m p)) (sym rows) (lanes m p (either_place m c.mode p (place_at k.rows c.mode c.row)));
+  known = λ s d e. subst (λ (r : Links). d.row < length r.names) (sym rows) (kept.known s d (old s d e));
+  lanes = λ m p. subst (λ (r : Links). IsLane n.cells (IsInLane r m p) (lane n m p)) (sym rows) (lanes m p (either_place m c.mode p (place_at (links k.rows) c.mode c.row)));
   listed = used;
 }
   where
     old : (s : ℕ) (d : Cell) → get n.cells s ≡ Some d → get k.cells s ≡ Some d
     old s d e = sym (up.others s (λ f. none-some d (sym up.changed ∙ ap (get n.cells) (sym f) ∙ e))) ∙ e
 
-    lanes : (m : Mode) (p : ℕ) → ((m ≡ c.mode) × (p ≡ place_at k.rows c.mode c.row)) ⊎ ¬ ((m ≡ c.mode) × (p ≡ place_at k.rows c.mode c.row)) → IsLane n.cells (IsInLane k.rows m p) (lane n m p)
-    lanes m p (inr ne) = subst (IsLane n.cells (IsInLane k.rows m p)) (sym (others m p ne))
-        (lane_kept k.cells n.cells (IsInLane k.rows m p) (lane k m p) slot c (kept.lanes m p) there (λ b. ne (sym b.0, sym b.1 ∙ ap (λ x. place_at k.rows x c.row) (sym b.0))) up)
+    lanes : (m : Mode) (p : ℕ) → ((m ≡ c.mode) × (p ≡ place_at (links k.rows) c.mode c.row)) ⊎ ¬ ((m ≡ c.mode) × (p ≡ place_at (links k.rows) c.mode c.row)) → IsLane n.cells (IsInLane (links k.rows) m p) (lane n m p)
+    lanes m p (inr ne) = subst (IsLane n.cells (IsInLane (links k.rows) m p)) (sym (others m p ne))
+        (lane_kept k.cells n.cells (IsInLane (links k.rows) m p) (lane k m p) slot c (kept.lanes m p) there (λ b. ne (sym b.0, sym b.1 ∙ ap (λ x. place_at (links k.rows) x c.row) (sym b.0))) up)
     lanes m p (inl b) =
-        subst (λ x. IsLane n.cells (IsInLane k.rows x p) (lane n x p)) (sym b.0)
-        (subst (λ q. IsLane n.cells (IsInLane k.rows c.mode q) (lane n c.mode q)) (sym b.1)
-        (subst (IsLane n.cells (IsInLane k.rows c.mode (place_at k.rows c.mode c.row))) (sym changed)
-        (lane_less k.cells n.cells (IsInLane k.rows c.mode (place_at k.rows c.mode c.row)) (lane k c.mode (place_at k.rows c.mode c.row)) slot c
-        (kept.lanes c.mode (place_at k.rows c.mode c.row)) kept.alone there up)))
+        subst (λ x. IsLane n.cells (IsInLane (links k.rows) x p) (lane n x p)) (sym b.0)
+        (subst (λ q. IsLane n.cells (IsInLane (links k.rows) c.mode q) (lane n c.mode q)) (sym b.1)
+        (subst (IsLane n.cells (IsInLane (links k.rows) c.mode (place_at (links k.rows) c.mode c.row))) (sym changed)
+        (lane_less k.cells n.cells (IsInLane (links k.rows) c.mode (place_at (links k.rows) c.mode c.row)) (lane k c.mode (place_at (links k.rows) c.mode c.row)) slot c
+        (kept.lanes c.mode (place_at (links k.rows) c.mode c.row)) kept.alone there up)))
 
 -- ---- steps of the code
 
-pub none_kept : (k : Kept) → AreRowsLinked k.rows → k.cells.slots ≡ [] → k.uses.items ≡ [] → k.wholes.items ≡ []
+pub none_kept : (k : Kept) → AreRowsLinked (links k.rows) → k.cells.slots ≡ [] → k.rows.table.items ≡ [] → k.wholes.items ≡ []
     → k.listed ≡ [] → 0 < k.next_number → k.next_number < 2 ^ 64 → AreQueuesKept k
-none_kept k linked slots uses wholes used first last = record {
+none_kept k linked slots table wholes used first last = record {
   linked = linked;
   first = first;
   last = last;
   counted = λ s c e. absurd (none s c e);
   alone = λ s t c d e f g. absurd (none s c e);
   known = λ s c e. absurd (none s c e);
-  lanes = λ m p. subst (IsLane k.cells (IsInLane k.rows m p)) (sym (empty m p)) (record { numbered = tt; members = λ x. (λ h. absurd h, λ r. absurd (none x.slot r.0 r.1)) });
+  lanes = λ m p. subst (IsLane k.cells (IsInLane (links k.rows) m p)) (sym (empty m p)) (record { numbered = tt; members = λ x. (λ h. absurd h, λ r. absurd (none x.slot r.0 r.1)) });
   listed = record {
     own = λ g row h. absurd (subst (λ l. Has (get_or l g []) row) used h);
     used = λ row u. absurd (elim u.1 [ inl h ↦ subst (λ l. Has l u.0) (empty Read row) h | inr h ↦ subst (λ l. Has l u.0) (empty Write row) h ]);
@@ -273,8 +274,8 @@ none_kept k linked slots uses wholes used first last = record {
     none s c e = none-some c (subst (λ l. slice_index_or l s None ≡ Some c) slots e)
 
     empty : (m : Mode) (p : ℕ) → lane k m p ≡ []
-    empty Read p = ap (λ l. get_or (reads_of l) p []) uses
-    empty Write p = ap (λ l. get_or (writes_of l) p []) uses
+    empty Read p = ap (λ l. get_or (reads_of l) p []) table
+    empty Write p = ap (λ l. get_or (writes_of l) p []) table
     empty Whole p = ap (λ l. get_or l p []) wholes
 
 -- all marks have numbers that were given
@@ -283,12 +284,16 @@ all_before k kept m p = all_put _ (lane k m p) (λ x h. let r = ((kept.lanes m p
     let v : x.number ≡ r.0.number = ap (λ (y : Mark). y.number) r.3 in
     omega (arith, v, (kept.counted x.slot r.0 r.1).1))
 
+-- rows have their names and granules as before
+pub links_same : (r : Rows) (g : List ℕ) → g ≡ granules_of r.table.items → record { names = r.names.keys; granules = r.granules.keys; granule_of = g } ≡ links r
+links_same r g e = ap (λ (x : List ℕ). record { names = r.names.keys; granules = r.granules.keys; granule_of = x }) e
+
 -- one lane was changed
-pub changed_read : (old new : Kept) (f : List Mark → List Mark) (mode : Mode) (row : ℕ) → mode ≡ Read → ChangesLane (reads_of old.uses.items) row (f (get_or (reads_of old.uses.items) row [])) (reads_of new.uses.items)
-    → new.rows ≡ old.rows → new.listed ≡ old.listed → new.cells ≡ old.cells → new.next_number ≡ old.next_number → SameLanes (writes_of old.uses.items) (writes_of new.uses.items) → new.wholes ≡ old.wholes
-    → ChangesLaneOf old mode (place_at old.rows mode row) (f (lane old mode (place_at old.rows mode row))) new
+pub changed_read : (old new : Kept) (f : List Mark → List Mark) (mode : Mode) (row : ℕ) → mode ≡ Read → ChangesLane (reads_of old.rows.table.items) row (f (get_or (reads_of old.rows.table.items) row [])) (reads_of new.rows.table.items)
+    → (links new.rows) ≡ (links old.rows) → new.listed ≡ old.listed → new.cells ≡ old.cells → new.next_number ≡ old.next_number → SameLanes (writes_of old.rows.table.items) (writes_of new.rows.table.items) → new.wholes ≡ old.wholes
+    → ChangesLaneOf old mode (place_at (links old.rows) mode row) (f (lane old mode (place_at (links old.rows) mode row))) new
 changed_read old new f mode row is change rows used cells number writes wholes =
-    subst (λ m. ChangesLaneOf old m (place_at old.rows m row) (f (lane old m (place_at old.rows m row))) new) (sym is)
+    subst (λ m. ChangesLaneOf old m (place_at (links old.rows) m row) (f (lane old m (place_at (links old.rows) m row))) new) (sym is)
     (record { changed = change.changed; others = λ m p ne. other m p ne; rows = rows; listed = used; cells = cells; number = number })
   where
     other : (m : Mode) (p : ℕ) → ¬ ((m ≡ Read) × (p ≡ row)) → lane new m p ≡ lane old m p
@@ -296,11 +301,11 @@ changed_read old new f mode row is change rows used cells number writes wholes =
     other Write p ne = writes p
     other Whole p ne = ap (λ l. get_or l.items p []) wholes
 
-pub changed_write : (old new : Kept) (f : List Mark → List Mark) (mode : Mode) (row : ℕ) → mode ≡ Write → ChangesLane (writes_of old.uses.items) row (f (get_or (writes_of old.uses.items) row [])) (writes_of new.uses.items)
-    → new.rows ≡ old.rows → new.listed ≡ old.listed → new.cells ≡ old.cells → new.next_number ≡ old.next_number → SameLanes (reads_of old.uses.items) (reads_of new.uses.items) → new.wholes ≡ old.wholes
-    → ChangesLaneOf old mode (place_at old.rows mode row) (f (lane old mode (place_at old.rows mode row))) new
+pub changed_write : (old new : Kept) (f : List Mark → List Mark) (mode : Mode) (row : ℕ) → mode ≡ Write → ChangesLane (writes_of old.rows.table.items) row (f (get_or (writes_of old.rows.table.items) row [])) (writes_of new.rows.table.items)
+    → (links new.rows) ≡ (links old.rows) → new.listed ≡ old.listed → new.cells ≡ old.cells → new.next_number ≡ old.next_number → SameLanes (reads_of old.rows.table.items) (reads_of new.rows.table.items) → new.wholes ≡ old.wholes
+    → ChangesLaneOf old mode (place_at (links old.rows) mode row) (f (lane old mode (place_at (links old.rows) mode row))) new
 changed_write old new f mode row is change rows used cells number reads wholes =
-    subst (λ m. ChangesLaneOf old m (place_at old.rows m row) (f (lane old m (place_at old.rows m row))) new) (sym is)
+    subst (λ m. ChangesLaneOf old m (place_at (links old.rows) m row) (f (lane old m (place_at (links old.rows) m row))) new) (sym is)
     (record { changed = change.changed; others = λ m p ne. other m p ne; rows = rows; listed = used; cells = cells; number = number })
   where
     other : (m : Mode) (p : ℕ) → ¬ ((m ≡ Write) × (p ≡ row)) → lane new m p ≡ lane old m p
@@ -308,24 +313,24 @@ changed_write old new f mode row is change rows used cells number reads wholes =
     other Write p ne = change.others p (λ e. ne (refl, e))
     other Whole p ne = ap (λ l. get_or l.items p []) wholes
 
-pub changed_whole : (old new : Kept) (f : List Mark → List Mark) (mode : Mode) (row g : ℕ) → mode ≡ Whole → g ≡ granule_at old.rows row → ChangesLane old.wholes.items g (f (get_or old.wholes.items g [])) new.wholes.items
-    → new.rows ≡ old.rows → new.listed ≡ old.listed → new.cells ≡ old.cells → new.next_number ≡ old.next_number → new.uses ≡ old.uses
-    → ChangesLaneOf old mode (place_at old.rows mode row) (f (lane old mode (place_at old.rows mode row))) new
-changed_whole old new f mode row g is same change rows used cells number uses =
-    subst (λ m. ChangesLaneOf old m (place_at old.rows m row) (f (lane old m (place_at old.rows m row))) new) (sym is)
+pub changed_whole : (old new : Kept) (f : List Mark → List Mark) (mode : Mode) (row g : ℕ) → mode ≡ Whole → g ≡ granule_at (links old.rows) row → ChangesLane old.wholes.items g (f (get_or old.wholes.items g [])) new.wholes.items
+    → (links new.rows) ≡ (links old.rows) → new.listed ≡ old.listed → new.cells ≡ old.cells → new.next_number ≡ old.next_number → new.rows.table ≡ old.rows.table
+    → ChangesLaneOf old mode (place_at (links old.rows) mode row) (f (lane old mode (place_at (links old.rows) mode row))) new
+changed_whole old new f mode row g is same change rows used cells number table =
+    subst (λ m. ChangesLaneOf old m (place_at (links old.rows) m row) (f (lane old m (place_at (links old.rows) m row))) new) (sym is)
     (record { changed = moved.changed; others = λ m p ne. other m p ne; rows = rows; listed = used; cells = cells; number = number })
   where
-    moved : ChangesLane old.wholes.items (granule_at old.rows row) (f (get_or old.wholes.items (granule_at old.rows row) [])) new.wholes.items
+    moved : ChangesLane old.wholes.items (granule_at (links old.rows) row) (f (get_or old.wholes.items (granule_at (links old.rows) row) [])) new.wholes.items
     moved = subst (λ i. ChangesLane old.wholes.items i (f (get_or old.wholes.items i [])) new.wholes.items) same change
 
-    other : (m : Mode) (p : ℕ) → ¬ ((m ≡ Whole) × (p ≡ granule_at old.rows row)) → lane new m p ≡ lane old m p
-    other Read p ne = ap (λ l. get_or (reads_of l.items) p []) uses
-    other Write p ne = ap (λ l. get_or (writes_of l.items) p []) uses
+    other : (m : Mode) (p : ℕ) → ¬ ((m ≡ Whole) × (p ≡ granule_at (links old.rows) row)) → lane new m p ≡ lane old m p
+    other Read p ne = ap (λ l. get_or (reads_of l.items) p []) table
+    other Write p ne = ap (λ l. get_or (writes_of l.items) p []) table
     other Whole p ne = moved.others p (λ e. ne (refl, e))
 
 -- no lane was changed
-pub keeps_lanes : (old new : Kept) → SameLanes (reads_of old.uses.items) (reads_of new.uses.items) → SameLanes (writes_of old.uses.items) (writes_of new.uses.items) → SameLanes old.wholes.items new.wholes.items
-    → new.rows ≡ old.rows → new.listed ≡ old.listed → new.cells ≡ old.cells → new.next_number ≡ old.next_number → KeepsLanes old new
+pub keeps_lanes : (old new : Kept) → SameLanes (reads_of old.rows.table.items) (reads_of new.rows.table.items) → SameLanes (writes_of old.rows.table.items) (writes_of new.rows.table.items) → SameLanes old.wholes.items new.wholes.items
+    → (links new.rows) ≡ (links old.rows) → new.listed ≡ old.listed → new.cells ≡ old.cells → new.next_number ≡ old.next_number → KeepsLanes old new
 keeps_lanes old new reads writes wholes rows used cells number = record { lanes = λ m p. same m p; rows = rows; listed = used; cells = cells; number = number }
   where
     same : (m : Mode) (p : ℕ) → lane new m p ≡ lane old m p

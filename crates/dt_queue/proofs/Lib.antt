@@ -1,6 +1,6 @@
 pub mod Marks
 pub mod OneLane
-pub mod UsesLanes
+pub mod TableLanes
 pub mod NearMarks
 pub mod RowsNear
 pub mod InOrder

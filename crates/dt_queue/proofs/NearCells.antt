@@ -16,7 +16,7 @@ use Rattle.dt_queue.specs.declared.kept.Kept.{Kept}
 use Rattle.dt_queue.specs.KeptInner.{CellsClash, AreQueuesKept, HasOneNear, IsNearInMode, IsNearMark, IsNearOf, lane, mark_of}
 use Rattle.dt_queue.specs.LanesInner.{AreMarks, HasRisingNumbers, IsBetween, IsLastBetween, IsLastIn, IsNearInRow, is_between, number_or}
 use Rattle.dt_queue.specs.ListedInner.{rows_at}
-use Rattle.dt_queue.specs.RowsInner.{granule_at}
+use Rattle.dt_queue.specs.RowsInner.{granule_at, links}
 use Rattle.dt_queue.proofs.NearMarks.{AreLanesOfRow, either_between, in_between, near_reads, near_write, row_of, same_mark, trichotomy}
 use Rattle.dt_queue.proofs.CellUses.{InUseOf, IsMarkOf, IsNarrow, apart_lanes, cell_in_row, cell_of, clash_turned, clash_uses, lane_tells, one_use}
 use Rattle.dt_queue.proofs.CellUses.{number_of_mark, on_one_row, one_cell, one_granule, narrow_cell, reads_agree, taker_of, use_clashes, whole_clashes, write_clashes}
@@ -62,13 +62,13 @@ row_empty reads writes low high row none m b h = by (last_there low high writes 
 
 -- nothing in use after a mark clashes with it
 abbrev pub IsClearAfter : Mode → Kept → Cell → Mark → Cell → Type 0
-IsClearAfter mode k x m c = (j : Mark) (d : Cell) → IsMarkOf k j d → InUseOf mode k x.row j → m.number < j.number → j.number < x.number → ¬ (CellsClash k.rows c d)
+IsClearAfter mode k x m c = (j : Mark) (d : Cell) → IsMarkOf k j d → InUseOf mode k x.row j → m.number < j.number → j.number < x.number → ¬ (CellsClash (links k.rows) c d)
 
 clear_row : (k : Kept) → AreQueuesKept k → (x : Cell) (row low : ℕ) (m : Mark) (c : Cell) → IsMarkOf k m c → IsNearInRow (lane k Read row) (lane k Write row) low x.number m
-    → (j : Mark) (d : Cell) → IsMarkOf k j d → Has (lane k Read row) j ⊎ Has (lane k Write row) j → m.number < j.number → j.number < x.number → ¬ (CellsClash k.rows c d)
+    → (j : Mark) (d : Cell) → IsMarkOf k j d → Has (lane k Read row) j ⊎ Has (lane k Write row) j → m.number < j.number → j.number < x.number → ¬ (CellsClash (links k.rows) c d)
 clear_row k kept x row low m c a near j d b used lt le clash = elim near.1 [
   | inl read ↦ elim used [
-    | inl r ↦ reads_agree k.rows c d (lane_tells k kept Read row m c a read.0).0 (lane_tells k kept Read row j d b r).0 clash
+    | inl r ↦ reads_agree (links k.rows) c d (lane_tells k kept Read row m c a read.0).0 (lane_tells k kept Read row j d b r).0 clash
     | inr w ↦ read.1 j w (lt, le)
   ]
   | inr write ↦ elim used [ inl r ↦ write.2 j r (lt, le) | inr w ↦ write.1 j w (lt, le) ]
@@ -79,23 +79,23 @@ pub near_is_clear : (mode : Mode) (k : Kept) → AreQueuesKept k → (x : Cell) 
 near_is_clear Read k kept x low m c a near = (near.0, near.1, λ j d b used lt le clash. near.2 j used (lt, le))
 near_is_clear Write k kept x low m c a near = (one_use near.1, near.0, λ j d b used lt le clash. clear_row k kept x x.row low m c a near j d b used lt le clash)
 near_is_clear Whole k kept x low m c a near =
-    let r = any_get (λ row. IsNearInRow (lane k Read row) (lane k Write row) low x.number m) (rows_at k.listed (granule_at k.rows x.row)) near in (
-      any_put (λ row. Has (lane k Read row) m ⊎ Has (lane k Write row) m) (rows_at k.listed (granule_at k.rows x.row)) r.0 r.1 (one_use r.2.1),
+    let r = any_get (λ row. IsNearInRow (lane k Read row) (lane k Write row) low x.number m) (rows_at k.listed (granule_at (links k.rows) x.row)) near in (
+      any_put (λ row. Has (lane k Read row) m ⊎ Has (lane k Write row) m) (rows_at k.listed (granule_at (links k.rows) x.row)) r.0 r.1 (one_use r.2.1),
       r.2.0,
-      λ j d b used lt le clash. clear r.0 r.2 j d b (any_get (λ row. Has (lane k Read row) j ⊎ Has (lane k Write row) j) (rows_at k.listed (granule_at k.rows x.row)) used) lt le clash,
+      λ j d b used lt le clash. clear r.0 r.2 j d b (any_get (λ row. Has (lane k Read row) j ⊎ Has (lane k Write row) j) (rows_at k.listed (granule_at (links k.rows) x.row)) used) lt le clash,
     )
   where
     clear : (row : ℕ) → IsNearInRow (lane k Read row) (lane k Write row) low x.number m → (j : Mark) (d : Cell) → IsMarkOf k j d
-        → (s : ℕ) × Has (rows_at k.listed (granule_at k.rows x.row)) s × (Has (lane k Read s) j ⊎ Has (lane k Write s) j) → m.number < j.number → j.number < x.number → ¬ (CellsClash k.rows c d)
+        → (s : ℕ) × Has (rows_at k.listed (granule_at (links k.rows) x.row)) s × (Has (lane k Read s) j ⊎ Has (lane k Write s) j) → m.number < j.number → j.number < x.number → ¬ (CellsClash (links k.rows) c d)
     clear row near j d b s lt le clash =
         let p = narrow_cell k kept row m c a (one_use near.1) in
         let q = narrow_cell k kept s.0 j d b s.2 in
-        let one : s.0 ≡ row = sym q.1 ∙ sym (on_one_row k.rows c d p.0 q.0 clash) ∙ p.1 in
+        let one : s.0 ≡ row = sym q.1 ∙ sym (on_one_row (links k.rows) c d p.0 q.0 clash) ∙ p.1 in
         clear_row k kept x row low m c a near j d b (subst (λ r. Has (lane k Read r) j ⊎ Has (lane k Write r) j) one s.2) lt le clash
 
 -- and the other way round
 near_in_row : (k : Kept) → AreQueuesKept k → (x : Cell) (row low : ℕ) (m : Mark) (c : Cell) → IsMarkOf k m c → Has (lane k Read row) m ⊎ Has (lane k Write row) m → IsBetween low x.number m
-    → ((j : Mark) (d : Cell) → IsMarkOf k j d → Has (lane k Read row) j ⊎ Has (lane k Write row) j → m.number < j.number → j.number < x.number → ¬ (CellsClash k.rows c d))
+    → ((j : Mark) (d : Cell) → IsMarkOf k j d → Has (lane k Read row) j ⊎ Has (lane k Write row) j → m.number < j.number → j.number < x.number → ¬ (CellsClash (links k.rows) c d))
     → IsNearInRow (lane k Read row) (lane k Write row) low x.number m
 near_in_row k kept x row low m c a (inl r) b clear = (b, inl (r, λ j w e. meets j w e))
   where
@@ -103,14 +103,14 @@ near_in_row k kept x row low m c a (inl r) b clear = (b, inl (r, λ j w e. meets
     meets j w e =
         let d = cell_of k kept Write row j w in
         let q = lane_tells k kept Read row m c a r in
-        clear j d.0 d.1 (inr w) e.0 e.1 (clash_turned k.rows d.0 c (write_clashes k.rows d.0 c d.2.0 (d.2.1 ∙ sym q.1)))
+        clear j d.0 d.1 (inr w) e.0 e.1 (clash_turned (links k.rows) d.0 c (write_clashes (links k.rows) d.0 c d.2.0 (d.2.1 ∙ sym q.1)))
 near_in_row k kept x row low m c a (inr w) b clear = (b, inr (w, (λ j h e. meets Write j h (inr h) e), (λ j h e. meets Read j h (inl h) e)))
   where
     meets : (mode : Mode) (j : Mark) → Has (lane k mode row) j → Has (lane k Read row) j ⊎ Has (lane k Write row) j → IsBetween m.number x.number j → ⊥
     meets mode j h used e =
         let d = cell_in_row k kept row j used in
         let q = lane_tells k kept Write row m c a w in
-        clear j d.0 d.1 used e.0 e.1 (write_clashes k.rows c d.0 q.0 (q.1 ∙ sym d.2))
+        clear j d.0 d.1 used e.0 e.1 (write_clashes (links k.rows) c d.0 q.0 (q.1 ∙ sym d.2))
 
 pub clear_is_near : (mode : Mode) (k : Kept) → AreQueuesKept k → (x : Cell) (low : ℕ) (m : Mark) (c : Cell) → IsMarkOf k m c → InUseOf mode k x.row m → IsBetween low x.number m → IsClearAfter mode k x m c
     → IsNearOf mode k x.row low x.number m
@@ -120,10 +120,10 @@ clear_is_near Read k kept x low m c a used b clear = (used, b, λ j w e. meets j
     meets j w e =
         let d = cell_of k kept Write x.row j w in
         let q = lane_tells k kept Write x.row m c a used in
-        clear j d.0 d.1 w e.0 e.1 (write_clashes k.rows c d.0 q.0 (q.1 ∙ sym d.2.1))
+        clear j d.0 d.1 w e.0 e.1 (write_clashes (links k.rows) c d.0 q.0 (q.1 ∙ sym d.2.1))
 clear_is_near Write k kept x low m c a used b clear = near_in_row k kept x x.row low m c a used b clear
 clear_is_near Whole k kept x low m c a used b clear =
-    let rows = rows_at k.listed (granule_at k.rows x.row) in
+    let rows = rows_at k.listed (granule_at (links k.rows) x.row) in
     let r = any_get (λ row. Has (lane k Read row) m ⊎ Has (lane k Write row) m) rows used in
     any_put (λ row. IsNearInRow (lane k Read row) (lane k Write row) low x.number m) rows r.0 r.1
     (near_in_row k kept x r.0 low m c a r.2 b (λ j d f u lt le. clear j d f (any_put (λ row. Has (lane k Read row) j ⊎ Has (lane k Write row) j) rows r.0 r.1 u) lt le))
@@ -140,16 +140,16 @@ none_in_use Read k kept x low none m used b = by (last_there low x.number (lane 
         after j le lt = omega (arith, le, lt)
 none_in_use Write k kept x low none m used b = row_empty (lane k Read x.row) (lane k Write x.row) low x.number (row_of _ _ (apart_lanes k kept) x.row) none m b used
 none_in_use Whole k kept x low none m used b =
-    let rows = rows_at k.listed (granule_at k.rows x.row) in
+    let rows = rows_at k.listed (granule_at (links k.rows) x.row) in
     let r = any_get (λ row. Has (lane k Read row) m ⊎ Has (lane k Write row) m) rows used in
     row_empty (lane k Read r.0) (lane k Write r.0) low x.number (row_of _ _ (apart_lanes k kept) r.0)
     (λ j near. none j (any_put (λ row. IsNearInRow (lane k Read row) (lane k Write row) low x.number j) rows r.0 r.1 near)) m b r.2
 
 -- ---- the nearest cells before a cell
 
-module _ (k : Kept) (kept : AreQueuesKept k) (x : Cell) (o : Option Mark) (last : IsLastBetween 0 x.number (lane k Whole (granule_at k.rows x.row)) o) where
+module _ (k : Kept) (kept : AreQueuesKept k) (x : Cell) (o : Option Mark) (last : IsLastBetween 0 x.number (lane k Whole (granule_at (links k.rows) x.row)) o) where
   abbrev taken : List Mark
-  taken = lane k Whole (granule_at k.rows x.row)
+  taken = lane k Whole (granule_at (links k.rows) x.row)
 
   -- what takes the granule stands not after the last that does
   not_later : (m : Mark) (c : Cell) → IsMarkOf k m c → Has taken m → m.number < x.number → m.number ≤ number_or o 0
@@ -163,8 +163,8 @@ module _ (k : Kept) (kept : AreQueuesKept k) (x : Cell) (o : Option Mark) (last 
       by (Some w) l = l.2 m h (positive, lt)
 
   -- a near mark that is in use stands after the last that takes the granule
-  later : (m : Mark) (c : Cell) → IsMarkOf k m c → IsNarrow c.mode → CellsClash k.rows c x → m.number < x.number
-      → ((t : ℕ) (d : Cell) → get k.cells t ≡ Some d → c.number < d.number → d.number < x.number → CellsClash k.rows c d → ¬ (CellsClash k.rows d x)) → number_or o 0 < m.number
+  later : (m : Mark) (c : Cell) → IsMarkOf k m c → IsNarrow c.mode → CellsClash (links k.rows) c x → m.number < x.number
+      → ((t : ℕ) (d : Cell) → get k.cells t ≡ Some d → c.number < d.number → d.number < x.number → CellsClash (links k.rows) c d → ¬ (CellsClash (links k.rows) d x)) → number_or o 0 < m.number
   later m c a part clash lt free = by o last
     where
       positive : 0 < m.number
@@ -173,14 +173,14 @@ module _ (k : Kept) (kept : AreQueuesKept k) (x : Cell) (o : Option Mark) (last 
       by : (o : Option Mark) → IsLastBetween 0 x.number taken o → number_or o 0 < m.number
       by None l = positive
       by (Some w) l =
-          let d = cell_of k kept Whole (granule_at k.rows x.row) w l.0 in
+          let d = cell_of k kept Whole (granule_at (links k.rows) x.row) w l.0 in
           elim (trichotomy w.number m.number) [
             | inl less ↦ less
             | inr more ↦ absurd (elim more [
               | inl e ↦ differ d.0 d.2.0 (one_cell k kept w m d.0 c d.1 a e)
               | inr gt ↦ free w.slot d.0 d.1.there (up d.0 d.1 gt) (below d.0 d.1 l.1.1)
-                  (clash_turned k.rows d.0 c (whole_clashes k.rows d.0 c d.2.0 (d.2.1 ∙ sym (one_granule k.rows c x clash))))
-                  (whole_clashes k.rows d.0 x d.2.0 d.2.1)
+                  (clash_turned (links k.rows) d.0 c (whole_clashes (links k.rows) d.0 c d.2.0 (d.2.1 ∙ sym (one_granule (links k.rows) c x clash))))
+                  (whole_clashes (links k.rows) d.0 x d.2.0 d.2.1)
             ])
           ]
         where
@@ -208,7 +208,7 @@ module _ (k : Kept) (kept : AreQueuesKept k) (x : Cell) (o : Option Mark) (last 
       near_cell Read n = let d = cell_of k kept Write x.row m n.0 in (d.0, d.1)
       near_cell Write n = let d = cell_in_row k kept x.row m (one_use n.1) in (d.0, d.1)
       near_cell Whole n =
-          let r = any_get (λ row. IsNearInRow (lane k Read row) (lane k Write row) (number_or o 0) x.number m) (rows_at k.listed (granule_at k.rows x.row)) n in
+          let r = any_get (λ row. IsNearInRow (lane k Read row) (lane k Write row) (number_or o 0) x.number m) (rows_at k.listed (granule_at (links k.rows) x.row)) n in
           let d = cell_in_row k kept r.0 m (one_use r.2.1) in
           (d.0, d.1)
 
@@ -216,7 +216,7 @@ module _ (k : Kept) (kept : AreQueuesKept k) (x : Cell) (o : Option Mark) (last 
       below c a lt = omega (arith, lt, number_of_mark k m c a)
 
       free : (c : Cell) → IsMarkOf k m c → number_or o 0 < m.number → IsClearAfter x.mode k x m c
-          → (t : ℕ) (d : Cell) → get k.cells t ≡ Some d → c.number < d.number → d.number < x.number → CellsClash k.rows c d → ¬ (CellsClash k.rows d x)
+          → (t : ℕ) (d : Cell) → get k.cells t ≡ Some d → c.number < d.number → d.number < x.number → CellsClash (links k.rows) c d → ¬ (CellsClash (links k.rows) d x)
       free c a low clear t d e lt le clash other =
           let b : IsMarkOf k (mark_of t d) d = record { there = e; is = refl } in
           elim (clash_uses x.mode k kept x refl (mark_of t d) d b other d.mode refl) [
@@ -261,7 +261,7 @@ module _ (k : Kept) (kept : AreQueuesKept k) (x : Cell) (o : Option Mark) (last 
           let clear = near_is_clear x.mode k kept x (number_or o 0) r d b ((marks.members r).0 here) in
           let t = taker_of k kept x m c a h in
           n.5 r.slot d near.1 (up c a d b (not_later m c a h (omega (arith, n.3, number_of_mark k m c a))) clear.1.0) near.3
-          (whole_clashes k.rows c d t.0 (t.1 ∙ sym (one_granule k.rows d x near.4))) near.4
+          (whole_clashes (links k.rows) c d t.0 (t.1 ∙ sym (one_granule (links k.rows) d x near.4))) near.4
         where
           up : (c : Cell) → IsMarkOf k m c → (d : Cell) → IsMarkOf k r d → m.number ≤ number_or o 0 → number_or o 0 < r.number → c.number < d.number
           up c a d b le lt = omega (arith, le, lt, number_of_mark k m c a, number_of_mark k r d b)
@@ -286,13 +286,13 @@ module _ (k : Kept) (kept : AreQueuesKept k) (x : Cell) (o : Option Mark) (last 
         where
           near_w : IsNearMark k x w
           near_w =
-              let d = cell_of k kept Whole (granule_at k.rows x.row) w l.0 in
-              (d.0, d.1.there, d.1.is, below d.0 d.1, whole_clashes k.rows d.0 x d.2.0 d.2.1, λ t y e lt le clash other. free d.0 d.1 t y e lt le other)
+              let d = cell_of k kept Whole (granule_at (links k.rows) x.row) w l.0 in
+              (d.0, d.1.there, d.1.is, below d.0 d.1, whole_clashes (links k.rows) d.0 x d.2.0 d.2.1, λ t y e lt le clash other. free d.0 d.1 t y e lt le other)
             where
               below : (d : Cell) → IsMarkOf k w d → d.number < x.number
               below d a = omega (arith, l.1.1, number_of_mark k w d a)
 
-              free : (d : Cell) → IsMarkOf k w d → (t : ℕ) (y : Cell) → get k.cells t ≡ Some y → d.number < y.number → y.number < x.number → CellsClash k.rows y x → ⊥
+              free : (d : Cell) → IsMarkOf k w d → (t : ℕ) (y : Cell) → get k.cells t ≡ Some y → d.number < y.number → y.number < x.number → CellsClash (links k.rows) y x → ⊥
               free d a t y e lt le other =
                   let b : IsMarkOf k (mark_of t y) y = record { there = e; is = refl } in
                   elim (clash_uses x.mode k kept x refl (mark_of t y) y b other y.mode refl) [
@@ -309,14 +309,14 @@ module _ (k : Kept) (kept : AreQueuesKept k) (x : Cell) (o : Option Mark) (last 
               let a : IsMarkOf k m c = record { there = n.1; is = n.2 } in
               let h = all m n in
               let t = taker_of k kept x m c a h in
-              let d = cell_of k kept Whole (granule_at k.rows x.row) w l.0 in
+              let d = cell_of k kept Whole (granule_at (links k.rows) x.row) w l.0 in
               let le : m.number ≤ w.number = l.2 m h (positive c a, omega (arith, n.3, number_of_mark k m c a)) in
-              same_mark taken (kept.lanes Whole (granule_at k.rows x.row)).numbered w m l.0 h
+              same_mark taken (kept.lanes Whole (granule_at (links k.rows) x.row)).numbered w m l.0 h
               (elim (trichotomy w.number m.number) [
                 | inl less ↦ absurd (omega (arith, less, le))
                 | inr more ↦ elim more [
                   | inl e ↦ e
-                  | inr gt ↦ absurd (n.5 w.slot d.0 d.1.there (up c a d.0 d.1 gt) (below d.0 d.1) (whole_clashes k.rows c d.0 t.0 (t.1 ∙ sym d.2.1)) (whole_clashes k.rows d.0 x d.2.0 d.2.1))
+                  | inr gt ↦ absurd (n.5 w.slot d.0 d.1.there (up c a d.0 d.1 gt) (below d.0 d.1) (whole_clashes (links k.rows) c d.0 t.0 (t.1 ∙ sym d.2.1)) (whole_clashes (links k.rows) d.0 x d.2.0 d.2.1))
                 ]
               ])
             where
@@ -347,7 +347,7 @@ one_in_mode k x low ms (inr write) last =
     subst (λ mode. AreMarks (IsNearOf mode k x.row low x.number) ms) (sym write.0) (last_in_row (lane k Read x.row) (lane k Write x.row) ms low x.number write.1 last)
 
 -- it is the one that is found, or else the last that takes the granule as a whole
-pub near_or_taker : (k : Kept) → AreQueuesKept k → (x : Cell) (o : Option Mark) → IsLastBetween 0 x.number (lane k Whole (granule_at k.rows x.row)) o
+pub near_or_taker : (k : Kept) → AreQueuesKept k → (x : Cell) (o : Option Mark) → IsLastBetween 0 x.number (lane k Whole (granule_at (links k.rows) x.row)) o
     → (w : Option Mark) → AreMarks (IsNearInMode k x (number_or o 0)) (option_to_list w) → AreMarks (IsNearMark k x) (option_to_list (option_or w o))
 near_or_taker k kept x o last None marks = near_taker k kept x o last marks
 near_or_taker k kept x o last (Some w) marks = near_marks k kept x o last (w ∷ []) w (inl refl) marks

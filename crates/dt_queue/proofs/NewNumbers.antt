@@ -13,14 +13,13 @@ use Rattle.dt_access.specs.declared.access.Mode.{Mode}
 use Rattle.dt_queue.specs.declared.cell.Cell.{Cell}
 use Rattle.dt_queue.specs.declared.mark.Mark.{Mark}
 use Rattle.dt_queue.specs.declared.kept.Kept.{Kept}
-use Rattle.dt_queue.specs.declared.rows.Rows.{Rows}
 use Rattle.dt_queue.specs.KeptInner.{AreQueuesKept, IsInLane, IsLane, entry, in_order, lane, mark_of, place_at, put_cell, waiting_of}
 use Rattle.dt_queue.specs.LanesInner.{EndsBelow, HasRisingNumbers}
 use Rattle.dt_queue.specs.NumbersInner.{AreGiven, IsBeside, IsFirstBelow, IsFirstFrom, IsGap, ShowsSame, anew, renumbered}
 use Rattle.dt_queue.specs.ListedInner.{rows_at}
-use Rattle.dt_queue.specs.RowsInner.{AreRowsLinked, KeepsRows}
+use Rattle.dt_queue.specs.RowsInner.{AreRowsLinked, KeepsRows, Links, links}
 use Rattle.dt_queue.proofs.InOrder.{AreAlone, IsListed, Rise, listed, same_list}
-use Rattle.dt_queue.proofs.LanesOfCells.{either_place, kept_same, rows_refl, same_lanes}
+use Rattle.dt_queue.proofs.LanesOfCells.{either_place, kept_same, rows_refl, same_lanes, same_self}
 use Rattle.dt_queue.proofs.RowsUsed.{rows_same, used_mapped}
 use Rattle.dt_queue.proofs.EntriesOfCells.{shown_same}
 
@@ -200,19 +199,19 @@ pub gap_in : (k : Kept) → AreQueuesKept k → (n i : ℕ) → ((s : ℕ) (d : 
 gap_in k kept n i gap m p = all_put (IsGap n i) (lane k m p) (λ x h. let r = ((kept.lanes m p).members x).0 h in
     subst (IsBeside n i) (sym (ap (λ (y : Mark). y.number) r.3)) (gap x.slot r.0 r.1))
 
-module _ (k n : Kept) (slot : ℕ) (c : Cell) (i : ℕ) (kept : AreQueuesKept k) (rows : n.rows ≡ k.rows) (there : get k.cells slot ≡ Some c) (up : Updates k.cells n.cells slot (Some (record c { number = i })))
+module _ (k n : Kept) (slot : ℕ) (c : Cell) (i : ℕ) (kept : AreQueuesKept k) (rows : (links n.rows) ≡ (links k.rows)) (there : get k.cells slot ≡ Some c) (up : Updates k.cells n.cells slot (Some (record c { number = i })))
     (le : i ≤ c.number) (gap : (s : ℕ) (d : Cell) → get k.cells s ≡ Some d → IsBeside c.number i d.number) where
-  pub kept_renumbered : n.next_number ≡ k.next_number → 0 < i → lane n c.mode (place_at k.rows c.mode c.row) ≡ map (renumbered c.number i) (lane k c.mode (place_at k.rows c.mode c.row))
-      → ((m : Mode) (p : ℕ) → ¬ ((m ≡ c.mode) × (p ≡ place_at k.rows c.mode c.row)) → lane n m p ≡ lane k m p) → n.listed ≡ k.listed → AreQueuesKept n
+  pub kept_renumbered : n.next_number ≡ k.next_number → 0 < i → lane n c.mode (place_at (links k.rows) c.mode c.row) ≡ map (renumbered c.number i) (lane k c.mode (place_at (links k.rows) c.mode c.row))
+      → ((m : Mode) (p : ℕ) → ¬ ((m ≡ c.mode) × (p ≡ place_at (links k.rows) c.mode c.row)) → lane n m p ≡ lane k m p) → n.listed ≡ k.listed → AreQueuesKept n
   kept_renumbered next positive changed others used = record {
     linked = subst AreRowsLinked (sym rows) kept.linked;
     first = subst (λ x. 0 < x) (sym next) kept.first;
     last = subst (λ x. x < 2 ^ 64) (sym next) kept.last;
     counted = λ s d e. counted s d e (either_nat s slot);
     alone = λ s t d x e f g. alone s t d x e f g (either_nat s slot) (either_nat t slot);
-    known = λ s d e. subst (λ (r : Rows). d.row < length r.names.keys) (sym rows) (known s d e (either_nat s slot));
-    lanes = λ m p. subst (λ (r : Rows). IsLane n.cells (IsInLane r m p) (lane n m p)) (sym rows) (lanes m p (either_place m c.mode p (place_at k.rows c.mode c.row)));
-    listed = rows_same k n kept (subst (KeepsRows k.rows) (sym rows) (rows_refl k.rows)) (λ g. ap (λ u. rows_at u g) used) (used_mapped k n (renumbered c.number i) c.mode (place_at k.rows c.mode c.row) changed others);
+    known = λ s d e. subst (λ (r : Links). d.row < length r.names) (sym rows) (known s d e (either_nat s slot));
+    lanes = λ m p. subst (λ (r : Links). IsLane n.cells (IsInLane r m p) (lane n m p)) (sym rows) (lanes m p (either_place m c.mode p (place_at (links k.rows) c.mode c.row)));
+    listed = rows_same k n kept (subst (KeepsRows (links k.rows)) (sym rows) (rows_refl (links k.rows))) (λ g. ap (λ u. rows_at u g) used) (used_mapped k n (renumbered c.number i) c.mode (place_at (links k.rows) c.mode c.row) changed others);
   }
     where
       is_new : (s : ℕ) (d : Cell) → s ≡ slot → get n.cells s ≡ Some d → d ≡ record c { number = i }
@@ -234,29 +233,29 @@ module _ (k n : Kept) (slot : ℕ) (c : Cell) (i : ℕ) (kept : AreQueuesKept k)
       alone s t d x e f g (inr a) (inl b) = let v : x.number ≡ i = ap (λ (y : Cell). y.number) (is_new t x b f) in absurd (apart s d a (is_old s d a e) (g ∙ v))
       alone s t d x e f g (inr a) (inr b) = kept.alone s t d x (is_old s d a e) (is_old t x b f) g
 
-      known : (s : ℕ) (d : Cell) → get n.cells s ≡ Some d → (s ≡ slot) ⊎ (s ≢ slot) → d.row < length k.rows.names.keys
-      known s d e (inl s') = subst (λ (x : Cell). x.row < length k.rows.names.keys) (sym (is_new s d s' e)) (kept.known slot c there)
+      known : (s : ℕ) (d : Cell) → get n.cells s ≡ Some d → (s ≡ slot) ⊎ (s ≢ slot) → d.row < length (links k.rows).names
+      known s d e (inl s') = subst (λ (x : Cell). x.row < length (links k.rows).names) (sym (is_new s d s' e)) (kept.known slot c there)
       known s d e (inr ne) = kept.known s d (is_old s d ne e)
 
-      lanes : (m : Mode) (p : ℕ) → ((m ≡ c.mode) × (p ≡ place_at k.rows c.mode c.row)) ⊎ ¬ ((m ≡ c.mode) × (p ≡ place_at k.rows c.mode c.row)) → IsLane n.cells (IsInLane k.rows m p) (lane n m p)
-      lanes m p (inr ne) = subst (IsLane n.cells (IsInLane k.rows m p)) (sym (others m p ne))
-          (lane_beside k.cells n.cells slot c i there up (IsInLane k.rows m p) (lane k m p) (kept.lanes m p) other other)
+      lanes : (m : Mode) (p : ℕ) → ((m ≡ c.mode) × (p ≡ place_at (links k.rows) c.mode c.row)) ⊎ ¬ ((m ≡ c.mode) × (p ≡ place_at (links k.rows) c.mode c.row)) → IsLane n.cells (IsInLane (links k.rows) m p) (lane n m p)
+      lanes m p (inr ne) = subst (IsLane n.cells (IsInLane (links k.rows) m p)) (sym (others m p ne))
+          (lane_beside k.cells n.cells slot c i there up (IsInLane (links k.rows) m p) (lane k m p) (kept.lanes m p) other other)
         where
-          other : ¬ (IsInLane k.rows m p c)
-          other b = ne (sym b.0, sym b.1 ∙ ap (λ x. place_at k.rows x c.row) (sym b.0))
+          other : ¬ (IsInLane (links k.rows) m p c)
+          other b = ne (sym b.0, sym b.1 ∙ ap (λ x. place_at (links k.rows) x c.row) (sym b.0))
       lanes m p (inl b) =
-          subst (λ x. IsLane n.cells (IsInLane k.rows x p) (lane n x p)) (sym b.0)
-          (subst (λ q. IsLane n.cells (IsInLane k.rows c.mode q) (lane n c.mode q)) (sym b.1)
-          (subst (IsLane n.cells (IsInLane k.rows c.mode (place_at k.rows c.mode c.row))) (sym changed)
-          (lane_renumbered k.cells n.cells slot c i there up (IsInLane k.rows c.mode (place_at k.rows c.mode c.row)) (lane k c.mode (place_at k.rows c.mode c.row))
-          (kept.lanes c.mode (place_at k.rows c.mode c.row)) kept.alone (refl, refl) (refl, refl) le (gap_in k kept c.number i gap c.mode (place_at k.rows c.mode c.row)))))
+          subst (λ x. IsLane n.cells (IsInLane (links k.rows) x p) (lane n x p)) (sym b.0)
+          (subst (λ q. IsLane n.cells (IsInLane (links k.rows) c.mode q) (lane n c.mode q)) (sym b.1)
+          (subst (IsLane n.cells (IsInLane (links k.rows) c.mode (place_at (links k.rows) c.mode c.row))) (sym changed)
+          (lane_renumbered k.cells n.cells slot c i there up (IsInLane (links k.rows) c.mode (place_at (links k.rows) c.mode c.row)) (lane k c.mode (place_at (links k.rows) c.mode c.row))
+          (kept.lanes c.mode (place_at (links k.rows) c.mode c.row)) kept.alone (refl, refl) (refl, refl) le (gap_in k kept c.number i gap c.mode (place_at (links k.rows) c.mode c.row)))))
 
   pub shown_renumbered : AreQueuesKept n → waiting_of n ≡ waiting_of k
   shown_renumbered later =
       let K = in_order (entries k.cells) in
       let list : in_order (entries n.cells) ≡ map (moved k.cells n.cells slot c i there up) K = same_list n.cells n.cells (in_order (entries n.cells)) (map (moved k.cells n.cells slot c i there up) K) (listed n.cells later.alone)
       (listed_renumbered k.cells n.cells slot c i there up K (listed k.cells kept.alone) kept.alone le gap) (λ s. refl) in
-      ap (λ (r : Rows). map (entry r.names.keys) (in_order (entries n.cells))) rows ∙ ap (map (entry k.rows.names.keys)) list ∙ map-map (entry k.rows.names.keys) (moved k.cells n.cells slot c i there up) K
+      ap (λ (r : Links). map (entry r.names) (in_order (entries n.cells))) rows ∙ ap (map (entry (links k.rows).names)) list ∙ map-map (entry (links k.rows).names) (moved k.cells n.cells slot c i there up) K
 
 -- ---- one after the other
 
@@ -291,7 +290,7 @@ given_few k i kept given =
     let l = listed k.cells kept.alone in
     let few : i ≤ 1 + length K = many K 1 i l.numbered (λ p h. (kept.counted p.0 p.1 ((l.members p).0 h)).0)
     (λ n le lt. let r = given n le lt in any_put (λ (p : ℕ × Cell). p.1.number ≡ n) K (r.0, r.1) ((l.members (r.0, r.1)).1 r.2) r.3) in
-    omega (arith, few, length-map K (entry k.rows.names.keys))
+    omega (arith, few, length-map K (entry (links k.rows).names))
 
 pub given_more : (a b : Slab Cell) (slot : ℕ) (c : Cell) (i : ℕ) → get a slot ≡ Some c → Updates a b slot (Some (record c { number = i })) → i ≤ c.number → AreGiven a i → AreGiven b (i + 1)
 given_more a b slot c i there up le given = λ n low high. by n (either_nat n i) low high
@@ -331,7 +330,7 @@ entries_length key (Some v ∷ rest) = omega (arith, entries_length (key + 1) re
 
 pub shown_length : (k : Kept) → length (waiting_of k) ≡ slab_len k.cells
 shown_length k =
-    length-map (in_order (entries k.cells)) (entry k.rows.names.keys) ∙ order_length (entries k.cells) ∙ entries_length 0 k.cells.slots
+    length-map (in_order (entries k.cells)) (entry (links k.rows).names) ∙ order_length (entries k.cells) ∙ entries_length 0 k.cells.slots
     ∙ is_count_by how_many is_some refl (λ x xs. refl) k.cells.slots
 
 -- ---- steps of the code
@@ -376,9 +375,9 @@ first_found k number slot limit (Some t) kept le f =
 -- room was made
 pub reserved : (k : Kept) (cells : Slab Cell) → AreQueuesKept k → cells.slots ≡ k.cells.slots → ShowsSame k (record k { cells = cells })
 reserved k cells kept slots = record {
-  kept = kept_same k (record k { cells = cells }) kept kept.linked (rows_refl k.rows) (λ s. ap (λ l. slice_index_or l s None) slots) refl (λ m p. same_lanes (record k { cells = cells }) k refl refl m p) (record { own = kept.listed.own; used = kept.listed.used });
+  kept = kept_same k (record k { cells = cells }) kept kept.linked (rows_refl (links k.rows)) (λ s. ap (λ l. slice_index_or l s None) slots) refl (λ m p. same_lanes (record k { cells = cells }) k (same_self _) (same_self _) refl m p) (record { own = kept.listed.own; used = kept.listed.used });
   rows = refl;
-  shown = shown_same k (record k { cells = cells }) kept (front_refl k.rows.names.keys) slots;
+  shown = shown_same k (record k { cells = cells }) kept (front_refl (links k.rows).names) slots;
 }
 
 pub shows_same : (a b c : Kept) → ShowsSame a b → ShowsSame b c → ShowsSame a c

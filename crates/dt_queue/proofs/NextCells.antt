@@ -16,7 +16,7 @@ use Rattle.dt_queue.specs.KeptInner.{CellsClash, AreQueuesKept, HidesFrom, IsNex
 use Rattle.dt_queue.specs.LanesInner.{HasRisingNumbers, IsBetween, IsFirstBetween, IsNextInRow, later_than, number_or}
 use Rattle.dt_queue.specs.NextInner.{IsFirstAfter, IsKnownNext}
 use Rattle.dt_queue.specs.ListedInner.{rows_at}
-use Rattle.dt_queue.specs.RowsInner.{granule_at}
+use Rattle.dt_queue.specs.RowsInner.{granule_at, links}
 use Rattle.dt_queue.proofs.NearMarks.{AreLanesOfRow, either_between, next_of_one, next_reads, next_write, row_of, same_mark, trichotomy}
 use Rattle.dt_queue.proofs.RowsNear.{next_as}
 use Rattle.dt_queue.proofs.CellUses.{InUseOf, IsMarkOf, IsNarrow, apart_lanes, cell_in_row, cell_of, clash_turned, clash_uses, lane_tells, one_use}
@@ -54,13 +54,13 @@ row_empty reads writes low high row none m b h = by (first_there low high writes
 
 -- nothing in use before a mark clashes with it
 abbrev pub IsClearBefore : Mode → Kept → Cell → Mark → Cell → Type 0
-IsClearBefore mode k x m c = (j : Mark) (d : Cell) → IsMarkOf k j d → InUseOf mode k x.row j → x.number < j.number → j.number < m.number → ¬ (CellsClash k.rows d c)
+IsClearBefore mode k x m c = (j : Mark) (d : Cell) → IsMarkOf k j d → InUseOf mode k x.row j → x.number < j.number → j.number < m.number → ¬ (CellsClash (links k.rows) d c)
 
 clear_row : (k : Kept) → AreQueuesKept k → (x : Cell) (row high : ℕ) (m : Mark) (c : Cell) → IsMarkOf k m c → IsNextInRow (lane k Read row) (lane k Write row) x.number high m
-    → (j : Mark) (d : Cell) → IsMarkOf k j d → Has (lane k Read row) j ⊎ Has (lane k Write row) j → x.number < j.number → j.number < m.number → ¬ (CellsClash k.rows d c)
+    → (j : Mark) (d : Cell) → IsMarkOf k j d → Has (lane k Read row) j ⊎ Has (lane k Write row) j → x.number < j.number → j.number < m.number → ¬ (CellsClash (links k.rows) d c)
 clear_row k kept x row high m c a near j d b used lt le clash = elim near.1 [
   | inl read ↦ elim used [
-    | inl r ↦ reads_agree k.rows d c (lane_tells k kept Read row j d b r).0 (lane_tells k kept Read row m c a read.0).0 clash
+    | inl r ↦ reads_agree (links k.rows) d c (lane_tells k kept Read row j d b r).0 (lane_tells k kept Read row m c a read.0).0 clash
     | inr w ↦ read.1 j w (lt, le)
   ]
   | inr write ↦ elim used [ inl r ↦ write.2 j r (lt, le) | inr w ↦ write.1 j w (lt, le) ]
@@ -71,23 +71,23 @@ next_is_clear : (mode : Mode) (k : Kept) → AreQueuesKept k → (x : Cell) (hig
 next_is_clear Read k kept x high m c a near = (near.0, near.1, λ j d b used lt le clash. near.2 j used (lt, le))
 next_is_clear Write k kept x high m c a near = (one_use near.1, near.0, λ j d b used lt le clash. clear_row k kept x x.row high m c a near j d b used lt le clash)
 next_is_clear Whole k kept x high m c a near =
-    let r = any_get (λ row. IsNextInRow (lane k Read row) (lane k Write row) x.number high m) (rows_at k.listed (granule_at k.rows x.row)) near in (
-      any_put (λ row. Has (lane k Read row) m ⊎ Has (lane k Write row) m) (rows_at k.listed (granule_at k.rows x.row)) r.0 r.1 (one_use r.2.1),
+    let r = any_get (λ row. IsNextInRow (lane k Read row) (lane k Write row) x.number high m) (rows_at k.listed (granule_at (links k.rows) x.row)) near in (
+      any_put (λ row. Has (lane k Read row) m ⊎ Has (lane k Write row) m) (rows_at k.listed (granule_at (links k.rows) x.row)) r.0 r.1 (one_use r.2.1),
       r.2.0,
-      λ j d b used lt le clash. clear r.0 r.2 j d b (any_get (λ row. Has (lane k Read row) j ⊎ Has (lane k Write row) j) (rows_at k.listed (granule_at k.rows x.row)) used) lt le clash,
+      λ j d b used lt le clash. clear r.0 r.2 j d b (any_get (λ row. Has (lane k Read row) j ⊎ Has (lane k Write row) j) (rows_at k.listed (granule_at (links k.rows) x.row)) used) lt le clash,
     )
   where
     clear : (row : ℕ) → IsNextInRow (lane k Read row) (lane k Write row) x.number high m → (j : Mark) (d : Cell) → IsMarkOf k j d
-        → (s : ℕ) × Has (rows_at k.listed (granule_at k.rows x.row)) s × (Has (lane k Read s) j ⊎ Has (lane k Write s) j) → x.number < j.number → j.number < m.number → ¬ (CellsClash k.rows d c)
+        → (s : ℕ) × Has (rows_at k.listed (granule_at (links k.rows) x.row)) s × (Has (lane k Read s) j ⊎ Has (lane k Write s) j) → x.number < j.number → j.number < m.number → ¬ (CellsClash (links k.rows) d c)
     clear row near j d b s lt le clash =
         let p = narrow_cell k kept row m c a (one_use near.1) in
         let q = narrow_cell k kept s.0 j d b s.2 in
-        let one : s.0 ≡ row = sym q.1 ∙ on_one_row k.rows d c q.0 p.0 clash ∙ p.1 in
+        let one : s.0 ≡ row = sym q.1 ∙ on_one_row (links k.rows) d c q.0 p.0 clash ∙ p.1 in
         clear_row k kept x row high m c a near j d b (subst (λ r. Has (lane k Read r) j ⊎ Has (lane k Write r) j) one s.2) lt le clash
 
 -- and the other way round
 next_in_row : (k : Kept) → AreQueuesKept k → (x : Cell) (row high : ℕ) (m : Mark) (c : Cell) → IsMarkOf k m c → Has (lane k Read row) m ⊎ Has (lane k Write row) m → IsBetween x.number high m
-    → ((j : Mark) (d : Cell) → IsMarkOf k j d → Has (lane k Read row) j ⊎ Has (lane k Write row) j → x.number < j.number → j.number < m.number → ¬ (CellsClash k.rows d c))
+    → ((j : Mark) (d : Cell) → IsMarkOf k j d → Has (lane k Read row) j ⊎ Has (lane k Write row) j → x.number < j.number → j.number < m.number → ¬ (CellsClash (links k.rows) d c))
     → IsNextInRow (lane k Read row) (lane k Write row) x.number high m
 next_in_row k kept x row high m c a (inl r) b clear = (b, inl (r, λ j w e. meets j w e))
   where
@@ -95,14 +95,14 @@ next_in_row k kept x row high m c a (inl r) b clear = (b, inl (r, λ j w e. meet
     meets j w e =
         let d = cell_of k kept Write row j w in
         let q = lane_tells k kept Read row m c a r in
-        clear j d.0 d.1 (inr w) e.0 e.1 (write_clashes k.rows d.0 c d.2.0 (d.2.1 ∙ sym q.1))
+        clear j d.0 d.1 (inr w) e.0 e.1 (write_clashes (links k.rows) d.0 c d.2.0 (d.2.1 ∙ sym q.1))
 next_in_row k kept x row high m c a (inr w) b clear = (b, inr (w, (λ j h e. meets j (inr h) e), (λ j h e. meets j (inl h) e)))
   where
     meets : (j : Mark) → Has (lane k Read row) j ⊎ Has (lane k Write row) j → IsBetween x.number m.number j → ⊥
     meets j used e =
         let d = cell_in_row k kept row j used in
         let q = lane_tells k kept Write row m c a w in
-        clear j d.0 d.1 used e.0 e.1 (clash_turned k.rows c d.0 (write_clashes k.rows c d.0 q.0 (q.1 ∙ sym d.2)))
+        clear j d.0 d.1 used e.0 e.1 (clash_turned (links k.rows) c d.0 (write_clashes (links k.rows) c d.0 q.0 (q.1 ∙ sym d.2)))
 
 clear_is_next : (mode : Mode) (k : Kept) → AreQueuesKept k → (x : Cell) (high : ℕ) (m : Mark) (c : Cell) → IsMarkOf k m c → InUseOf mode k x.row m → IsBetween x.number high m → IsClearBefore mode k x m c
     → IsNextOfMode mode k x.row x.number high m
@@ -112,10 +112,10 @@ clear_is_next Read k kept x high m c a used b clear = (used, b, λ j w e. meets 
     meets j w e =
         let d = cell_of k kept Write x.row j w in
         let q = lane_tells k kept Write x.row m c a used in
-        clear j d.0 d.1 w e.0 e.1 (write_clashes k.rows d.0 c d.2.0 (d.2.1 ∙ sym q.1))
+        clear j d.0 d.1 w e.0 e.1 (write_clashes (links k.rows) d.0 c d.2.0 (d.2.1 ∙ sym q.1))
 clear_is_next Write k kept x high m c a used b clear = next_in_row k kept x x.row high m c a used b clear
 clear_is_next Whole k kept x high m c a used b clear =
-    let rows = rows_at k.listed (granule_at k.rows x.row) in
+    let rows = rows_at k.listed (granule_at (links k.rows) x.row) in
     let r = any_get (λ row. Has (lane k Read row) m ⊎ Has (lane k Write row) m) rows used in
     any_put (λ row. IsNextInRow (lane k Read row) (lane k Write row) x.number high m) rows r.0 r.1
     (next_in_row k kept x r.0 high m c a r.2 b (λ j d f u lt le. clear j d f (any_put (λ row. Has (lane k Read row) j ⊎ Has (lane k Write row) j) rows r.0 r.1 u) lt le))
@@ -132,16 +132,16 @@ none_in_use Read k kept x high none m used b = by (first_there x.number high (la
         before j le lt = omega (arith, le, lt)
 none_in_use Write k kept x high none m used b = row_empty (lane k Read x.row) (lane k Write x.row) x.number high (row_of _ _ (apart_lanes k kept) x.row) none m b used
 none_in_use Whole k kept x high none m used b =
-    let rows = rows_at k.listed (granule_at k.rows x.row) in
+    let rows = rows_at k.listed (granule_at (links k.rows) x.row) in
     let r = any_get (λ row. Has (lane k Read row) m ⊎ Has (lane k Write row) m) rows used in
     row_empty (lane k Read r.0) (lane k Write r.0) x.number high (row_of _ _ (apart_lanes k kept) r.0)
     (λ j near. none j (any_put (λ row. IsNextInRow (lane k Read row) (lane k Write row) x.number high j) rows r.0 r.1 near)) m b r.2
 
 -- ---- the nearest cells after a cell; no number reaches the top
 
-module _ (k : Kept) (kept : AreQueuesKept k) (x : Cell) (top : ℕ) (within : k.next_number ≤ top) (o : Option Mark) (first : IsFirstBetween x.number top (lane k Whole (granule_at k.rows x.row)) o) where
+module _ (k : Kept) (kept : AreQueuesKept k) (x : Cell) (top : ℕ) (within : k.next_number ≤ top) (o : Option Mark) (first : IsFirstBetween x.number top (lane k Whole (granule_at (links k.rows) x.row)) o) where
   abbrev taken : List Mark
-  taken = lane k Whole (granule_at k.rows x.row)
+  taken = lane k Whole (granule_at (links k.rows) x.row)
 
   below_top : (m : Mark) (c : Cell) → IsMarkOf k m c → m.number < top
   below_top m c a = let b = kept.counted m.slot c a.there in omega (arith, b.1, within, number_of_mark k m c a)
@@ -155,21 +155,21 @@ module _ (k : Kept) (kept : AreQueuesKept k) (x : Cell) (top : ℕ) (within : k.
       by (Some w) l = l.2 m h (lt, below_top m c a)
 
   -- a near mark that is in use stands before the first that takes the granule
-  earlier : (m : Mark) (c : Cell) → IsMarkOf k m c → IsNarrow c.mode → CellsClash k.rows x c → x.number < m.number
-      → ((t : ℕ) (d : Cell) → get k.cells t ≡ Some d → x.number < d.number → d.number < c.number → CellsClash k.rows x d → ¬ (CellsClash k.rows d c)) → m.number < number_or o top
+  earlier : (m : Mark) (c : Cell) → IsMarkOf k m c → IsNarrow c.mode → CellsClash (links k.rows) x c → x.number < m.number
+      → ((t : ℕ) (d : Cell) → get k.cells t ≡ Some d → x.number < d.number → d.number < c.number → CellsClash (links k.rows) x d → ¬ (CellsClash (links k.rows) d c)) → m.number < number_or o top
   earlier m c a part clash lt free = by o first
     where
       by : (o : Option Mark) → IsFirstBetween x.number top taken o → m.number < number_or o top
       by None l = below_top m c a
       by (Some w) l =
-          let d = cell_of k kept Whole (granule_at k.rows x.row) w l.0 in
+          let d = cell_of k kept Whole (granule_at (links k.rows) x.row) w l.0 in
           elim (trichotomy m.number w.number) [
             | inl less ↦ less
             | inr more ↦ absurd (elim more [
               | inl e ↦ differ d.0 d.2.0 (one_cell k kept w m d.0 c d.1 a (sym e))
               | inr gt ↦ free w.slot d.0 d.1.there (above d.0 d.1 l.1.0) (down d.0 d.1 gt)
-                  (clash_turned k.rows d.0 x (whole_clashes k.rows d.0 x d.2.0 d.2.1))
-                  (whole_clashes k.rows d.0 c d.2.0 (d.2.1 ∙ one_granule k.rows x c clash))
+                  (clash_turned (links k.rows) d.0 x (whole_clashes (links k.rows) d.0 x d.2.0 d.2.1))
+                  (whole_clashes (links k.rows) d.0 c d.2.0 (d.2.1 ∙ one_granule (links k.rows) x c clash))
             ])
           ]
         where
@@ -191,13 +191,13 @@ module _ (k : Kept) (kept : AreQueuesKept k) (x : Cell) (top : ℕ) (within : k.
       let c = near_cell x.mode near in
       let b = next_is_clear x.mode k kept x (number_or o top) m c.0 c.1 near in
       let u = use_clashes x.mode k kept x refl m c.0 c.1 b.0 in
-      (c.0, c.1.there, c.1.is, above c.0 c.1 b.1.0, clash_turned k.rows c.0 x u.1, λ t d e lt le clash other. free c.0 c.1 b.1.1 b.2 t d e lt le clash other)
+      (c.0, c.1.there, c.1.is, above c.0 c.1 b.1.0, clash_turned (links k.rows) c.0 x u.1, λ t d e lt le clash other. free c.0 c.1 b.1.1 b.2 t d e lt le clash other)
     where
       near_cell : (mode : Mode) → IsNextOfMode mode k x.row x.number (number_or o top) m → (c : Cell) × IsMarkOf k m c
       near_cell Read n = let d = cell_of k kept Write x.row m n.0 in (d.0, d.1)
       near_cell Write n = let d = cell_in_row k kept x.row m (one_use n.1) in (d.0, d.1)
       near_cell Whole n =
-          let r = any_get (λ row. IsNextInRow (lane k Read row) (lane k Write row) x.number (number_or o top) m) (rows_at k.listed (granule_at k.rows x.row)) n in
+          let r = any_get (λ row. IsNextInRow (lane k Read row) (lane k Write row) x.number (number_or o top) m) (rows_at k.listed (granule_at (links k.rows) x.row)) n in
           let d = cell_in_row k kept r.0 m (one_use r.2.1) in
           (d.0, d.1)
 
@@ -205,10 +205,10 @@ module _ (k : Kept) (kept : AreQueuesKept k) (x : Cell) (top : ℕ) (within : k.
       above c a lt = omega (arith, lt, number_of_mark k m c a)
 
       free : (c : Cell) → IsMarkOf k m c → m.number < number_or o top → IsClearBefore x.mode k x m c
-          → (t : ℕ) (d : Cell) → get k.cells t ≡ Some d → x.number < d.number → d.number < c.number → CellsClash k.rows x d → ¬ (CellsClash k.rows d c)
+          → (t : ℕ) (d : Cell) → get k.cells t ≡ Some d → x.number < d.number → d.number < c.number → CellsClash (links k.rows) x d → ¬ (CellsClash (links k.rows) d c)
       free c a high clear t d e lt le clash other =
           let b : IsMarkOf k (mark_of t d) d = record { there = e; is = refl } in
-          elim (clash_uses x.mode k kept x refl (mark_of t d) d b (clash_turned k.rows x d clash) d.mode refl) [
+          elim (clash_uses x.mode k kept x refl (mark_of t d) d b (clash_turned (links k.rows) x d clash) d.mode refl) [
             | inl h ↦ past (not_earlier (mark_of t d) d b h lt)
             | inr used ↦ clear (mark_of t d) d b used lt (omega (arith, le, number_of_mark k m c a)) other
           ]
@@ -221,11 +221,11 @@ module _ (k : Kept) (kept : AreQueuesKept k) (x : Cell) (top : ℕ) (within : k.
   mode_of_next m n =
       let c = n.0 in
       let a : IsMarkOf k m c = record { there = n.1; is = n.2 } in
-      elim (clash_uses x.mode k kept x refl m c a (clash_turned k.rows x c n.4) c.mode refl) [
+      elim (clash_uses x.mode k kept x refl m c a (clash_turned (links k.rows) x c n.4) c.mode refl) [
         | inl h ↦ inl h
         | inr used ↦ inr (clear_is_next x.mode k kept x (number_or o top) m c a used (above c a n.3, earlier m c a (use_clashes x.mode k kept x refl m c a used).0 n.4 (above c a n.3) n.5)
             (λ j d b u lt le clash. n.5 j.slot d b.there (omega (arith, lt, number_of_mark k j d b)) (omega (arith, le, number_of_mark k m c a, number_of_mark k j d b))
-            (clash_turned k.rows d x (use_clashes x.mode k kept x refl j d b u).1) clash))
+            (clash_turned (links k.rows) d x (use_clashes x.mode k kept x refl j d b u).1) clash))
       ]
     where
       above : (c : Cell) → IsMarkOf k m c → x.number < c.number → x.number < m.number
@@ -245,7 +245,7 @@ module _ (k : Kept) (kept : AreQueuesKept k) (x : Cell) (top : ℕ) (within : k.
           let clear = next_is_clear x.mode k kept x (number_or o top) r d b here in
           let t = taker_of k kept x m c a h in
           n.5 r.slot d near.1 near.3 (down c a d b (not_earlier m c a h (omega (arith, n.3, number_of_mark k m c a))) clear.1.1) near.4
-          (clash_turned k.rows c d (whole_clashes k.rows c d t.0 (t.1 ∙ one_granule k.rows x d near.4)))
+          (clash_turned (links k.rows) c d (whole_clashes (links k.rows) c d t.0 (t.1 ∙ one_granule (links k.rows) x d near.4)))
         where
           down : (c : Cell) → IsMarkOf k m c → (d : Cell) → IsMarkOf k r d → number_or o top ≤ m.number → r.number < number_or o top → d.number < c.number
           down c a d b le lt = omega (arith, le, lt, number_of_mark k m c a, number_of_mark k r d b)
@@ -270,16 +270,16 @@ module _ (k : Kept) (kept : AreQueuesKept k) (x : Cell) (top : ℕ) (within : k.
 
           next_w : IsNextMark k x w
           next_w =
-              let d = cell_of k kept Whole (granule_at k.rows x.row) w l.0 in
-              (d.0, d.1.there, d.1.is, above d.0 d.1, clash_turned k.rows d.0 x (whole_clashes k.rows d.0 x d.2.0 d.2.1), λ t y e lt le clash other. free d.0 d.1 t y e lt le clash)
+              let d = cell_of k kept Whole (granule_at (links k.rows) x.row) w l.0 in
+              (d.0, d.1.there, d.1.is, above d.0 d.1, clash_turned (links k.rows) d.0 x (whole_clashes (links k.rows) d.0 x d.2.0 d.2.1), λ t y e lt le clash other. free d.0 d.1 t y e lt le clash)
             where
               above : (d : Cell) → IsMarkOf k w d → x.number < d.number
               above d a = omega (arith, l.1.0, number_of_mark k w d a)
 
-              free : (d : Cell) → IsMarkOf k w d → (t : ℕ) (y : Cell) → get k.cells t ≡ Some y → x.number < y.number → y.number < d.number → CellsClash k.rows x y → ⊥
+              free : (d : Cell) → IsMarkOf k w d → (t : ℕ) (y : Cell) → get k.cells t ≡ Some y → x.number < y.number → y.number < d.number → CellsClash (links k.rows) x y → ⊥
               free d a t y e lt le clash =
                   let b : IsMarkOf k (mark_of t y) y = record { there = e; is = refl } in
-                  elim (clash_uses x.mode k kept x refl (mark_of t y) y b (clash_turned k.rows x y clash) y.mode refl) [
+                  elim (clash_uses x.mode k kept x refl (mark_of t y) y b (clash_turned (links k.rows) x y clash) y.mode refl) [
                     | inl h ↦ before (l.2 (mark_of t y) h (lt, below_top (mark_of t y) y b))
                     | inr used ↦ none (mark_of t y) used (lt, omega (arith, le, number_of_mark k w d a))
                   ]
@@ -293,15 +293,15 @@ module _ (k : Kept) (kept : AreQueuesKept k) (x : Cell) (top : ℕ) (within : k.
               let a : IsMarkOf k m c = record { there = n.1; is = n.2 } in
               let h = all m n in
               let t = taker_of k kept x m c a h in
-              let d = cell_of k kept Whole (granule_at k.rows x.row) w l.0 in
+              let d = cell_of k kept Whole (granule_at (links k.rows) x.row) w l.0 in
               let le : w.number ≤ m.number = l.2 m h (omega (arith, n.3, number_of_mark k m c a), below_top m c a) in
-              same_mark taken (kept.lanes Whole (granule_at k.rows x.row)).numbered w m l.0 h
+              same_mark taken (kept.lanes Whole (granule_at (links k.rows) x.row)).numbered w m l.0 h
               (elim (trichotomy m.number w.number) [
                 | inl less ↦ absurd (omega (arith, less, le))
                 | inr more ↦ elim more [
                   | inl e ↦ sym e
-                  | inr gt ↦ absurd (n.5 w.slot d.0 d.1.there (above d.0 d.1) (down c a d.0 d.1 gt) (clash_turned k.rows d.0 x (whole_clashes k.rows d.0 x d.2.0 d.2.1))
-                      (whole_clashes k.rows d.0 c d.2.0 (d.2.1 ∙ sym t.1)))
+                  | inr gt ↦ absurd (n.5 w.slot d.0 d.1.there (above d.0 d.1) (down c a d.0 d.1 gt) (clash_turned (links k.rows) d.0 x (whole_clashes (links k.rows) d.0 x d.2.0 d.2.1))
+                      (whole_clashes (links k.rows) d.0 c d.2.0 (d.2.1 ∙ sym t.1)))
                 ]
               ])
             where
@@ -326,12 +326,12 @@ none_hidden k x y place e h m n = elim (either_le m.number y.number) [ inl le �
     before : ¬ (m.number ≤ y.number) → y.number < n.0.number
     before more = omega (arith, more, number_of_mark k m n.0 (record { there = n.1; is = n.2 }))
 
-    here : CellsClash k.rows x y
-    here = clash_turned k.rows y x (write_clashes k.rows y x h.writes (sym h.row))
+    here : CellsClash (links k.rows) x y
+    here = clash_turned (links k.rows) y x (write_clashes (links k.rows) y x h.writes (sym h.row))
 
     no_part : false ≡ true → ⊥
     no_part e = cc
 
-    clash : CellsClash k.rows x n.0 → CellsClash k.rows y n.0
-    clash (inl b) = write_clashes k.rows y n.0 h.writes (sym h.row ∙ b.0)
-    clash (inr b) = inr (ap (granule_at k.rows) (sym h.row) ∙ b.0, elim b.1 [ inl f ↦ absurd (no_part (sym h.narrow ∙ f)) | inr f ↦ inr f ])
+    clash : CellsClash (links k.rows) x n.0 → CellsClash (links k.rows) y n.0
+    clash (inl b) = write_clashes (links k.rows) y n.0 h.writes (sym h.row ∙ b.0)
+    clash (inr b) = inr (ap (granule_at (links k.rows)) (sym h.row) ∙ b.0, elim b.1 [ inl f ↦ absurd (no_part (sym h.narrow ∙ f)) | inr f ↦ inr f ])

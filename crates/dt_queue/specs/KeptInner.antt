@@ -9,12 +9,11 @@ use Rattle.dt_access.specs.declared.access.Mode.{Mode}
 use Rattle.dt_access.specs.declared.access.Mode.TheVariants.{Read, Write, Whole}
 use Rattle.dt_queue.specs.Queues.{Waiting}
 use Rattle.dt_queue.specs.LanesInner.{HasRisingNumbers, IsFirstIn, IsLastIn, IsNearInRow, IsNextInRow}
-use Rattle.dt_queue.specs.UsesInner.{reads_of, writes_of}
-use Rattle.dt_queue.specs.RowsInner.{AreRowsLinked, granule_at, name_at}
+use Rattle.dt_queue.specs.TableInner.{reads_of, writes_of}
+use Rattle.dt_queue.specs.RowsInner.{AreRowsLinked, Links, granule_at, links, name_at}
 use Rattle.dt_queue.specs.ListedInner.{rows_at}
 use Rattle.dt_queue.specs.declared.cell.Cell.{Cell}
 use Rattle.dt_queue.specs.declared.mark.Mark.{Mark}
-use Rattle.dt_queue.specs.declared.rows.Rows.{Rows}
 use Rattle.dt_queue.specs.declared.kept.Kept.{Kept}
 
 -- a cell with its slot, put into a list of such where the numbers ascend
@@ -33,7 +32,7 @@ entry names p = record { slot = p.0; home = (name_at names p.1.row).0; key = (na
 
 -- the entries that are kept, in the order of their pushes
 abbrev pub waiting_of : Kept → List Waiting
-waiting_of k = map (entry k.rows.names.keys) (in_order (entries k.cells))
+waiting_of k = map (entry (links k.rows).names) (in_order (entries k.cells))
 
 -- the mark of a cell at a slot
 abbrev pub mark_of : ℕ → Cell → Mark
@@ -41,18 +40,18 @@ mark_of slot c = record { number = c.number; slot = slot; vertex = c.vertex }
 
 -- the lane of a mode at a place
 abbrev pub lane : Kept → Mode → ℕ → List Mark
-lane k Read place = get_or (reads_of k.uses.items) place []
-lane k Write place = get_or (writes_of k.uses.items) place []
+lane k Read place = get_or (reads_of k.rows.table.items) place []
+lane k Write place = get_or (writes_of k.rows.table.items) place []
 lane k Whole place = get_or k.wholes.items place []
 
 -- the place where a row has its lane of a mode
-abbrev pub place_at : Rows → Mode → ℕ → ℕ
+abbrev pub place_at : Links → Mode → ℕ → ℕ
 place_at r Read row = row
 place_at r Write row = row
 place_at r Whole row = granule_at r row
 
 -- the cell has its mark in the lane of this mode and place
-abbrev pub IsInLane : Rows → Mode → ℕ → Cell → Type 0
+abbrev pub IsInLane : Links → Mode → ℕ → Cell → Type 0
 IsInLane r mode place c = (c.mode ≡ mode) × (place_at r mode c.row ≡ place)
 
 -- a lane has the marks of just those cells that have P, in the order of their numbers
@@ -66,26 +65,26 @@ IsInUse k row = (m : Mark) × (Has (lane k Read row) m ⊎ Has (lane k Write row
 
 -- listed rows are known, and listed of their granules; and all rows in use are listed
 pub record AreRowsListed (k : Kept) : Type 0 where
-  pub own : (g row : ℕ) → Has (rows_at k.listed g) row → (row < length k.rows.names.keys) × (granule_at k.rows row ≡ g)
-  pub used : (row : ℕ) → IsInUse k row → Has (rows_at k.listed (granule_at k.rows row)) row
+  pub own : (g row : ℕ) → Has (rows_at k.listed g) row → (row < length (links k.rows).names) × (granule_at (links k.rows) row ≡ g)
+  pub used : (row : ℕ) → IsInUse k row → Has (rows_at k.listed (granule_at (links k.rows) row)) row
 
 -- what all queues keep: a cell has a number that was given, no other has it, and its row is known; its mark is in its lane; and
 -- the rows in use are listed
 pub record AreQueuesKept (k : Kept) : Type 0 where
-  pub linked : AreRowsLinked k.rows
+  pub linked : AreRowsLinked (links k.rows)
   pub first : 0 < k.next_number
   pub last : k.next_number < 2 ^ 64
   pub counted : (slot : ℕ) (c : Cell) → get k.cells slot ≡ Some c → (0 < c.number) × (c.number < k.next_number)
   pub alone : (s t : ℕ) (c d : Cell) → get k.cells s ≡ Some c → get k.cells t ≡ Some d → c.number ≡ d.number → s ≡ t
-  pub known : (slot : ℕ) (c : Cell) → get k.cells slot ≡ Some c → c.row < length k.rows.names.keys
-  pub lanes : (mode : Mode) (place : ℕ) → IsLane k.cells (IsInLane k.rows mode place) (lane k mode place)
+  pub known : (slot : ℕ) (c : Cell) → get k.cells slot ≡ Some c → c.row < length (links k.rows).names
+  pub lanes : (mode : Mode) (place : ℕ) → IsLane k.cells (IsInLane (links k.rows) mode place) (lane k mode place)
   pub listed : AreRowsListed k
 
 -- one lane has become another, and all other lanes and all else are as before
 pub record ChangesLaneOf (old : Kept) (mode : Mode) (place : ℕ) (marks : List Mark) (new : Kept) : Type 0 where
   pub changed : lane new mode place ≡ marks
   pub others : (m : Mode) (p : ℕ) → ¬ ((m ≡ mode) × (p ≡ place)) → lane new m p ≡ lane old m p
-  pub rows : new.rows ≡ old.rows
+  pub rows : (links new.rows) ≡ (links old.rows)
   pub listed : new.listed ≡ old.listed
   pub cells : new.cells ≡ old.cells
   pub number : new.next_number ≡ old.next_number
@@ -93,7 +92,7 @@ pub record ChangesLaneOf (old : Kept) (mode : Mode) (place : ℕ) (marks : List 
 -- all lanes have the marks that they had, and all else is as before
 pub record KeepsLanes (old new : Kept) : Type 0 where
   pub lanes : (m : Mode) (p : ℕ) → lane new m p ≡ lane old m p
-  pub rows : new.rows ≡ old.rows
+  pub rows : (links new.rows) ≡ (links old.rows)
   pub listed : new.listed ≡ old.listed
   pub cells : new.cells ≡ old.cells
   pub number : new.next_number ≡ old.next_number
@@ -104,7 +103,7 @@ pub record AddsCell (old new : Kept) (slot : ℕ) (row_name : ℕ × Bytes) (mod
   pub vacant : get old.cells slot ≡ None
   pub updates : Updates old.cells new.cells slot (Some cell)
   pub number : cell.number ≡ old.next_number
-  pub name : name_at new.rows.names.keys cell.row ≡ row_name
+  pub name : name_at (links new.rows).names cell.row ≡ row_name
   pub mode_is : cell.mode ≡ mode
   pub vertex_is : cell.vertex ≡ vertex
 
@@ -112,7 +111,7 @@ pub record AddsCell (old new : Kept) (slot : ℕ) (row_name : ℕ × Bytes) (mod
 abbrev pub IsNearOf : Mode → Kept → ℕ → ℕ → ℕ → Mark → Type 0
 IsNearOf Read k row low high m = IsLastIn (lane k Write row) low high m
 IsNearOf Write k row low high m = IsNearInRow (lane k Read row) (lane k Write row) low high m
-IsNearOf Whole k row low high m = AnyIn (λ r. IsNearInRow (lane k Read r) (lane k Write r) low high m) (rows_at k.listed (granule_at k.rows row))
+IsNearOf Whole k row low high m = AnyIn (λ r. IsNearInRow (lane k Read r) (lane k Write r) low high m) (rows_at k.listed (granule_at (links k.rows) row))
 
 -- and this for the cell's own mode, row and number
 abbrev pub IsNearInMode : Kept → Cell → ℕ → Mark → Type 0
@@ -122,7 +121,7 @@ IsNearInMode k x low m = IsNearOf x.mode k x.row low x.number m
 abbrev pub IsNextOfMode : Mode → Kept → ℕ → ℕ → ℕ → Mark → Type 0
 IsNextOfMode Read k row low high m = IsFirstIn (lane k Write row) low high m
 IsNextOfMode Write k row low high m = IsNextInRow (lane k Read row) (lane k Write row) low high m
-IsNextOfMode Whole k row low high m = AnyIn (λ r. IsNextInRow (lane k Read r) (lane k Write r) low high m) (rows_at k.listed (granule_at k.rows row))
+IsNextOfMode Whole k row low high m = AnyIn (λ r. IsNextInRow (lane k Read r) (lane k Write r) low high m) (rows_at k.listed (granule_at (links k.rows) row))
 
 -- and this for the cell's own mode, row and number
 abbrev pub IsNextInMode : Kept → Cell → ℕ → Mark → Type 0
@@ -133,7 +132,7 @@ abbrev pub HasOneNear : Kept → Cell → Type 0
 HasOneNear k x = (x.mode ≡ Read) ⊎ (x.mode ≡ Write) × (lane k Read x.row ≡ [])
 
 -- two cells clash: they are of one row, which one of them does more than read, or of one granule, which one takes as a whole
-abbrev pub CellsClash : Rows → Cell → Cell → Type 0
+abbrev pub CellsClash : Links → Cell → Cell → Type 0
 CellsClash r c d = ((c.row ≡ d.row) × ((may_change c.mode ≡ true) ⊎ (may_change d.mode ≡ true)))
     ⊎ ((granule_at r c.row ≡ granule_at r d.row) × ((is_whole c.mode ≡ true) ⊎ (is_whole d.mode ≡ true)))
 
@@ -146,10 +145,10 @@ pub record HidesFrom (c d : Cell) : Type 0 where
 
 -- it is the mark of one of the nearest cells before a cell that clash with it
 abbrev pub IsNearMark : Kept → Cell → Mark → Type 0
-IsNearMark k x m = (c : Cell) × (get k.cells m.slot ≡ Some c) × (m ≡ mark_of m.slot c) × (c.number < x.number) × CellsClash k.rows c x
-    × ((t : ℕ) (d : Cell) → get k.cells t ≡ Some d → c.number < d.number → d.number < x.number → CellsClash k.rows c d → ¬ (CellsClash k.rows d x))
+IsNearMark k x m = (c : Cell) × (get k.cells m.slot ≡ Some c) × (m ≡ mark_of m.slot c) × (c.number < x.number) × CellsClash (links k.rows) c x
+    × ((t : ℕ) (d : Cell) → get k.cells t ≡ Some d → c.number < d.number → d.number < x.number → CellsClash (links k.rows) c d → ¬ (CellsClash (links k.rows) d x))
 
 -- it is the mark of one of the nearest cells after a cell that clash with it
 abbrev pub IsNextMark : Kept → Cell → Mark → Type 0
-IsNextMark k x m = (c : Cell) × (get k.cells m.slot ≡ Some c) × (m ≡ mark_of m.slot c) × (x.number < c.number) × CellsClash k.rows x c
-    × ((t : ℕ) (d : Cell) → get k.cells t ≡ Some d → x.number < d.number → d.number < c.number → CellsClash k.rows x d → ¬ (CellsClash k.rows d c))
+IsNextMark k x m = (c : Cell) × (get k.cells m.slot ≡ Some c) × (m ≡ mark_of m.slot c) × (x.number < c.number) × CellsClash (links k.rows) x c
+    × ((t : ℕ) (d : Cell) → get k.cells t ≡ Some d → x.number < d.number → d.number < c.number → CellsClash (links k.rows) x d → ¬ (CellsClash (links k.rows) d c))

@@ -3,6 +3,6 @@ pub mod LanesInner
 pub mod NextInner
 pub mod RowsInner
 pub mod ListedInner
-pub mod UsesInner
+pub mod TableInner
 pub mod KeptInner
 pub mod NumbersInner

@@ -2,6 +2,7 @@
 -- numbers, gets the least number that is not given again yet; so their order stays. Read next: `KeptInner`, for what cells are.
 use Rattle.std.specs.Prelude.{◌≡◌, ℕ, ◌<◌, ◌≤◌, ◌⊎◌, ◌+◌, ◌^◌, ◌==◌, if◌then◌else◌, Option, None, Some}
 use Rattle.slab.specs.Slab.{Slab, Updates, get}
+use Rattle.dt_queue.specs.RowsInner.{links}
 use Rattle.dt_queue.specs.KeptInner.{AreQueuesKept, waiting_of}
 use Rattle.dt_queue.specs.declared.cell.Cell.{Cell}
 use Rattle.dt_queue.specs.declared.mark.Mark.{Mark}
@@ -38,7 +39,7 @@ pub record Renumbers (old new : Slab Cell) (slot number : ℕ) : Type 0 where
 -- the same entries are kept, in the same rows
 pub record ShowsSame (old new : Kept) : Type 0 where
   pub kept : AreQueuesKept new
-  pub rows : new.rows ≡ old.rows
+  pub rows : (links new.rows) ≡ (links old.rows)
   pub shown : waiting_of new ≡ waiting_of old
 
 -- each number from 1 on and below a number is that of a cell

@@ -12,10 +12,8 @@ use crate::listed::Listed;
 use crate::mark::{Mark, Marks};
 use crate::nearest::{near_row, near_rows, near_write, number_or, only};
 use crate::next::Next;
+use crate::row::{has_no_read, last_write, push_read, push_write, remove_read, remove_write};
 use crate::rows::Rows;
-use crate::uses::{
-    Uses, has_no_read, last_write, push_read, push_write, remove_read, remove_write,
-};
 use dt_access::Mode;
 use dt_text::{Key, NoMemory};
 use slab::Slab;
@@ -28,7 +26,6 @@ pub struct Kept {
     pub cells: Slab<Cell>,
     pub rows: Rows,
     pub listed: Listed,
-    pub uses: Vec<Uses>,
     pub wholes: Vec<Lane>,
     pub next_number: u64,
 }
@@ -37,7 +34,7 @@ impl Kept {
     ghost use Rattle.dt_access.specs.Clash.{is_whole};
     ghost use Rattle.dt_queue.specs.KeptInner.{AddsCell, ChangesLaneOf, AreQueuesKept, AreRowsListed, HasOneNear, IsNearInMode, IsNearMark, IsNextInMode, IsNextMark, KeepsLanes, lane, place_at};
     ghost use Rattle.dt_queue.specs.ListedInner.{rows_at};
-    ghost use Rattle.dt_queue.specs.RowsInner.{AreRowsLinked, granule_at};
+    ghost use Rattle.dt_queue.specs.RowsInner.{AreRowsLinked, granule_at, links};
 
     /// No entry waits. Takes no memory.
     pub fn new(alloc: Global) -> Self
@@ -48,7 +45,6 @@ impl Kept {
             cells: Slab::new(alloc),
             rows: Rows::new(alloc),
             listed: Listed::new(alloc),
-            uses: Vec::new(alloc),
             wholes: Vec::new(alloc),
             next_number: 1,
         }
@@ -102,7 +98,7 @@ impl Kept {
         requires there { ContainsKey self.old.cells slot }
         ensures kept { AreQueuesKept self.new }
         ensures updates { Updates self.old.cells self.new.cells slot None }
-        ensures rows { self.new.rows ≡ self.old.rows }
+        ensures rows { links self.new.rows ≡ links self.old.rows }
     {
         let cell = self.cells.remove(slot);
         self.remove_mark(cell.row, cell.mode, cell.number);
@@ -130,7 +126,7 @@ impl Kept {
     {
         match cell.mode {
             Mode::Read => true,
-            Mode::Write => has_no_read(self.uses.as_slice(), cell.row),
+            Mode::Write => has_no_read(self.rows.table.as_slice(), cell.row),
             Mode::Whole => false,
         }
     }
@@ -145,7 +141,7 @@ impl Kept {
         let granule = self.rows.granule_of(cell.row);
         let whole = last_between(self.wholes.as_slice(), granule, 0, cell.number);
         let low = number_or(whole, 0);
-        let write = last_write(self.uses.as_slice(), cell.row, low, cell.number);
+        let write = last_write(self.rows.table.as_slice(), cell.row, low, cell.number);
         write.or(whole)
     }
 
@@ -168,18 +164,18 @@ impl Kept {
     /// Before something waits for a row in this mode: lists the row, or, where its granule is to be taken whole, sees to it that just
     /// those of its rows are listed in which something waits. So the rows that were listed in vain are looked at once at most.
     fn enter(&mut self, alloc: Global, row: usize, mode: Mode) -> Result<(), NoMemory>
-        requires linked { AreRowsLinked self.old.rows }
+        requires linked { AreRowsLinked (links self.old.rows) }
         requires listed { AreRowsListed self.old }
         requires row_in { row < length self.old.rows.names.keys }
         ensures listed { AreRowsListed self.new }
-        ensures entered { OnOk result (is_whole mode ≡ false → Has (rows_at self.new.listed (granule_at self.new.rows row)) row) }
+        ensures entered { OnOk result (is_whole mode ≡ false → Has (rows_at self.new.listed (granule_at (links self.new.rows) row)) row) }
         ensures same { self.new ≡ record self.old { listed = self.new.listed } }
     {
         let granule = self.rows.granule_of(row);
         match mode {
             Mode::Read | Mode::Write => self.listed.add(alloc, granule, row),
             Mode::Whole => {
-                self.listed.tidy(granule, self.uses.as_slice());
+                self.listed.tidy(granule, self.rows.table.as_slice());
                 Ok(())
             }
         }
@@ -193,27 +189,27 @@ impl Kept {
         mode: Mode,
         mark: Mark,
     ) -> Result<(), NoMemory>
-        requires row_in { row < length self.old.rows.granule_of.items }
+        requires row_in { row < length self.old.rows.table.items }
         requires positive { 0 < mark.number }
-        requires last { AllIn (λ m. m.number < mark.number) (lane self.old mode (place_at self.old.rows mode row)) }
-        ensures added { OnOk result (ChangesLaneOf self.old mode (place_at self.old.rows mode row) (lane self.old mode (place_at self.old.rows mode row) ++ mark ∷ []) self.new) }
+        requires last { AllIn (λ m. m.number < mark.number) (lane self.old mode (place_at (links self.old.rows) mode row)) }
+        ensures added { OnOk result (ChangesLaneOf self.old mode (place_at (links self.old.rows) mode row) (lane self.old mode (place_at (links self.old.rows) mode row) ++ mark ∷ []) self.new) }
         ensures same { OnErr result (KeepsLanes self.old self.new) }
     {
         match mode {
-            Mode::Read => push_read(alloc, &mut self.uses, row, mark),
-            Mode::Write => push_write(alloc, &mut self.uses, row, mark),
+            Mode::Read => push_read(alloc, &mut self.rows.table, row, mark),
+            Mode::Write => push_write(alloc, &mut self.rows.table, row, mark),
             Mode::Whole => push_mark(alloc, &mut self.wholes, self.rows.granule_of(row), mark),
         }
     }
 
     /// Takes a mark out of the lane of its mode and row. Takes no memory.
     fn remove_mark(&mut self, row: usize, mode: Mode, number: u64)
-        requires { row < length self.old.rows.granule_of.items }
-        ensures { ChangesLaneOf self.old mode (place_at self.old.rows mode row) (filter (λ m. not (m.number == number)) (lane self.old mode (place_at self.old.rows mode row))) self.new }
+        requires { row < length self.old.rows.table.items }
+        ensures { ChangesLaneOf self.old mode (place_at (links self.old.rows) mode row) (filter (λ m. not (m.number == number)) (lane self.old mode (place_at (links self.old.rows) mode row))) self.new }
     {
         match mode {
-            Mode::Read => remove_read(&mut self.uses, row, number),
-            Mode::Write => remove_write(&mut self.uses, row, number),
+            Mode::Read => remove_read(&mut self.rows.table, row, number),
+            Mode::Write => remove_write(&mut self.rows.table, row, number),
             Mode::Whole => remove_mark(&mut self.wholes, self.rows.granule_of(row), number),
         }
     }
@@ -224,13 +220,13 @@ impl Kept {
         requires row_in { cell.now.row < length self.now.rows.names.keys }
         ensures { IfOk result (λ marks. AreMarks (IsNearInMode self.now cell.now low) marks.items) }
     {
-        let uses = self.uses.as_slice();
+        let table = self.rows.table.as_slice();
         match cell.mode {
-            Mode::Read => near_write(alloc, uses, cell.row, low, cell.number),
-            Mode::Write => near_row(alloc, uses, cell.row, low, cell.number),
+            Mode::Read => near_write(alloc, table, cell.row, low, cell.number),
+            Mode::Write => near_row(alloc, table, cell.row, low, cell.number),
             Mode::Whole => {
                 let rows = self.listed.of_granule(self.rows.granule_of(cell.row));
-                near_rows(alloc, uses, rows, low, cell.number)
+                near_rows(alloc, table, rows, low, cell.number)
             }
         }
     }
@@ -241,13 +237,13 @@ impl Kept {
         requires row_in { cell.now.row < length self.now.rows.names.keys }
         ensures { IsKnownNext (IsNextInMode self.now cell.now high) after result }
     {
-        let uses = self.uses.as_slice();
+        let table = self.rows.table.as_slice();
         match cell.mode {
-            Mode::Read => Next::in_writes(uses, cell.row, cell.number, high, after),
-            Mode::Write => Next::in_row(uses, cell.row, cell.number, high, after),
+            Mode::Read => Next::in_writes(table, cell.row, cell.number, high, after),
+            Mode::Write => Next::in_row(table, cell.row, cell.number, high, after),
             Mode::Whole => {
                 let rows = self.listed.of_granule(self.rows.granule_of(cell.row));
-                Next::in_rows(uses, rows, cell.number, high, after)
+                Next::in_rows(table, rows, cell.number, high, after)
             }
         }
     }

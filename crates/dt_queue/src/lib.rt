@@ -17,10 +17,10 @@ mod nearest;
 mod next;
 mod numbers;
 mod queues;
+mod row;
 mod rows;
 mod tail;
 mod used;
-mod uses;
 
 pub use follower::Follower;
 pub use queues::Queues;

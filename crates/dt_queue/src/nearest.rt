@@ -1,10 +1,10 @@
 ghost use Rattle.std.specs.Prelude.{◌≡◌, ◌++◌, [], get_or, option_to_list, IfOk, OnOk};
 ghost use Rattle.dt_lists.specs.Lists.{AnyIn, Distinct};
 ghost use Rattle.dt_queue.specs.LanesInner.{AddsMarks, AreApart, AreMarks, HasRisingNumbers, IsLastIn, IsNearInRow, number_or};
-ghost use Rattle.dt_queue.specs.UsesInner.{reads_of, writes_of};
+ghost use Rattle.dt_queue.specs.TableInner.{reads_of, writes_of};
 
 use crate::mark::{Mark, Marks};
-use crate::uses::{Uses, add_reads, last_write};
+use crate::row::{Row, add_reads, last_write};
 use dt_text::NoMemory;
 use smallvec::SmallVec;
 use std::alloc::Global;
@@ -41,32 +41,32 @@ pub fn only(alloc: Global, mark: Option<Mark>) -> Result<Marks, NoMemory>
 /// Of the marks of those that write a row between two numbers the last one, if there is one.
 pub fn near_write(
     alloc: Global,
-    uses: &[Uses],
+    table: &[Row],
     row: usize,
     low: u64,
     high: u64,
 ) -> Result<Marks, NoMemory>
-    requires { HasRisingNumbers (get_or (writes_of uses.now) row []) }
-    ensures { IfOk result (λ marks. AreMarks (IsLastIn (get_or (writes_of uses.now) row []) low high) marks.items) }
+    requires { HasRisingNumbers (get_or (writes_of table.now) row []) }
+    ensures { IfOk result (λ marks. AreMarks (IsLastIn (get_or (writes_of table.now) row []) low high) marks.items) }
 {
-    only(alloc, last_write(uses, row, low, high))
+    only(alloc, last_write(table, row, low, high))
 }
 
 /// Appends, of the marks of a row between two numbers, those that are nearest to an entry after them that writes the row: those
 /// that read it and after which none writes it, or, where there are none, the last one that writes it.
 pub fn add_row(
-    uses: &[Uses],
+    table: &[Row],
     row: usize,
     low: u64,
     high: u64,
     marks: &mut Marks,
 ) -> Result<(), NoMemory>
-    requires { AreApart (reads_of uses.now) (writes_of uses.now) }
-    ensures { OnOk result (AddsMarks (IsNearInRow (get_or (reads_of uses.now) row []) (get_or (writes_of uses.now) row []) low high) marks.old.items marks.new.items) }
+    requires { AreApart (reads_of table.now) (writes_of table.now) }
+    ensures { OnOk result (AddsMarks (IsNearInRow (get_or (reads_of table.now) row []) (get_or (writes_of table.now) row []) low high) marks.old.items marks.new.items) }
 {
-    let write = last_write(uses, row, low, high);
+    let write = last_write(table, row, low, high);
     let had = marks.len();
-    add_reads(uses, row, number_or(write, low), high, marks)?;
+    add_reads(table, row, number_or(write, low), high, marks)?;
     if marks.len() == had {
         add(write, marks)?;
     }
@@ -76,34 +76,34 @@ pub fn add_row(
 /// The same marks of one row alone.
 pub fn near_row(
     alloc: Global,
-    uses: &[Uses],
+    table: &[Row],
     row: usize,
     low: u64,
     high: u64,
 ) -> Result<Marks, NoMemory>
-    requires { AreApart (reads_of uses.now) (writes_of uses.now) }
-    ensures { IfOk result (λ marks. AreMarks (IsNearInRow (get_or (reads_of uses.now) row []) (get_or (writes_of uses.now) row []) low high) marks.items) }
+    requires { AreApart (reads_of table.now) (writes_of table.now) }
+    ensures { IfOk result (λ marks. AreMarks (IsNearInRow (get_or (reads_of table.now) row []) (get_or (writes_of table.now) row []) low high) marks.items) }
 {
     let mut marks = SmallVec::new(alloc);
-    add_row(uses, row, low, high, &mut marks)?;
+    add_row(table, row, low, high, &mut marks)?;
     Ok(marks)
 }
 
 /// The same marks of several rows, in the order of their pushes.
 pub fn near_rows(
     alloc: Global,
-    uses: &[Uses],
+    table: &[Row],
     rows: &[usize],
     low: u64,
     high: u64,
 ) -> Result<Marks, NoMemory>
-    requires apart { AreApart (reads_of uses.now) (writes_of uses.now) }
+    requires apart { AreApart (reads_of table.now) (writes_of table.now) }
     requires once { Distinct rows.now }
-    ensures { IfOk result (λ marks. AreMarks (λ m. AnyIn (λ row. IsNearInRow (get_or (reads_of uses.now) row []) (get_or (writes_of uses.now) row []) low high m) rows.now) marks.items) }
+    ensures { IfOk result (λ marks. AreMarks (λ m. AnyIn (λ row. IsNearInRow (get_or (reads_of table.now) row []) (get_or (writes_of table.now) row []) low high m) rows.now) marks.items) }
 {
     let mut marks = SmallVec::new(alloc);
     for row in rows {
-        add_row(uses, *row, low, high, &mut marks)?;
+        add_row(table, *row, low, high, &mut marks)?;
     }
     marks.as_mut_slice().sort_by_key(alloc, |mark| mark.number)?;
     Ok(marks)

@@ -1,11 +1,11 @@
 ghost use Rattle.std.specs.Prelude.{◌≡◌, [], get_or, is_some, ◌||◌};
 ghost use Rattle.dt_lists.specs.Lists.{AnyIn};
 ghost use Rattle.dt_queue.specs.LanesInner.{AreApart, HasRisingNumbers, IsFirstIn, IsNextInRow, earlier, later_than};
-ghost use Rattle.dt_queue.specs.UsesInner.{reads_of, writes_of};
+ghost use Rattle.dt_queue.specs.TableInner.{reads_of, writes_of};
 
 use crate::mark::Mark;
 use crate::nearest::number_or;
-use crate::uses::{Uses, first_read, first_write};
+use crate::row::{Row, first_read, first_write};
 
 /// What is known of some entries: whether there are any, and which is the first after some number.
 #[derive(Clone, Copy)]
@@ -44,42 +44,42 @@ impl Next {
     }
 
     /// Of the marks of those that write a row between two numbers the first one, if there is one.
-    pub fn in_writes(uses: &[Uses], row: usize, low: u64, high: u64, after: u64) -> Self
-        requires { HasRisingNumbers (get_or (writes_of uses.now) row []) }
-        ensures { IsKnownNext (IsFirstIn (get_or (writes_of uses.now) row []) low high) after result }
+    pub fn in_writes(table: &[Row], row: usize, low: u64, high: u64, after: u64) -> Self
+        requires { HasRisingNumbers (get_or (writes_of table.now) row []) }
+        ensures { IsKnownNext (IsFirstIn (get_or (writes_of table.now) row []) low high) after result }
     {
-        Next::one(first_write(uses, row, low, high), after)
+        Next::one(first_write(table, row, low, high), after)
     }
 
     /// Of the marks of a row between two numbers those that are nearest to an entry before them that writes the row: those that
     /// read it and before which none writes it, or, where there are none, the first one that writes it.
-    pub fn in_row(uses: &[Uses], row: usize, low: u64, high: u64, after: u64) -> Self
-        requires { AreApart (reads_of uses.now) (writes_of uses.now) }
-        ensures { IsKnownNext (IsNextInRow (get_or (reads_of uses.now) row []) (get_or (writes_of uses.now) row []) low high) after result }
+    pub fn in_row(table: &[Row], row: usize, low: u64, high: u64, after: u64) -> Self
+        requires { AreApart (reads_of table.now) (writes_of table.now) }
+        ensures { IsKnownNext (IsNextInRow (get_or (reads_of table.now) row []) (get_or (writes_of table.now) row []) low high) after result }
     {
-        let write = first_write(uses, row, low, high);
+        let write = first_write(table, row, low, high);
         let limit = number_or(write, high);
-        if first_read(uses, row, low, limit).is_none() {
+        if first_read(table, row, low, limit).is_none() {
             return Next::one(write, after);
         }
         let start = if after < low { low } else { after };
         Next {
             any: true,
-            first: first_read(uses, row, start, limit),
+            first: first_read(table, row, start, limit),
         }
     }
 
     /// The same of several rows.
-    pub fn in_rows(uses: &[Uses], rows: &[usize], low: u64, high: u64, after: u64) -> Self
-        requires { AreApart (reads_of uses.now) (writes_of uses.now) }
-        ensures { IsKnownNext (λ m. AnyIn (λ row. IsNextInRow (get_or (reads_of uses.now) row []) (get_or (writes_of uses.now) row []) low high m) rows.now) after result }
+    pub fn in_rows(table: &[Row], rows: &[usize], low: u64, high: u64, after: u64) -> Self
+        requires { AreApart (reads_of table.now) (writes_of table.now) }
+        ensures { IsKnownNext (λ m. AnyIn (λ row. IsNextInRow (get_or (reads_of table.now) row []) (get_or (writes_of table.now) row []) low high m) rows.now) after result }
     {
         let mut next = Next {
             any: false,
             first: None,
         };
         for row in rows {
-            next = next.or(Next::in_row(uses, *row, low, high, after));
+            next = next.or(Next::in_row(table, *row, low, high, after));
         }
         next
     }

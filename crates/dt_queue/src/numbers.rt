@@ -4,12 +4,13 @@ ghost use Rattle.dt_queue.specs.NumbersInner.{IsFirstFrom, IsGap, IsNumberAt, Re
 
 use crate::kept::Kept;
 use crate::lanes::renumber_mark;
-use crate::uses::{renumber_read, renumber_write};
+use crate::row::{renumber_read, renumber_write};
 use dt_access::Mode;
 use dt_text::NoMemory;
 
 impl Kept {
     ghost use Rattle.dt_queue.specs.KeptInner.{AreQueuesKept, ChangesLaneOf, lane, place_at, waiting_of};
+    ghost use Rattle.dt_queue.specs.RowsInner.{links};
 
     /// Sees to it that a number is left. Where none is, all entries are numbered anew, in the order of their pushes; so a push
     /// is never refused for lack of a number. The entries stay as they are, also after `NoMemory`.
@@ -86,15 +87,15 @@ impl Kept {
 
     /// Gives a mark a lesser number in the lane of its mode and row; no other of its marks lies between. Takes no memory.
     fn renumber_mark(&mut self, row: usize, mode: Mode, number: u64, new: u64)
-        requires row_in { row < length self.old.rows.granule_of.items }
+        requires row_in { row < length self.old.rows.table.items }
         requires positive { 0 < new }
         requires lesser { new ≤ number }
-        requires gap { AllIn (IsGap number new) (lane self.old mode (place_at self.old.rows mode row)) }
-        ensures { ChangesLaneOf self.old mode (place_at self.old.rows mode row) (map (renumbered number new) (lane self.old mode (place_at self.old.rows mode row))) self.new }
+        requires gap { AllIn (IsGap number new) (lane self.old mode (place_at (links self.old.rows) mode row)) }
+        ensures { ChangesLaneOf self.old mode (place_at (links self.old.rows) mode row) (map (renumbered number new) (lane self.old mode (place_at (links self.old.rows) mode row))) self.new }
     {
         match mode {
-            Mode::Read => renumber_read(&mut self.uses, row, number, new),
-            Mode::Write => renumber_write(&mut self.uses, row, number, new),
+            Mode::Read => renumber_read(&mut self.rows.table, row, number, new),
+            Mode::Write => renumber_write(&mut self.rows.table, row, number, new),
             Mode::Whole => renumber_mark(&mut self.wholes, self.rows.granule_of(row), number, new),
         }
     }

@@ -1,10 +1,7 @@
-use Rattle.std.proofs.Common.{◌++◌, ◌∷◌, [], refl, arith}
+use Rattle.std.proofs.Common.{◌++◌, ◌∷◌, [], refl}
 use Rattle.std.proofs.lemmas.Result.{on_err_weaker, on_ok_weaker}
-use Rattle.dt_queue.proofs.LanesOfCells.{changed_read, changed_whole, changed_write, keeps_lanes, same_self}
+use Rattle.dt_queue.proofs.LanesOfCells.{changed_read, changed_whole, changed_write, keeps_lanes, links_same, same_self}
 use Rattle.dt_queue.proofs.kept.Kept.add_mark.Goals as goal
-
-pub granule_of-requires : goal.granule_of-requires
-granule_of-requires c = omega (arith, c.requires.row_in, c.args.self.now.rows.granule_of.ok.0)
 
 pub push_read-requires-clause-last : goal.push_read-requires-clause-last
 push_read-requires-clause-last c = rw c.in-Read.is at c.requires.last
@@ -17,14 +14,14 @@ push_mark-requires-clause-last c = rw c.granule_of.ensures (rw c.in-Whole.is at 
 
 pub returns-in-Read : goal.returns-in-Read
 returns-in-Read c = record {
-  added = on_ok_weaker c.push_read.result (λ change. changed_read c.args.self.now _ (λ l. l ++ c.args.mark ∷ []) c.args.mode c.args.row c.in-Read.is change refl refl refl refl c.push_read.ensures.writes refl) c.push_read.ensures.added;
-  same = on_err_weaker c.push_read.result (λ same. keeps_lanes c.args.self.now _ same c.push_read.ensures.writes (same_self _) refl refl refl refl) c.push_read.ensures.same;
+  added = on_ok_weaker c.push_read.result (λ change. changed_read c.args.self.now _ (λ l. l ++ c.args.mark ∷ []) c.args.mode c.args.row c.in-Read.is change (links_same c.args.self.now.rows _ c.push_read.ensures.granules) refl refl refl c.push_read.ensures.writes refl) c.push_read.ensures.added;
+  same = on_err_weaker c.push_read.result (λ same. keeps_lanes c.args.self.now _ same c.push_read.ensures.writes (same_self _) (links_same c.args.self.now.rows _ c.push_read.ensures.granules) refl refl refl) c.push_read.ensures.same;
 }
 
 pub returns-in-Write : goal.returns-in-Write
 returns-in-Write c = record {
-  added = on_ok_weaker c.push_write.result (λ change. changed_write c.args.self.now _ (λ l. l ++ c.args.mark ∷ []) c.args.mode c.args.row c.in-Write.is change refl refl refl refl c.push_write.ensures.reads refl) c.push_write.ensures.added;
-  same = on_err_weaker c.push_write.result (λ same. keeps_lanes c.args.self.now _ c.push_write.ensures.reads same (same_self _) refl refl refl refl) c.push_write.ensures.same;
+  added = on_ok_weaker c.push_write.result (λ change. changed_write c.args.self.now _ (λ l. l ++ c.args.mark ∷ []) c.args.mode c.args.row c.in-Write.is change (links_same c.args.self.now.rows _ c.push_write.ensures.granules) refl refl refl c.push_write.ensures.reads refl) c.push_write.ensures.added;
+  same = on_err_weaker c.push_write.result (λ same. keeps_lanes c.args.self.now _ c.push_write.ensures.reads same (same_self _) (links_same c.args.self.now.rows _ c.push_write.ensures.granules) refl refl refl) c.push_write.ensures.same;
 }
 
 pub returns-in-Whole : goal.returns-in-Whole

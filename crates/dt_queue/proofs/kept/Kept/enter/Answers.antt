@@ -1,10 +1,12 @@
 use Rattle.std.proofs.Common.{arith, inr, refl, sym}
 use Rattle.std.proofs.lemmas.Result.{on_ok_weaker}
+use Rattle.std.proofs.lemmas.List.{length-map}
+use Rattle.dt_queue.specs.declared.row.Row.{Row}
 use Rattle.dt_queue.proofs.RowsUsed.{listed_added, listed_tidied}
 use Rattle.dt_queue.proofs.kept.Kept.enter.Goals as goal
 
 pub granule_of-granule-requires : goal.granule_of-granule-requires
-granule_of-granule-requires c = let k = c.args.self.now in omega (arith, c.requires.row_in, c.requires.linked.each_row, k.rows.granule_of.ok.0)
+granule_of-granule-requires c = let k = c.args.self.now in omega (arith, c.requires.row_in, c.requires.linked.each_row, length-map k.rows.table.items (λ (r : Row). r.granule))
 
 pub returns-in-Read : goal.returns-in-Read
 returns-in-Read c = record {

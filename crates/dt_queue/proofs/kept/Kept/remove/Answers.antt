@@ -1,5 +1,8 @@
 use Rattle.std.proofs.Common.{None, sym, subst, arith}
+use Rattle.std.proofs.lemmas.List.{length-map}
 use Rattle.slab.specs.Slab.{Slab, Updates}
+use Rattle.dt_queue.specs.declared.row.Row.{Row}
+use Rattle.dt_queue.specs.RowsInner.{links}
 use Rattle.dt_queue.specs.declared.cell.Cell.{Cell}
 use Rattle.dt_queue.specs.declared.kept.Kept.{Kept}
 use Rattle.dt_queue.specs.KeptInner.{place_at}
@@ -8,7 +11,7 @@ use Rattle.dt_queue.proofs.RowsUsed.{rows_removed}
 use Rattle.dt_queue.proofs.kept.Kept.remove.Goals as goal
 
 pub remove_mark-requires : goal.remove_mark-requires
-remove_mark-requires c = let k = c.args.self.now in omega (arith, c.requires.kept.known c.args.slot c.remove-cell.result c.remove-cell.ensures.value, c.requires.kept.linked.each_row)
+remove_mark-requires c = let k = c.args.self.now in omega (arith, c.requires.kept.known c.args.slot c.remove-cell.result c.remove-cell.ensures.value, c.requires.kept.linked.each_row, length-map k.rows.table.items (λ (r : Row). r.granule))
 
 pub returns : goal.returns
 returns c =
@@ -19,7 +22,7 @@ returns c =
     let updates : Updates k.cells n.cells c.args.slot None = subst (λ (s : Slab Cell). Updates k.cells s c.args.slot None) (sym change.cells) c.remove-cell.ensures.updates in
     record {
       kept = kept_removed k n c.args.slot x c.requires.kept change.rows c.remove-cell.ensures.value updates change.number change.changed change.others
-          (rows_removed k n x.mode (place_at k.rows x.mode x.row) x.number c.requires.kept change.rows change.listed change.changed change.others);
+          (rows_removed k n x.mode (place_at (links k.rows) x.mode x.row) x.number c.requires.kept change.rows change.listed change.changed change.others);
       updates = updates;
       rows = change.rows;
     }

@@ -1,17 +1,14 @@
-use Rattle.std.proofs.Common.{not, ◌==◌, refl, arith}
+use Rattle.std.proofs.Common.{not, ◌==◌, refl}
 use Rattle.std.specs.List.{filter}
 use Rattle.dt_queue.specs.declared.mark.Mark.{Mark}
-use Rattle.dt_queue.proofs.LanesOfCells.{changed_read, changed_whole, changed_write}
+use Rattle.dt_queue.proofs.LanesOfCells.{changed_read, changed_whole, changed_write, links_same}
 use Rattle.dt_queue.proofs.kept.Kept.remove_mark.Goals as goal
 
-pub granule_of-requires : goal.granule_of-requires
-granule_of-requires c = omega (arith, c.requires, c.args.self.now.rows.granule_of.ok.0)
-
 pub returns-in-Read : goal.returns-in-Read
-returns-in-Read c = changed_read c.args.self.now _ (filter (λ (m : Mark). not (m.number == c.args.number))) c.args.mode c.args.row c.in-Read.is c.remove_read.ensures.reads refl refl refl refl c.remove_read.ensures.writes refl
+returns-in-Read c = changed_read c.args.self.now _ (filter (λ (m : Mark). not (m.number == c.args.number))) c.args.mode c.args.row c.in-Read.is c.remove_read.ensures.reads (links_same c.args.self.now.rows _ c.remove_read.ensures.granules) refl refl refl c.remove_read.ensures.writes refl
 
 pub returns-in-Write : goal.returns-in-Write
-returns-in-Write c = changed_write c.args.self.now _ (filter (λ (m : Mark). not (m.number == c.args.number))) c.args.mode c.args.row c.in-Write.is c.remove_write.ensures.writes refl refl refl refl c.remove_write.ensures.reads refl
+returns-in-Write c = changed_write c.args.self.now _ (filter (λ (m : Mark). not (m.number == c.args.number))) c.args.mode c.args.row c.in-Write.is c.remove_write.ensures.writes (links_same c.args.self.now.rows _ c.remove_write.ensures.granules) refl refl refl c.remove_write.ensures.reads refl
 
 pub returns-in-Whole : goal.returns-in-Whole
 returns-in-Whole c =

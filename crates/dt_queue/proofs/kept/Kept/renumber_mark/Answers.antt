@@ -1,10 +1,7 @@
-use Rattle.std.proofs.Common.{map, refl, arith}
+use Rattle.std.proofs.Common.{map, refl}
 use Rattle.dt_queue.specs.NumbersInner.{renumbered}
-use Rattle.dt_queue.proofs.LanesOfCells.{changed_read, changed_whole, changed_write}
+use Rattle.dt_queue.proofs.LanesOfCells.{changed_read, changed_whole, changed_write, links_same}
 use Rattle.dt_queue.proofs.kept.Kept.renumber_mark.Goals as goal
-
-pub granule_of-requires : goal.granule_of-requires
-granule_of-requires c = omega (arith, c.requires.row_in, c.args.self.now.rows.granule_of.ok.0)
 
 pub renumber_read-requires-clause-gap : goal.renumber_read-requires-clause-gap
 renumber_read-requires-clause-gap c = rw c.in-Read.is at c.requires.gap
@@ -16,10 +13,10 @@ pub renumber_mark-requires-clause-gap : goal.renumber_mark-requires-clause-gap
 renumber_mark-requires-clause-gap c = rw c.granule_of.ensures (rw c.in-Whole.is at c.requires.gap)
 
 pub returns-in-Read : goal.returns-in-Read
-returns-in-Read c = changed_read c.args.self.now _ (map (renumbered c.args.number c.args.new)) c.args.mode c.args.row c.in-Read.is c.renumber_read.ensures.reads refl refl refl refl c.renumber_read.ensures.writes refl
+returns-in-Read c = changed_read c.args.self.now _ (map (renumbered c.args.number c.args.new)) c.args.mode c.args.row c.in-Read.is c.renumber_read.ensures.reads (links_same c.args.self.now.rows _ c.renumber_read.ensures.granules) refl refl refl c.renumber_read.ensures.writes refl
 
 pub returns-in-Write : goal.returns-in-Write
-returns-in-Write c = changed_write c.args.self.now _ (map (renumbered c.args.number c.args.new)) c.args.mode c.args.row c.in-Write.is c.renumber_write.ensures.writes refl refl refl refl c.renumber_write.ensures.reads refl
+returns-in-Write c = changed_write c.args.self.now _ (map (renumbered c.args.number c.args.new)) c.args.mode c.args.row c.in-Write.is c.renumber_write.ensures.writes (links_same c.args.self.now.rows _ c.renumber_write.ensures.granules) refl refl refl c.renumber_write.ensures.reads refl
 
 pub returns-in-Whole : goal.returns-in-Whole
 returns-in-Whole c =

@@ -1,8 +1,11 @@
 use Rattle.std.proofs.Common.{◌≡◌, ◌++◌, ◌∷◌, [], length, get_or, Some, ap, sym, subst, ◌∙◌, arith}
-use Rattle.std.proofs.lemmas.List.{get_or_append_left}
+use Rattle.std.proofs.lemmas.List.{get_or_append_left, length-map, map-append}
 use Rattle.dt_lists.specs.Lists.{Has}
 use Rattle.dt_lists.proofs.Callers.{get_seam}
+use Rattle.dt_queue.specs.TableInner.{granules_of}
+use Rattle.dt_queue.specs.declared.row.Row.{Row}
 use Rattle.dt_queue.proofs.RowLists.{added_name, tied_row}
+use Rattle.dt_queue.proofs.TableLanes.{lane_behind}
 use Rattle.dt_queue.proofs.rows.Rows.add_row.Goals as goal
 
 pub returns-in_err-insert-clause-linked : goal.returns-in_err-insert-clause-linked
@@ -14,9 +17,10 @@ returns-clause-linked c =
     let g = c.in_ok-granule-2.granule in
     let fresh : ¬ (Has r.names.keys c.args.name) = λ h. c.requires.absent (subst (λ l. Has l c.args.name) c.in_ok-granule-2.ensures.names h) in
     let keys = c.in_ok-insert.ensures.keys ∙ added_name c.args.name r.names.keys fresh in
-    let granules = c.push_reserved.ensures.items ∙ ap (λ l. l ++ g ∷ []) c.in_ok-reserve.ensures.items in
+    let granules = ap granules_of (c.push_reserved.ensures.items ∙ ap (λ l. l ++ c.new.result ∷ []) c.in_ok-reserve.ensures.items)
+    ∙ map-append (λ (x : Row). x.granule) r.table.items (c.new.result ∷ []) ∙ ap (λ i. granules_of r.table.items ++ i ∷ []) c.new.ensures.granule in
     let name = c.in_ok-granule-2.ensures.found ∙ ap (λ k. Some (c.args.name.0, k)) c.in_ok-granule.ensures in
-    rw (keys, granules) (tied_row r.names.keys r.granules.keys r.granule_of.items c.args.name g c.in_ok-granule-2.ensures.linked fresh name)
+    rw (keys, granules) (tied_row r.names.keys r.granules.keys (granules_of r.table.items) c.args.name g c.in_ok-granule-2.ensures.linked fresh name)
 
 pub returns-clause-kept : goal.returns-clause-kept
 returns-clause-kept c =
@@ -24,12 +28,13 @@ returns-clause-kept c =
     let g = c.in_ok-granule-2.granule in
     let fresh : ¬ (Has r.names.keys c.args.name) = λ h. c.requires.absent (subst (λ l. Has l c.args.name) c.in_ok-granule-2.ensures.names h) in
     let keys = c.in_ok-insert.ensures.keys ∙ added_name c.args.name r.names.keys fresh in
-    let granules = c.push_reserved.ensures.items ∙ ap (λ l. l ++ g ∷ []) c.in_ok-reserve.ensures.items in
+    let granules = ap granules_of (c.push_reserved.ensures.items ∙ ap (λ l. l ++ c.new.result ∷ []) c.in_ok-reserve.ensures.items)
+    ∙ map-append (λ (x : Row). x.granule) r.table.items (c.new.result ∷ []) ∙ ap (λ i. granules_of r.table.items ++ i ∷ []) c.new.ensures.granule in
     record {
       names = (c.args.name ∷ [], sym (keys ∙ ap (λ l. l ++ c.args.name ∷ []) c.in_ok-granule-2.ensures.names));
       granules = λ row lt.
           ap (λ l. get_or l row 0) granules
-          ∙ get_or_append_left r.granule_of.items (g ∷ []) 0 row (omega (arith, lt, ap length c.in_ok-granule-2.ensures.names, c.in_ok-granule-2.ensures.linked.each_row))
+          ∙ get_or_append_left (granules_of r.table.items) (g ∷ []) 0 row (omega (arith, lt, ap length c.in_ok-granule-2.ensures.names, c.in_ok-granule-2.ensures.linked.each_row))
           ∙ c.in_ok-granule-2.ensures.kept.granules row lt;
     }
 
@@ -38,5 +43,15 @@ returns-clause-found c =
     let r = c.granule-2.new.self in
     let fresh : ¬ (Has r.names.keys c.args.name) = λ h. c.requires.absent (subst (λ l. Has l c.args.name) c.in_ok-granule-2.ensures.names h) in
     let keys = c.in_ok-insert.ensures.keys ∙ added_name c.args.name r.names.keys fresh in
-    let place : c.len-row.result ≡ length r.names.keys = omega (arith, c.len-row.ensures, r.granule_of.ok.0, c.in_ok-granule-2.ensures.linked.each_row) in
+    let place : c.len-row.result ≡ length r.names.keys = omega (arith, c.len-row.ensures, r.table.ok.0, length-map r.table.items (λ (x : Row). x.granule), c.in_ok-granule-2.ensures.linked.each_row) in
     rw (keys, place) (get_seam r.names.keys c.args.name [])
+
+pub returns-clause-reads : goal.returns-clause-reads
+returns-clause-reads c =
+    let r = c.granule-2.new.self in
+    rw (c.push_reserved.ensures.items, c.in_ok-reserve.ensures.items, ← c.in_ok-granule-2.ensures.table) (lane_behind (λ (x : Row). x.reads) r.table.items c.new.result c.new.ensures.reads)
+
+pub returns-clause-writes : goal.returns-clause-writes
+returns-clause-writes c =
+    let r = c.granule-2.new.self in
+    rw (c.push_reserved.ensures.items, c.in_ok-reserve.ensures.items, ← c.in_ok-granule-2.ensures.table) (lane_behind (λ (x : Row). x.writes) r.table.items c.new.result c.new.ensures.writes)

@@ -1,0 +1,27 @@
+use Rattle.std.proofs.Common.{◌<◌, ◌==◌, not, length, refl, ap, arith, ◌∙◌}
+use Rattle.std.proofs.Math.Seq.{map-set_same}
+use Rattle.std.specs.List.{filter}
+use Rattle.dt_queue.specs.declared.mark.Mark.{Mark}
+use Rattle.dt_queue.specs.declared.row.Row.{Row}
+use Rattle.dt_queue.proofs.TableLanes.{lane_at, lane_set, lane_stays}
+use Rattle.dt_queue.proofs.row.remove_read.Goals as goal
+
+pub returns-then-row-len-clause-reads : goal.returns-then-row-len-clause-reads
+returns-then-row-len-clause-reads c =
+    let xs = c.args.table.now.items in
+    let r : Row = c.index_mut.result.now in
+    let known : c.args.row < length xs = omega (arith, c.if-row-len.true, c.len.ensures, c.args.table.now.ok.0) in
+    lane_set (λ (x : Row). x.reads) xs c.args.row (record { granule = r.granule; reads = c.remove.new.self; writes = r.writes }) _ known
+    (c.remove.ensures ∙ ap (filter (λ (m : Mark). not (m.number == c.args.number))) (lane_at (λ (x : Row). x.reads) xs c.args.row r known c.index_mut.ensures.value))
+
+pub returns-then-row-len-clause-writes : goal.returns-then-row-len-clause-writes
+returns-then-row-len-clause-writes c =
+    let xs = c.args.table.now.items in
+    let r : Row = c.index_mut.result.now in
+    let known : c.args.row < length xs = omega (arith, c.if-row-len.true, c.len.ensures, c.args.table.now.ok.0) in
+    lane_stays (λ (x : Row). x.writes) xs c.args.row (record { granule = r.granule; reads = c.remove.new.self; writes = r.writes }) r known c.index_mut.ensures.value refl
+
+pub returns-then-row-len-clause-granules : goal.returns-then-row-len-clause-granules
+returns-then-row-len-clause-granules c =
+    let r : Row = c.index_mut.result.now in
+    map-set_same (λ (x : Row). x.granule) c.args.table.now.items c.args.row (record { granule = r.granule; reads = c.remove.new.self; writes = r.writes }) r (ap (λ (x : Row). x.granule) c.index_mut.ensures.value)

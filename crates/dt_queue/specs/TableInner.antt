@@ -1,0 +1,17 @@
+-- The table of rows: what is kept of each lies side by side. These are its parts, each as a list of its own: the granules of the
+-- rows, and their lanes. Read next: `RowsInner`.
+use Rattle.std.specs.Prelude.{ℕ, List, map}
+use Rattle.dt_queue.specs.declared.mark.Mark.{Mark}
+use Rattle.dt_queue.specs.declared.row.Row.{Row}
+
+-- of each row the number of its granule
+abbrev pub granules_of : List Row → List ℕ
+granules_of table = map (λ r. r.granule) table
+
+-- of each row the lane of those that are to read it
+abbrev pub reads_of : List Row → List (List Mark)
+reads_of table = map (λ r. r.reads) table
+
+-- of each row the lane of those that are to write it
+abbrev pub writes_of : List Row → List (List Mark)
+writes_of table = map (λ r. r.writes) table
