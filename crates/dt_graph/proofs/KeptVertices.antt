@@ -55,7 +55,8 @@ place_of_state : (h : State → Option ℕ) → h Neither ≡ None → (states :
 place_of_state h none states i = subst (λ n. get_or (map h states) i n ≡ h (get_or states i Neither)) none (read_map h states i Neither)
 
 -- a vertex that is neither ready nor stuck is added
-pub one_more : {f g : State → Option ℕ} {put : ℕ → State} → AreApart f g put → (states : List State) (items : List ℕ) (room more : ℕ) → IsSubset items (map f states) room → length states + 1 < 2 ^ 32 → length states + 1 ≤ more
+pub one_more : {f g : State → Option ℕ} {put : ℕ → State} → AreApart f g put → (states : List State) (items : List ℕ) (room more : ℕ)
+    → IsSubset items (map f states) room → length states + 1 < 2 ^ 32 → length states + 1 ≤ more
     → IsSubset items (map f (states ++ Neither ∷ [])) more
 one_more {f} l states items room more s few fits = subst (λ p. IsSubset items p more) (sym (map-append f states (Neither ∷ []) ∙ ap (λ n. map f states ++ n ∷ []) l.f_none))
     (subset_reached items (map f states) room more s (subst (λ n. n + 1 < 2 ^ 32) (sym (length-map states f)) few) (subst (λ n. n + 1 ≤ more) (sym (length-map states f)) fits))

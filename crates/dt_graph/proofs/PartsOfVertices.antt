@@ -22,7 +22,8 @@ module _ (part : Part) (ids : List TxnId) (classes : List Open) (old new : Waits
 
   as_sorted : (v : ℕ) (vs : List Vertex) (ds : List ℕ) → new.vertices.vertices ≡ vs → new.vertices.degrees ≡ ds
       → Sorts v new.vertices.vertices new.vertices.degrees old.vertices.ready old.vertices.stuck new.vertices.ready new.vertices.stuck → Sorts v vs ds old.vertices.ready old.vertices.stuck new.vertices.ready new.vertices.stuck
-  as_sorted v vs ds a b s = subst (λ l. Sorts v l ds old.vertices.ready old.vertices.stuck new.vertices.ready new.vertices.stuck) a (subst (λ l. Sorts v new.vertices.vertices l old.vertices.ready old.vertices.stuck new.vertices.ready new.vertices.stuck) b s)
+  as_sorted v vs ds a b s = subst (λ l. Sorts v l ds old.vertices.ready old.vertices.stuck new.vertices.ready new.vertices.stuck) a
+      (subst (λ l. Sorts v new.vertices.vertices l old.vertices.ready old.vertices.stuck new.vertices.ready new.vertices.stuck) b s)
 
   as_held : (now : List TxnId) (v : ℕ) (more : List Waiting) (vs : List Vertex) (ds : List ℕ) → new.vertices.vertices ≡ vs → new.vertices.degrees ≡ ds
       → Inserts part v more (kept_of ids old classes) (seen now vs ds) → Inserts part v more (kept_of ids old classes) (kept_of now new classes)
@@ -39,7 +40,8 @@ module _ (part : Part) (ids : List TxnId) (classes : List Open) (old new : Waits
       → (more : List Waiting) × Inserts part (length ids) more (kept_of ids old classes) (kept_of (ids ++ part.id ∷ []) new classes)
   added_first v missing is fresh lacking entered vs ds sorted =
       let e : Enters part.home (length ids) part.keys old.queues new.queues [] slots count = subst (λ v. Enters part.home v part.keys old.queues new.queues [] slots count) is entered in
-      let s = as_sorted (length ids) (old.vertices.vertices ++ first missing ∷ []) (old.vertices.degrees ++ count ∷ []) vs ds (subst (λ v. Sorts v new.vertices.vertices new.vertices.degrees old.vertices.ready old.vertices.stuck new.vertices.ready new.vertices.stuck) is sorted) in
+      let s = as_sorted (length ids) (old.vertices.vertices ++ first missing ∷ []) (old.vertices.degrees ++ count ∷ []) vs ds
+      (subst (λ v. Sorts v new.vertices.vertices new.vertices.degrees old.vertices.ready old.vertices.stuck new.vertices.ready new.vertices.stuck) is sorted) in
       let i = inserts_first part (kept_of ids old classes) new.queues slots missing count old.vertices.ready old.vertices.stuck new.vertices.ready new.vertices.stuck once fresh vertices degrees lacking e refl refl s in
       (e.pushed.more, as_held (ids ++ part.id ∷ []) (length ids) e.pushed.more (old.vertices.vertices ++ first missing ∷ []) (old.vertices.degrees ++ count ∷ []) vs ds i)
 

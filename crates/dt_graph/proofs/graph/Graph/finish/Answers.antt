@@ -44,7 +44,8 @@ finish_in-requires c =
     let g : GraphView = kept_of c.self.inside.names.ids c.self.inside.waits c.self.inside.classes.items in
     let r : MayFinish g c.args.id = subst (λ g. MayFinish g c.args.id) (sym c.self.view_is) c.requires in
     let same = ap (λ v. kept_of g.ids (record c.self.inside.waits { vertices = v }) g.classes) c.take_ready.ensures.same in
-    let class : (vertex_at g.vertices c.in-Some.vertex).class ≡ Some c.in-Some-get.class = ap (λ x. (vertex_at x.vertices c.in-Some.vertex).class) (sym same) ∙ ap (λ x. x.class) (sym c.get.ensures) ∙ sym c.get-in-Some.ensures ∙ c.in-Some-get.is in
+    let class : (vertex_at g.vertices c.in-Some.vertex).class ≡ Some c.in-Some-get.class = ap (λ x. (vertex_at x.vertices c.in-Some.vertex).class) (sym same)
+    ∙ ap (λ x. x.class) (sym c.get.ensures) ∙ sym c.get-in-Some.ensures ∙ c.in-Some-get.is in
     subst (MayFinishIn c.in-Some-get.class) (sym same)
     (may_finish_without c.in-Some-get.class g c.take_ready.new.self.ready (may_finish g c.args.id r c.in-Some.vertex c.in-Some-get.class c.in-Some.ensures.number class))
 
@@ -64,7 +65,8 @@ pub returns-in-Some-get : goal.returns-in-Some-get
 returns-in-Some-get c =
     let g : GraphView = kept_of c.self.inside.names.ids c.self.inside.waits c.self.inside.classes.items in
     let same = ap (λ v. kept_of g.ids (record c.self.inside.waits { vertices = v }) g.classes) c.take_ready.ensures.same in
-    let class : (vertex_at g.vertices c.in-Some.vertex).class ≡ Some c.in-Some-get.class = ap (λ x. (vertex_at x.vertices c.in-Some.vertex).class) (sym same) ∙ ap (λ x. x.class) (sym c.get.ensures) ∙ sym c.get-in-Some.ensures ∙ c.in-Some-get.is in
+    let class : (vertex_at g.vertices c.in-Some.vertex).class ≡ Some c.in-Some-get.class = ap (λ x. (vertex_at x.vertices c.in-Some.vertex).class) (sym same)
+    ∙ ap (λ x. x.class) (sym c.get.ensures) ∙ sym c.get-in-Some.ensures ∙ c.in-Some-get.is in
     rw (← c.self.view_is)
     (finishes_in c.args.id c.in-Some.vertex c.in-Some-get.class c.take_ready.new.self.ready g c.finish_in.new.self c.in-Some.ensures.number class c.take_ready.ensures.removed
     (subst (λ x. FinishesIn c.in-Some-get.class x c.finish_in.new.self) same c.finish_in.ensures))

@@ -41,11 +41,13 @@ invariant_of-self c =
           ∙ ap (λ x. set x c.args.number Neither) w.set_state.ensures.states) in
           rw (w.self-inside-is, w.in-Some.ensures.capacity) (record { are_stuck = both.0; are_ready = both.1 })
       | in-Some+else-last-number w ↦
-          let both = taken_last stuck_laws _ _ _ _ _ c.self.invariant.are_stuck c.self.invariant.are_ready c.args.number below c.in-Stuck.place state c.pop.new.self.items (w.in-Some.ensures.items ∙ ap (λ x. c.pop.new.self.items ++ x ∷ []) w.if-last-number.false) _
+          let both = taken_last stuck_laws _ _ _ _ _ c.self.invariant.are_stuck c.self.invariant.are_ready c.args.number below c.in-Stuck.place state
+          c.pop.new.self.items (w.in-Some.ensures.items ∙ ap (λ x. c.pop.new.self.items ++ x ∷ []) w.if-last-number.false) _
           (c.set_state-in-Stuck.ensures.states ∙ ap (λ i. set (Rattle.dt_graph.specs.VerticesInner.states_of i.kept.items) c.args.number Neither) w.self-inside-is) in
           rw (w.self-inside-is, w.in-Some.ensures.capacity) (record { are_stuck = both.0; are_ready = both.1 })
       | in_default-pop w ↦
-          absurd (not_empty s.stuck.items c.args.number (seen stuck_laws _ _ _ _ _ c.self.invariant.are_stuck c.self.invariant.are_ready c.args.number below c.in-Stuck.place state) (omega (arith, w.in_default-pop.ensures.cases.0, s.stuck.ok.0)))
+          absurd (not_empty s.stuck.items c.args.number (seen stuck_laws _ _ _ _ _ c.self.invariant.are_stuck c.self.invariant.are_ready c.args.number below c.in-Stuck.place state)
+          (omega (arith, w.in_default-pop.ensures.cases.0, s.stuck.ok.0)))
     ]
 
 pub returns-after-pop-clause-removed : goal.returns-after-pop-clause-removed
@@ -57,12 +59,15 @@ returns-after-pop-clause-removed c =
     let state = sym (state_read kept c.args.number lt c.index.result.now c.index.ensures) ∙ c.in-Stuck.is in
     elim c.match-pop.branch [
       | in-Some+then-last-number w ↦
-          rw (← c.self.view_is, w.self-inside-is) (removes stuck_laws _ _ _ _ _ c.self.invariant.are_stuck c.self.invariant.are_ready c.args.number below c.in-Stuck.place state c.pop.new.self.items w.in-Some.last w.in-Some.ensures.items w.if-last-number.true)
+          rw (← c.self.view_is, w.self-inside-is) (removes stuck_laws _ _ _ _ _ c.self.invariant.are_stuck c.self.invariant.are_ready c.args.number below c.in-Stuck.place state
+          c.pop.new.self.items w.in-Some.last w.in-Some.ensures.items w.if-last-number.true)
       | in-Some+else-last-number w ↦
           rw (← c.self.view_is, w.self-inside-is)
-          (removes_last stuck_laws _ _ _ _ _ c.self.invariant.are_stuck c.self.invariant.are_ready c.args.number below c.in-Stuck.place state c.pop.new.self.items (w.in-Some.ensures.items ∙ ap (λ x. c.pop.new.self.items ++ x ∷ []) w.if-last-number.false))
+          (removes_last stuck_laws _ _ _ _ _ c.self.invariant.are_stuck c.self.invariant.are_ready c.args.number below c.in-Stuck.place state
+          c.pop.new.self.items (w.in-Some.ensures.items ∙ ap (λ x. c.pop.new.self.items ++ x ∷ []) w.if-last-number.false))
       | in_default-pop w ↦
-          absurd (not_empty s.stuck.items c.args.number (seen stuck_laws _ _ _ _ _ c.self.invariant.are_stuck c.self.invariant.are_ready c.args.number below c.in-Stuck.place state) (omega (arith, w.in_default-pop.ensures.cases.0, s.stuck.ok.0)))
+          absurd (not_empty s.stuck.items c.args.number (seen stuck_laws _ _ _ _ _ c.self.invariant.are_stuck c.self.invariant.are_ready c.args.number below c.in-Stuck.place state)
+          (omega (arith, w.in_default-pop.ensures.cases.0, s.stuck.ok.0)))
     ]
 
 pub returns-in_default : goal.returns-in_default

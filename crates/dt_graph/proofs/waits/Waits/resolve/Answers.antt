@@ -35,7 +35,8 @@ loop-vertex-preserved c =
     let within : v < length now.vertices = subst (λ n. v < n) (sym k.put.size) below in
     let gone : Removes v now.stuck next.stuck = subst (λ l. Removes v l next.stuck) (ap (λ x. x.stuck) c.put_in_class.ensures) c.take_stuck.ensures.removed in
     record {
-      put = subst (λ l. IsPutting c.args.class (take (c.loop-vertex.vertex-index + 1) c.args.members.now) old.vertices l old.stuck next.stuck) (sym (ap (λ x. x.vertices) c.take_stuck.ensures.same ∙ ap (λ x. x.vertices) c.put_in_class.ensures))
+      put = subst (λ l. IsPutting c.args.class (take (c.loop-vertex.vertex-index + 1) c.args.members.now) old.vertices l old.stuck next.stuck)
+          (sym (ap (λ x. x.vertices) c.take_stuck.ensures.same ∙ ap (λ x. x.vertices) c.put_in_class.ensures))
           (putting_on _ _ _ c.loop-vertex-test.true _ _ _ _ _ k.put within (record (vertex_at now.vertices v) { class = Some c.args.class }) (record { rank = refl; missing = refl; class = refl; slots = refl }) gone);
       degrees = ap (λ x. x.degrees) c.take_stuck.ensures.same ∙ ap (λ x. x.degrees) c.put_in_class.ensures ∙ k.degrees;
       queues = k.queues;
