@@ -13,9 +13,9 @@ use Rattle.dt_queue.specs.declared.mark.Mark.{Mark}
 use Rattle.dt_queue.specs.declared.kept.Kept.{Kept}
 use Rattle.dt_queue.specs.KeptInner.{CellsClash, IsInLane, AreQueuesKept, lane, mark_of, place_at}
 use Rattle.dt_queue.specs.LanesInner.{AreApart}
-use Rattle.dt_queue.specs.TableInner.{reads_of, writes_of}
+use Rattle.dt_queue.specs.TableInner.{lanes_read, lanes_written}
 use Rattle.dt_queue.specs.ListedInner.{rows_at}
-use Rattle.dt_queue.specs.RowsInner.{Links, granule_at, links}
+use Rattle.dt_queue.specs.RowsInner.{RowLinks, granule_at, links}
 
 -- a mark that has its cell
 pub record IsMarkOf (k : Kept) (m : Mark) (c : Cell) : Type 0 where
@@ -60,7 +60,7 @@ read_write : Read ≡ Write → ⊥
 read_write e = cc
 
 -- the lanes of reads and writes are numbered, and have no number twice
-pub apart_lanes : (k : Kept) → AreQueuesKept k → AreApart (reads_of k.rows.table.items) (writes_of k.rows.table.items)
+pub apart_lanes : (k : Kept) → AreQueuesKept k → AreApart (lanes_read k.rows.table.items) (lanes_written k.rows.table.items)
 apart_lanes k kept = record {
   reads_numbered = λ row. (kept.lanes Read row).numbered;
   writes_numbered = λ row. (kept.lanes Write row).numbered;
@@ -94,16 +94,16 @@ InUseOf Read k row m = Has (lane k Write row) m
 InUseOf Write k row m = Has (lane k Read row) m ⊎ Has (lane k Write row) m
 InUseOf Whole k row m = AnyIn (λ r. Has (lane k Read r) m ⊎ Has (lane k Write r) m) (rows_at k.listed (granule_at (links k.rows) row))
 
-pub clash_turned : (r : Links) (c d : Cell) → CellsClash r c d → CellsClash r d c
+pub clash_turned : (r : RowLinks) (c d : Cell) → CellsClash r c d → CellsClash r d c
 clash_turned r c d (inl b) = inl (sym b.0, elim b.1 [ inl e ↦ inr e | inr e ↦ inl e ])
 clash_turned r c d (inr b) = inr (sym b.0, elim b.1 [ inl e ↦ inr e | inr e ↦ inl e ])
 
-pub one_granule : (r : Links) (c d : Cell) → CellsClash r c d → granule_at r c.row ≡ granule_at r d.row
+pub one_granule : (r : RowLinks) (c d : Cell) → CellsClash r c d → granule_at r c.row ≡ granule_at r d.row
 one_granule r c d (inl b) = ap (granule_at r) b.0
 one_granule r c d (inr b) = b.0
 
 -- two reads do not clash
-pub reads_agree : (r : Links) (c d : Cell) → c.mode ≡ Read → d.mode ≡ Read → ¬ (CellsClash r c d)
+pub reads_agree : (r : RowLinks) (c d : Cell) → c.mode ≡ Read → d.mode ≡ Read → ¬ (CellsClash r c d)
 reads_agree r c d a b (inl e) = elim e.1 [ inl f ↦ write_no (sym (ap may_change a) ∙ f) | inr f ↦ write_no (sym (ap may_change b) ∙ f) ]
   where
     write_no : false ≡ true → ⊥
@@ -118,7 +118,7 @@ abbrev pub IsNarrow : Mode → Type 0
 IsNarrow mode = is_whole mode ≡ false
 
 -- reads and writes clash on one row alone
-pub on_one_row : (r : Links) (c d : Cell) → IsNarrow c.mode → IsNarrow d.mode → CellsClash r c d → c.row ≡ d.row
+pub on_one_row : (r : RowLinks) (c d : Cell) → IsNarrow c.mode → IsNarrow d.mode → CellsClash r c d → c.row ≡ d.row
 on_one_row r c d a b (inl e) = e.0
 on_one_row r c d a b (inr e) = absurd (elim e.1 [ inl f ↦ no_part (sym a ∙ f) | inr f ↦ no_part (sym b ∙ f) ])
   where
@@ -126,10 +126,10 @@ on_one_row r c d a b (inr e) = absurd (elim e.1 [ inl f ↦ no_part (sym a ∙ f
     no_part e = cc
 
 -- a write clashes with each use of its row
-pub write_clashes : (r : Links) (c d : Cell) → c.mode ≡ Write → c.row ≡ d.row → CellsClash r c d
+pub write_clashes : (r : RowLinks) (c d : Cell) → c.mode ≡ Write → c.row ≡ d.row → CellsClash r c d
 write_clashes r c d a b = inl (b, inl (ap may_change a))
 
-pub whole_clashes : (r : Links) (c d : Cell) → c.mode ≡ Whole → granule_at r c.row ≡ granule_at r d.row → CellsClash r c d
+pub whole_clashes : (r : RowLinks) (c d : Cell) → c.mode ≡ Whole → granule_at r c.row ≡ granule_at r d.row → CellsClash r c d
 whole_clashes r c d a b = inr (b, inl (ap is_whole a))
 
 -- the cell of a read or a write
@@ -167,5 +167,6 @@ clash_uses Whole k kept x e m c a clash Read f = inr (in_own_row k kept x m c cl
 clash_uses Whole k kept x e m c a clash Write f = inr (in_own_row k kept x m c clash (inr (in_lane k kept m c a Write c.row (f, refl))))
 
 -- the cell of a mark that takes the granule of a use as a whole
-pub taker_of : (k : Kept) → AreQueuesKept k → (x : Cell) (m : Mark) (c : Cell) → IsMarkOf k m c → Has (lane k Whole (granule_at (links k.rows) x.row)) m → (c.mode ≡ Whole) × (granule_at (links k.rows) c.row ≡ granule_at (links k.rows) x.row)
+pub taker_of : (k : Kept) → AreQueuesKept k → (x : Cell) (m : Mark) (c : Cell) → IsMarkOf k m c → Has (lane k Whole (granule_at (links k.rows) x.row)) m → (c.mode ≡ Whole) ×
+    (granule_at (links k.rows) c.row ≡ granule_at (links k.rows) x.row)
 taker_of k kept x m c a h = lane_tells k kept Whole (granule_at (links k.rows) x.row) m c a h

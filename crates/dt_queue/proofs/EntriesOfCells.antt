@@ -20,7 +20,7 @@ use Rattle.dt_queue.specs.KeptInner.{AddsCell, CellsClash, AreQueuesKept, IsNear
 use Rattle.dt_queue.specs.LanesInner.{AreMarks}
 use Rattle.dt_queue.specs.NextInner.{IsFirstAfter}
 use Rattle.dt_queue.specs.Queues.{IsQueued, Waiting, follower_of, followers_after, is_at, is_neighbour, nearest, neighbours, taken_out}
-use Rattle.dt_queue.specs.RowsInner.{Links, granule_at, granule_name, links, name_at}
+use Rattle.dt_queue.specs.RowsInner.{RowLinks, granule_at, granule_name, links, name_at}
 use Rattle.dt_queue.proofs.InOrder.{IsListed, Rise, listed, listed_less, listed_more, same_list}
 use Rattle.dt_queue.proofs.EntryLists.{Slots, after_is, before_is, entry_is, greater, lesser, meets, near_in, near_rises, nearest_is, of_near, slots_of_list, to_near, without_is}
 
@@ -189,7 +189,8 @@ module _ (k : Kept) (kept : AreQueuesKept k) where
   filter_shown slot (q ∷ G) = by (is_neighbour (waiting_of k) slot q.0) (filter_shown slot G)
     where
       by : (t : Bool) → filter (λ w. is_neighbour (waiting_of k) slot w.slot) (map (entry (links k.rows).names) G) ≡ map (entry (links k.rows).names) (filter (λ (q : ℕ × Cell). is_neighbour (waiting_of k) slot q.0) G)
-          → cond t (entry (links k.rows).names q ∷ filter (λ w. is_neighbour (waiting_of k) slot w.slot) (map (entry (links k.rows).names) G)) (filter (λ w. is_neighbour (waiting_of k) slot w.slot) (map (entry (links k.rows).names) G))
+          → cond t (entry (links k.rows).names q ∷ filter (λ w. is_neighbour (waiting_of k) slot w.slot) (map (entry (links k.rows).names) G))
+          (filter (λ w. is_neighbour (waiting_of k) slot w.slot) (map (entry (links k.rows).names) G))
           ≡ map (entry (links k.rows).names) (cond t (q ∷ filter (λ (q : ℕ × Cell). is_neighbour (waiting_of k) slot q.0) G) (filter (λ (q : ℕ × Cell). is_neighbour (waiting_of k) slot q.0) G))
       by true e = ap (λ l. entry (links k.rows).names q ∷ l) e
       by false e = e
@@ -305,4 +306,4 @@ shown_remove k n slot kept later up rows =
     let K = in_order (entries k.cells) in
     let list : in_order (entries n.cells) ≡ filter (λ (p : ℕ × Cell). not (p.0 == slot)) K = same_list n.cells n.cells (in_order (entries n.cells)) (filter (λ (p : ℕ × Cell). not (p.0 == slot)) K) (listed n.cells later.alone)
     (listed_less k.cells n.cells K slot (listed k.cells kept.alone) up) (λ s. refl) in
-    ap (λ (r : Links). map (entry r.names) (in_order (entries n.cells))) rows ∙ ap (map (entry (links k.rows).names)) list ∙ sym (without_is (links k.rows).names K slot)
+    ap (λ (r : RowLinks). map (entry r.names) (in_order (entries n.cells))) rows ∙ ap (map (entry (links k.rows).names)) list ∙ sym (without_is (links k.rows).names K slot)

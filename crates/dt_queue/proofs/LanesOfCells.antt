@@ -14,8 +14,8 @@ use Rattle.dt_queue.specs.declared.kept.Kept.{Kept}
 use Rattle.dt_queue.specs.declared.rows.Rows.{Rows}
 use Rattle.dt_queue.specs.KeptInner.{AreRowsListed, ChangesLaneOf, IsInLane, AreQueuesKept, IsLane, KeepsLanes, lane, mark_of, place_at}
 use Rattle.dt_queue.specs.LanesInner.{ChangesLane, SameLanes}
-use Rattle.dt_queue.specs.TableInner.{granules_of, reads_of, writes_of}
-use Rattle.dt_queue.specs.RowsInner.{AreRowsLinked, KeepsRows, Links, granule_at, links}
+use Rattle.dt_queue.specs.TableInner.{granules_of, lanes_read, lanes_written}
+use Rattle.dt_queue.specs.RowsInner.{AreRowsLinked, KeepsRows, RowLinks, granule_at, links}
 use Rattle.dt_queue.proofs.Marks.{numbered_more}
 use Rattle.dt_queue.proofs.InOrder.{AreAlone}
 
@@ -131,18 +131,18 @@ either_place m n p q = elim (either_mode m n) [
 ]
 
 -- lanes are the same where all three lists are
-pub same_lanes : (a b : Kept) → SameLanes (reads_of b.rows.table.items) (reads_of a.rows.table.items) → SameLanes (writes_of b.rows.table.items) (writes_of a.rows.table.items) → a.wholes ≡ b.wholes
+pub same_lanes : (a b : Kept) → SameLanes (lanes_read b.rows.table.items) (lanes_read a.rows.table.items) → SameLanes (lanes_written b.rows.table.items) (lanes_written a.rows.table.items) → a.wholes ≡ b.wholes
     → (m : Mode) (p : ℕ) → lane a m p ≡ lane b m p
 same_lanes a b r w t Read p = r p
 same_lanes a b r w t Write p = w p
 same_lanes a b r w t Whole p = ap (λ l. get_or l.items p []) t
 
-pub place_same : (old new : Links) → KeepsRows old new → (m : Mode) (row : ℕ) → row < length old.names → place_at new m row ≡ place_at old m row
+pub place_same : (old new : RowLinks) → KeepsRows old new → (m : Mode) (row : ℕ) → row < length old.names → place_at new m row ≡ place_at old m row
 place_same old new k Read row lt = refl
 place_same old new k Write row lt = refl
 place_same old new k Whole row lt = k.granules row lt
 
-pub rows_refl : (r : Links) → KeepsRows r r
+pub rows_refl : (r : RowLinks) → KeepsRows r r
 rows_refl r = record { names = front_refl r.names; granules = λ row lt. refl }
 
 -- rows may have been added, and nothing else
@@ -234,8 +234,8 @@ kept_removed k n slot c kept rows there up next changed others used = record {
   last = subst (λ i. i < 2 ^ 64) (sym next) kept.last;
   counted = λ s d e. let b = kept.counted s d (old s d e) in (b.0, subst (λ i. d.number < i) (sym next) b.1);
   alone = λ s t d x e f g. kept.alone s t d x (old s d e) (old t x f) g;
-  known = λ s d e. subst (λ (r : Links). d.row < length r.names) (sym rows) (kept.known s d (old s d e));
-  lanes = λ m p. subst (λ (r : Links). IsLane n.cells (IsInLane r m p) (lane n m p)) (sym rows) (lanes m p (either_place m c.mode p (place_at (links k.rows) c.mode c.row)));
+  known = λ s d e. subst (λ (r : RowLinks). d.row < length r.names) (sym rows) (kept.known s d (old s d e));
+  lanes = λ m p. subst (λ (r : RowLinks). IsLane n.cells (IsInLane r m p) (lane n m p)) (sym rows) (lanes m p (either_place m c.mode p (place_at (links k.rows) c.mode c.row)));
   listed = used;
 }
   where
@@ -274,8 +274,8 @@ none_kept k linked slots table wholes used first last = record {
     none s c e = none-some c (subst (λ l. slice_index_or l s None ≡ Some c) slots e)
 
     empty : (m : Mode) (p : ℕ) → lane k m p ≡ []
-    empty Read p = ap (λ l. get_or (reads_of l) p []) table
-    empty Write p = ap (λ l. get_or (writes_of l) p []) table
+    empty Read p = ap (λ l. get_or (lanes_read l) p []) table
+    empty Write p = ap (λ l. get_or (lanes_written l) p []) table
     empty Whole p = ap (λ l. get_or l p []) wholes
 
 -- all marks have numbers that were given
@@ -289,8 +289,10 @@ pub links_same : (r : Rows) (g : List ℕ) → g ≡ granules_of r.table.items �
 links_same r g e = ap (λ (x : List ℕ). record { names = r.names.keys; granules = r.granules.keys; granule_of = x }) e
 
 -- one lane was changed
-pub changed_read : (old new : Kept) (f : List Mark → List Mark) (mode : Mode) (row : ℕ) → mode ≡ Read → ChangesLane (reads_of old.rows.table.items) row (f (get_or (reads_of old.rows.table.items) row [])) (reads_of new.rows.table.items)
-    → (links new.rows) ≡ (links old.rows) → new.listed ≡ old.listed → new.cells ≡ old.cells → new.next_number ≡ old.next_number → SameLanes (writes_of old.rows.table.items) (writes_of new.rows.table.items) → new.wholes ≡ old.wholes
+pub changed_read : (old new : Kept) (f : List Mark → List Mark) (mode : Mode) (row : ℕ) → mode ≡ Read → ChangesLane (lanes_read old.rows.table.items) row (f (get_or (lanes_read old.rows.table.items) row []))
+    (lanes_read new.rows.table.items)
+    → (links new.rows) ≡ (links old.rows) → new.listed ≡ old.listed → new.cells ≡ old.cells → new.next_number ≡ old.next_number → SameLanes (lanes_written old.rows.table.items)
+    (lanes_written new.rows.table.items) → new.wholes ≡ old.wholes
     → ChangesLaneOf old mode (place_at (links old.rows) mode row) (f (lane old mode (place_at (links old.rows) mode row))) new
 changed_read old new f mode row is change rows used cells number writes wholes =
     subst (λ m. ChangesLaneOf old m (place_at (links old.rows) m row) (f (lane old m (place_at (links old.rows) m row))) new) (sym is)
@@ -301,8 +303,10 @@ changed_read old new f mode row is change rows used cells number writes wholes =
     other Write p ne = writes p
     other Whole p ne = ap (λ l. get_or l.items p []) wholes
 
-pub changed_write : (old new : Kept) (f : List Mark → List Mark) (mode : Mode) (row : ℕ) → mode ≡ Write → ChangesLane (writes_of old.rows.table.items) row (f (get_or (writes_of old.rows.table.items) row [])) (writes_of new.rows.table.items)
-    → (links new.rows) ≡ (links old.rows) → new.listed ≡ old.listed → new.cells ≡ old.cells → new.next_number ≡ old.next_number → SameLanes (reads_of old.rows.table.items) (reads_of new.rows.table.items) → new.wholes ≡ old.wholes
+pub changed_write : (old new : Kept) (f : List Mark → List Mark) (mode : Mode) (row : ℕ) → mode ≡ Write → ChangesLane (lanes_written old.rows.table.items) row (f (get_or (lanes_written old.rows.table.items) row []))
+    (lanes_written new.rows.table.items)
+    → (links new.rows) ≡ (links old.rows) → new.listed ≡ old.listed → new.cells ≡ old.cells → new.next_number ≡ old.next_number → SameLanes (lanes_read old.rows.table.items) (lanes_read new.rows.table.items)
+    → new.wholes ≡ old.wholes
     → ChangesLaneOf old mode (place_at (links old.rows) mode row) (f (lane old mode (place_at (links old.rows) mode row))) new
 changed_write old new f mode row is change rows used cells number reads wholes =
     subst (λ m. ChangesLaneOf old m (place_at (links old.rows) m row) (f (lane old m (place_at (links old.rows) m row))) new) (sym is)
@@ -313,7 +317,8 @@ changed_write old new f mode row is change rows used cells number reads wholes =
     other Write p ne = change.others p (λ e. ne (refl, e))
     other Whole p ne = ap (λ l. get_or l.items p []) wholes
 
-pub changed_whole : (old new : Kept) (f : List Mark → List Mark) (mode : Mode) (row g : ℕ) → mode ≡ Whole → g ≡ granule_at (links old.rows) row → ChangesLane old.wholes.items g (f (get_or old.wholes.items g [])) new.wholes.items
+pub changed_whole : (old new : Kept) (f : List Mark → List Mark) (mode : Mode) (row g : ℕ) → mode ≡ Whole → g ≡ granule_at (links old.rows) row → ChangesLane old.wholes.items g
+    (f (get_or old.wholes.items g [])) new.wholes.items
     → (links new.rows) ≡ (links old.rows) → new.listed ≡ old.listed → new.cells ≡ old.cells → new.next_number ≡ old.next_number → new.rows.table ≡ old.rows.table
     → ChangesLaneOf old mode (place_at (links old.rows) mode row) (f (lane old mode (place_at (links old.rows) mode row))) new
 changed_whole old new f mode row g is same change rows used cells number table =
@@ -324,12 +329,13 @@ changed_whole old new f mode row g is same change rows used cells number table =
     moved = subst (λ i. ChangesLane old.wholes.items i (f (get_or old.wholes.items i [])) new.wholes.items) same change
 
     other : (m : Mode) (p : ℕ) → ¬ ((m ≡ Whole) × (p ≡ granule_at (links old.rows) row)) → lane new m p ≡ lane old m p
-    other Read p ne = ap (λ l. get_or (reads_of l.items) p []) table
-    other Write p ne = ap (λ l. get_or (writes_of l.items) p []) table
+    other Read p ne = ap (λ l. get_or (lanes_read l.items) p []) table
+    other Write p ne = ap (λ l. get_or (lanes_written l.items) p []) table
     other Whole p ne = moved.others p (λ e. ne (refl, e))
 
 -- no lane was changed
-pub keeps_lanes : (old new : Kept) → SameLanes (reads_of old.rows.table.items) (reads_of new.rows.table.items) → SameLanes (writes_of old.rows.table.items) (writes_of new.rows.table.items) → SameLanes old.wholes.items new.wholes.items
+pub keeps_lanes : (old new : Kept) → SameLanes (lanes_read old.rows.table.items) (lanes_read new.rows.table.items) → SameLanes (lanes_written old.rows.table.items) (lanes_written new.rows.table.items)
+    → SameLanes old.wholes.items new.wholes.items
     → (links new.rows) ≡ (links old.rows) → new.listed ≡ old.listed → new.cells ≡ old.cells → new.next_number ≡ old.next_number → KeepsLanes old new
 keeps_lanes old new reads writes wholes rows used cells number = record { lanes = λ m p. same m p; rows = rows; listed = used; cells = cells; number = number }
   where

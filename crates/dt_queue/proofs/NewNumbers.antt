@@ -17,7 +17,7 @@ use Rattle.dt_queue.specs.KeptInner.{AreQueuesKept, IsInLane, IsLane, entry, in_
 use Rattle.dt_queue.specs.LanesInner.{EndsBelow, HasRisingNumbers}
 use Rattle.dt_queue.specs.NumbersInner.{AreGiven, IsBeside, IsFirstBelow, IsFirstFrom, IsGap, ShowsSame, anew, renumbered}
 use Rattle.dt_queue.specs.ListedInner.{rows_at}
-use Rattle.dt_queue.specs.RowsInner.{AreRowsLinked, KeepsRows, Links, links}
+use Rattle.dt_queue.specs.RowsInner.{AreRowsLinked, KeepsRows, RowLinks, links}
 use Rattle.dt_queue.proofs.InOrder.{AreAlone, IsListed, Rise, listed, same_list}
 use Rattle.dt_queue.proofs.LanesOfCells.{either_place, kept_same, rows_refl, same_lanes, same_self}
 use Rattle.dt_queue.proofs.RowsUsed.{rows_same, used_mapped}
@@ -209,9 +209,10 @@ module _ (k n : Kept) (slot : ℕ) (c : Cell) (i : ℕ) (kept : AreQueuesKept k)
     last = subst (λ x. x < 2 ^ 64) (sym next) kept.last;
     counted = λ s d e. counted s d e (either_nat s slot);
     alone = λ s t d x e f g. alone s t d x e f g (either_nat s slot) (either_nat t slot);
-    known = λ s d e. subst (λ (r : Links). d.row < length r.names) (sym rows) (known s d e (either_nat s slot));
-    lanes = λ m p. subst (λ (r : Links). IsLane n.cells (IsInLane r m p) (lane n m p)) (sym rows) (lanes m p (either_place m c.mode p (place_at (links k.rows) c.mode c.row)));
-    listed = rows_same k n kept (subst (KeepsRows (links k.rows)) (sym rows) (rows_refl (links k.rows))) (λ g. ap (λ u. rows_at u g) used) (used_mapped k n (renumbered c.number i) c.mode (place_at (links k.rows) c.mode c.row) changed others);
+    known = λ s d e. subst (λ (r : RowLinks). d.row < length r.names) (sym rows) (known s d e (either_nat s slot));
+    lanes = λ m p. subst (λ (r : RowLinks). IsLane n.cells (IsInLane r m p) (lane n m p)) (sym rows) (lanes m p (either_place m c.mode p (place_at (links k.rows) c.mode c.row)));
+    listed = rows_same k n kept (subst (KeepsRows (links k.rows)) (sym rows) (rows_refl (links k.rows))) (λ g. ap (λ u. rows_at u g) used)
+        (used_mapped k n (renumbered c.number i) c.mode (place_at (links k.rows) c.mode c.row) changed others);
   }
     where
       is_new : (s : ℕ) (d : Cell) → s ≡ slot → get n.cells s ≡ Some d → d ≡ record c { number = i }
@@ -255,7 +256,7 @@ module _ (k n : Kept) (slot : ℕ) (c : Cell) (i : ℕ) (kept : AreQueuesKept k)
       let K = in_order (entries k.cells) in
       let list : in_order (entries n.cells) ≡ map (moved k.cells n.cells slot c i there up) K = same_list n.cells n.cells (in_order (entries n.cells)) (map (moved k.cells n.cells slot c i there up) K) (listed n.cells later.alone)
       (listed_renumbered k.cells n.cells slot c i there up K (listed k.cells kept.alone) kept.alone le gap) (λ s. refl) in
-      ap (λ (r : Links). map (entry r.names) (in_order (entries n.cells))) rows ∙ ap (map (entry (links k.rows).names)) list ∙ map-map (entry (links k.rows).names) (moved k.cells n.cells slot c i there up) K
+      ap (λ (r : RowLinks). map (entry r.names) (in_order (entries n.cells))) rows ∙ ap (map (entry (links k.rows).names)) list ∙ map-map (entry (links k.rows).names) (moved k.cells n.cells slot c i there up) K
 
 -- ---- one after the other
 
@@ -375,7 +376,8 @@ first_found k number slot limit (Some t) kept le f =
 -- room was made
 pub reserved : (k : Kept) (cells : Slab Cell) → AreQueuesKept k → cells.slots ≡ k.cells.slots → ShowsSame k (record k { cells = cells })
 reserved k cells kept slots = record {
-  kept = kept_same k (record k { cells = cells }) kept kept.linked (rows_refl (links k.rows)) (λ s. ap (λ l. slice_index_or l s None) slots) refl (λ m p. same_lanes (record k { cells = cells }) k (same_self _) (same_self _) refl m p) (record { own = kept.listed.own; used = kept.listed.used });
+  kept = kept_same k (record k { cells = cells }) kept kept.linked (rows_refl (links k.rows)) (λ s. ap (λ l. slice_index_or l s None) slots) refl
+      (λ m p. same_lanes (record k { cells = cells }) k (same_self _) (same_self _) refl m p) (record { own = kept.listed.own; used = kept.listed.used });
   rows = refl;
   shown = shown_same k (record k { cells = cells }) kept (front_refl (links k.rows).names) slots;
 }

@@ -40,11 +40,11 @@ row_empty : (reads writes : List Mark) (low high : ℕ) → AreLanesOfRow reads 
 row_empty reads writes low high row none m b h = by (first_there low high writes row.writes_numbered)
   where
     by : (o : Option Mark) × IsFirstBetween low high writes o → ⊥
-    by (o, l) = reads_of (first_there low (number_or o high) reads row.reads_numbered)
+    by (o, l) = lanes_read (first_there low (number_or o high) reads row.reads_numbered)
       where
-        reads_of : (r : Option Mark) × IsFirstBetween low (number_or o high) reads r → ⊥
-        reads_of (Some r, f) = none r ((next_reads reads writes low high o row l r f.0 f.1 r).1 (f.0, f.1))
-        reads_of (None, f) = left o l f
+        lanes_read : (r : Option Mark) × IsFirstBetween low (number_or o high) reads r → ⊥
+        lanes_read (Some r, f) = none r ((next_reads reads writes low high o row l r f.0 f.1 r).1 (f.0, f.1))
+        lanes_read (None, f) = left o l f
           where
             left : (o : Option Mark) → IsFirstBetween low high writes o → ((r : Mark) → Has reads r → ¬ (IsBetween low (number_or o high) r)) → ⊥
             left (Some w) l f = none w ((next_write reads writes low high (Some w) row l f w).1 refl)

@@ -1,4 +1,4 @@
--- Links in use: they are listed, also after a mark was added, taken out or renumbered.
+-- Rows in use: they are listed, also after a mark was added, taken out or renumbered.
 use Rattle.std.proofs.Common.{◌≡◌, ◌⊎◌, ◌↔◌, ℕ, ◌<◌, Bool, true, false, not, ◌==◌, ◌||◌, List, [], ◌∷◌, ◌++◌, get_or, map, Result, Ok, Err, OnOk, OnErr}
 use Rattle.std.proofs.Common.{◌+◌, ◌^◌, length, None, Some, refl, ap, sym, subst, inl, inr, arith, ◌∙◌}
 use Rattle.std.specs.List.{filter}
@@ -13,8 +13,8 @@ use Rattle.dt_queue.specs.declared.mark.Mark.{Mark}
 use Rattle.dt_queue.specs.declared.kept.Kept.{Kept}
 use Rattle.dt_queue.specs.ListedInner.{ListsRow, SameRows, Tidies, is_used, rows_at}
 use Rattle.dt_queue.specs.KeptInner.{AreQueuesKept, AreRowsListed, ChangesLaneOf, IsInUse, lane, mark_of, place_at}
-use Rattle.dt_queue.specs.TableInner.{reads_of, writes_of}
-use Rattle.dt_queue.specs.RowsInner.{AreRowsLinked, KeepsRows, Links, granule_at, links}
+use Rattle.dt_queue.specs.TableInner.{lanes_read, lanes_written}
+use Rattle.dt_queue.specs.RowsInner.{AreRowsLinked, KeepsRows, RowLinks, granule_at, links}
 use Rattle.dt_queue.proofs.LanesOfCells.{either_place, kept_pushed, rows_refl}
 
 -- the mode takes no granule as a whole
@@ -25,7 +25,7 @@ whole_no : {A : Type 0} → true ≡ false → A
 whole_no e = cc
 
 -- reads and writes have their lanes at their row
-at_row : (r : Links) (mode : Mode) (row : ℕ) → IsPart mode → place_at r mode row ≡ row
+at_row : (r : RowLinks) (mode : Mode) (row : ℕ) → IsPart mode → place_at r mode row ≡ row
 at_row r Read row part = refl
 at_row r Write row part = refl
 at_row r Whole row part = whole_no part
@@ -88,8 +88,8 @@ used_mapped k n f mode place changed others row = (
 rows_pushed : (k n : Kept) (mode : Mode) (row : ℕ) → AreRowsListed k → (links n.rows) ≡ (links k.rows) → n.listed ≡ k.listed → AreOthers k n mode (place_at (links k.rows) mode row)
     → (IsPart mode → Has (rows_at k.listed (granule_at (links k.rows) row)) row) → AreRowsListed n
 rows_pushed k n mode row listed rows list others entered = record {
-  own = λ g r h. subst (λ (x : Links). (r < length x.names) × (granule_at x r ≡ g)) (sym rows) (listed.own g r (subst (λ l. Has (rows_at l g) r) list h));
-  used = λ r u. subst (λ (x : Links). Has (rows_at n.listed (granule_at x r)) r) (sym rows) (subst (λ l. Has (rows_at l (granule_at (links k.rows) r)) r) (sym list) (elim (came r u) [
+  own = λ g r h. subst (λ (x : RowLinks). (r < length x.names) × (granule_at x r ≡ g)) (sym rows) (listed.own g r (subst (λ l. Has (rows_at l g) r) list h));
+  used = λ r u. subst (λ (x : RowLinks). Has (rows_at n.listed (granule_at x r)) r) (sym rows) (subst (λ l. Has (rows_at l (granule_at (links k.rows) r)) r) (sym list) (elim (came r u) [
     | inl old ↦ listed.used r old
     | inr b ↦ subst (λ x. Has (rows_at k.listed (granule_at (links k.rows) x)) x) (sym b.1) (entered b.0)
   ]));
@@ -111,7 +111,8 @@ rows_removed k n mode place number kept rows list changed others =
     (still_used n k mode place (λ m p ne. sym (others m p ne)) (λ m h. (m, (has_of_filtered (λ (x : Mark). not (x.number == number)) (lane k mode place) m (subst (λ l. Has l m) changed h)).0)))
 
 -- a push, step by step: rows were added, room was made, a mark was added, and the cell was put
-pub push_steps : (k mid marked n : Kept) (slot : ℕ) (c : Cell) → AreQueuesKept k → AreRowsListed mid → AreRowsLinked (links mid.rows) → KeepsRows (links k.rows) (links mid.rows) → ((s : ℕ) → get mid.cells s ≡ get k.cells s)
+pub push_steps : (k mid marked n : Kept) (slot : ℕ) (c : Cell) → AreQueuesKept k → AreRowsListed mid → AreRowsLinked (links mid.rows) → KeepsRows (links k.rows) (links mid.rows) →
+    ((s : ℕ) → get mid.cells s ≡ get k.cells s)
     → ((m : Mode) (p : ℕ) → lane mid m p ≡ lane k m p)
     → ChangesLaneOf mid c.mode (place_at (links mid.rows) c.mode c.row) (lane mid c.mode (place_at (links mid.rows) c.mode c.row) ++ mark_of slot c ∷ []) marked
     → (links n.rows) ≡ (links marked.rows) → n.listed ≡ marked.listed → ((m : Mode) (p : ℕ) → lane n m p ≡ lane marked m p) → Updates marked.cells n.cells slot (Some c) → get marked.cells slot ≡ None
@@ -125,11 +126,11 @@ push_steps k mid marked n slot c kept listed linked keeps cells lanes change row
     let empty : get k.cells slot ≡ None = sym (old slot) ∙ vacant in
     let longer : KeepsRows (links k.rows) (links n.rows) = subst (KeepsRows (links k.rows)) (sym moved) keeps in
     let changed : lane n c.mode (place_at (links n.rows) c.mode c.row) ≡ lane k c.mode (place_at (links n.rows) c.mode c.row) ++ mark_of slot c ∷ [] =
-    subst (λ (r : Links). lane n c.mode (place_at r c.mode c.row) ≡ lane k c.mode (place_at r c.mode c.row) ++ mark_of slot c ∷ []) (sym moved)
+    subst (λ (r : RowLinks). lane n c.mode (place_at r c.mode c.row) ≡ lane k c.mode (place_at r c.mode c.row) ++ mark_of slot c ∷ []) (sym moved)
     (same c.mode (place_at (links mid.rows) c.mode c.row) ∙ change.changed ∙ ap (λ l. l ++ mark_of slot c ∷ []) (lanes c.mode (place_at (links mid.rows) c.mode c.row))) in
     let others : AreOthers k n c.mode (place_at (links n.rows) c.mode c.row) =
-    λ m p ne. same m p ∙ change.others m p (λ b. ne (b.0, b.1 ∙ ap (λ (r : Links). place_at r c.mode c.row) (sym moved))) ∙ lanes m p in (
-      kept_pushed k n slot c kept (subst AreRowsLinked (sym moved) linked) longer updates empty number next within (subst (λ (r : Links). c.row < length r.names) (sym moved) row) changed others
+    λ m p ne. same m p ∙ change.others m p (λ b. ne (b.0, b.1 ∙ ap (λ (r : RowLinks). place_at r c.mode c.row) (sym moved))) ∙ lanes m p in (
+      kept_pushed k n slot c kept (subst AreRowsLinked (sym moved) linked) longer updates empty number next within (subst (λ (r : RowLinks). c.row < length r.names) (sym moved) row) changed others
           (rows_pushed mid n c.mode c.row listed moved (list ∙ change.listed) (λ m p ne. same m p ∙ change.others m p ne) entered),
       updates,
       empty,
@@ -154,14 +155,14 @@ listed_added (Ok a) k row g new listed lt e ok err = listed_more k row new liste
 listed_added (Err a) k row g new listed lt e ok err = listed_same k (record k { listed = new }) listed (rows_refl (links k.rows)) err (λ r u. u)
 
 -- of a granule just those rows stay listed that are in use
-pub listed_tidied : (k : Kept) (granule : ℕ) (new : List (List ℕ)) → AreRowsListed k → Tidies granule (reads_of k.rows.table.items) (writes_of k.rows.table.items) k.listed new → AreRowsListed (record k { listed = new })
+pub listed_tidied : (k : Kept) (granule : ℕ) (new : List (List ℕ)) → AreRowsListed k → Tidies granule (lanes_read k.rows.table.items) (lanes_written k.rows.table.items) k.listed new → AreRowsListed (record k { listed = new })
 listed_tidied k granule new listed t = record {
   own = λ g r h. listed.own g r (was g r h (either_nat g granule));
   used = λ r u. stays (granule_at (links k.rows) r) r u (listed.used r u) (either_nat (granule_at (links k.rows) r) granule);
 }
   where
     p : ℕ → Bool
-    p = is_used (reads_of k.rows.table.items) (writes_of k.rows.table.items)
+    p = is_used (lanes_read k.rows.table.items) (lanes_written k.rows.table.items)
 
     was : (g r : ℕ) → Has (rows_at new g) r → (g ≡ granule) ⊎ ¬ (g ≡ granule) → Has (rows_at k.listed g) r
     was g r h (inl e) = subst (λ x. Has (rows_at k.listed x) r) (sym e) (has_of_filtered p (rows_at k.listed granule) r (subst (λ l. Has l r) t.left (subst (λ x. Has (rows_at new x) r) e h))).0
@@ -177,7 +178,7 @@ listed_tidied k granule new listed t = record {
     either false b (inr e) = e
 
     told : (r : ℕ) → IsInUse k r → p r ≡ true
-    told r (m, u) = either _ _ (elim u [ inl h ↦ inl (some (get_or (reads_of k.rows.table.items) r []) m h) | inr h ↦ inr (some (get_or (writes_of k.rows.table.items) r []) m h) ])
+    told r (m, u) = either _ _ (elim u [ inl h ↦ inl (some (get_or (lanes_read k.rows.table.items) r []) m h) | inr h ↦ inr (some (get_or (lanes_written k.rows.table.items) r []) m h) ])
 
     stays : (g r : ℕ) → IsInUse k r → Has (rows_at k.listed g) r → (g ≡ granule) ⊎ ¬ (g ≡ granule) → Has (rows_at new g) r
     stays g r u h (inl e) =

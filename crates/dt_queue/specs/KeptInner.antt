@@ -9,8 +9,8 @@ use Rattle.dt_access.specs.declared.access.Mode.{Mode}
 use Rattle.dt_access.specs.declared.access.Mode.TheVariants.{Read, Write, Whole}
 use Rattle.dt_queue.specs.Queues.{Waiting}
 use Rattle.dt_queue.specs.LanesInner.{HasRisingNumbers, IsFirstIn, IsLastIn, IsNearInRow, IsNextInRow}
-use Rattle.dt_queue.specs.TableInner.{reads_of, writes_of}
-use Rattle.dt_queue.specs.RowsInner.{AreRowsLinked, Links, granule_at, links, name_at}
+use Rattle.dt_queue.specs.TableInner.{lanes_read, lanes_written}
+use Rattle.dt_queue.specs.RowsInner.{AreRowsLinked, RowLinks, granule_at, links, name_at}
 use Rattle.dt_queue.specs.ListedInner.{rows_at}
 use Rattle.dt_queue.specs.declared.cell.Cell.{Cell}
 use Rattle.dt_queue.specs.declared.mark.Mark.{Mark}
@@ -40,18 +40,18 @@ mark_of slot c = record { number = c.number; slot = slot; vertex = c.vertex }
 
 -- the lane of a mode at a place
 abbrev pub lane : Kept → Mode → ℕ → List Mark
-lane k Read place = get_or (reads_of k.rows.table.items) place []
-lane k Write place = get_or (writes_of k.rows.table.items) place []
+lane k Read place = get_or (lanes_read k.rows.table.items) place []
+lane k Write place = get_or (lanes_written k.rows.table.items) place []
 lane k Whole place = get_or k.wholes.items place []
 
 -- the place where a row has its lane of a mode
-abbrev pub place_at : Links → Mode → ℕ → ℕ
+abbrev pub place_at : RowLinks → Mode → ℕ → ℕ
 place_at r Read row = row
 place_at r Write row = row
 place_at r Whole row = granule_at r row
 
 -- the cell has its mark in the lane of this mode and place
-abbrev pub IsInLane : Links → Mode → ℕ → Cell → Type 0
+abbrev pub IsInLane : RowLinks → Mode → ℕ → Cell → Type 0
 IsInLane r mode place c = (c.mode ≡ mode) × (place_at r mode c.row ≡ place)
 
 -- a lane has the marks of just those cells that have P, in the order of their numbers
@@ -132,7 +132,7 @@ abbrev pub HasOneNear : Kept → Cell → Type 0
 HasOneNear k x = (x.mode ≡ Read) ⊎ (x.mode ≡ Write) × (lane k Read x.row ≡ [])
 
 -- two cells clash: they are of one row, which one of them does more than read, or of one granule, which one takes as a whole
-abbrev pub CellsClash : Links → Cell → Cell → Type 0
+abbrev pub CellsClash : RowLinks → Cell → Cell → Type 0
 CellsClash r c d = ((c.row ≡ d.row) × ((may_change c.mode ≡ true) ⊎ (may_change d.mode ≡ true)))
     ⊎ ((granule_at r c.row ≡ granule_at r d.row) × ((is_whole c.mode ≡ true) ⊎ (is_whole d.mode ≡ true)))
 

@@ -17,17 +17,17 @@ abbrev pub granule_name : ℕ × Bytes → ℕ × Bytes
 granule_name name = (name.0, granule_of name.1)
 
 -- the names of rows and of granules, by their numbers, and the granule of each row
-pub record Links : Type 0 where
+pub record RowLinks : Type 0 where
   pub names : List (ℕ × Bytes)
   pub granules : List (ℕ × Bytes)
   pub granule_of : List ℕ
 
 -- those of the rows that are kept
-abbrev pub links : Rows → Links
+abbrev pub links : Rows → RowLinks
 links r = record { names = r.names.keys; granules = r.granules.keys; granule_of = granules_of r.table.items }
 
 -- the number of the granule of a row
-abbrev pub granule_at : Links → ℕ → ℕ
+abbrev pub granule_at : RowLinks → ℕ → ℕ
 granule_at l row = get_or l.granule_of row 0
 
 -- names of rows and granules, and the granule of each row, belong together
@@ -38,10 +38,10 @@ pub record AreTied (names granules : List (ℕ × Bytes)) (granule_of : List ℕ
   pub granule : (row : ℕ) → row < length names → slice_get granules (get_or granule_of row 0) ≡ Some (granule_name (name_at names row))
 
 -- each row knows its granule
-abbrev pub AreRowsLinked : Links → Type 0
+abbrev pub AreRowsLinked : RowLinks → Type 0
 AreRowsLinked l = AreTied l.names l.granules l.granule_of
 
 -- rows may have been added, and all others have their numbers and granules as before
-pub record KeepsRows (old new : Links) : Type 0 where
+pub record KeepsRows (old new : RowLinks) : Type 0 where
   pub names : IsFront old.names new.names
   pub granules : (row : ℕ) → row < length old.names → granule_at new row ≡ granule_at old row

@@ -9,9 +9,9 @@ abbrev pub granules_of : List Row → List ℕ
 granules_of table = map (λ r. r.granule) table
 
 -- of each row the lane of those that are to read it
-abbrev pub reads_of : List Row → List (List Mark)
-reads_of table = map (λ r. r.reads) table
+abbrev pub lanes_read : List Row → List (List Mark)
+lanes_read table = map (λ r. r.reads) table
 
 -- of each row the lane of those that are to write it
-abbrev pub writes_of : List Row → List (List Mark)
-writes_of table = map (λ r. r.writes) table
+abbrev pub lanes_written : List Row → List (List Mark)
+lanes_written table = map (λ r. r.writes) table

@@ -1,6 +1,6 @@
 ghost use Rattle.std.specs.Prelude.{◌≡◌, ◌<◌, ◌-◌, ◌↔◌, ℕ, [], false, IsTrue, OnErr, OnOk, get_or, length, map, vec_capacity, vec_len};
 ghost use Rattle.dt_lists.specs.Lists.{AllIn, Distinct};
-ghost use Rattle.dt_queue.specs.TableInner.{reads_of, writes_of};
+ghost use Rattle.dt_queue.specs.TableInner.{lanes_read, lanes_written};
 ghost use Rattle.dt_queue.specs.ListedInner.{FlagsUsed};
 
 use crate::row::{Row, is_used};
@@ -69,7 +69,7 @@ impl Listed {
 
     /// Takes those rows of a granule out in which nothing waits to read or write. Takes no memory.
     pub fn tidy(&mut self, granule: usize, table: &[Row])
-        ensures { Tidies granule (reads_of table.now) (writes_of table.now) self.old self.new }
+        ensures { Tidies granule (lanes_read table.now) (lanes_written table.now) self.old self.new }
     {
         if granule < self.rows.len() {
             flag_used(self.rows[granule].as_slice(), table, &mut self.flags);
@@ -115,7 +115,7 @@ fn make_flag(flags: &mut Vec<bool>, row: usize) -> Result<(), NoMemory>
 /// Gives each of these rows its flag where something waits to read or write it, and else takes it away. Takes no memory.
 fn flag_used(rows: &[usize], table: &[Row], flags: &mut Vec<bool>)
     requires { AllIn (λ r. r < length flags.old.items) rows.now }
-    ensures { FlagsUsed rows.now (reads_of table.now) (writes_of table.now) flags.old.items flags.new.items }
+    ensures { FlagsUsed rows.now (lanes_read table.now) (lanes_written table.now) flags.old.items flags.new.items }
 {
     for row in rows {
         flags[*row] = is_used(table, *row);

@@ -1,7 +1,7 @@
 ghost use Rattle.std.specs.Prelude.{◌≡◌, ◌++◌, [], get_or, option_to_list, IfOk, OnOk};
 ghost use Rattle.dt_lists.specs.Lists.{AnyIn, Distinct};
 ghost use Rattle.dt_queue.specs.LanesInner.{AddsMarks, AreApart, AreMarks, HasRisingNumbers, IsLastIn, IsNearInRow, number_or};
-ghost use Rattle.dt_queue.specs.TableInner.{reads_of, writes_of};
+ghost use Rattle.dt_queue.specs.TableInner.{lanes_read, lanes_written};
 
 use crate::mark::{Mark, Marks};
 use crate::row::{Row, add_reads, last_write};
@@ -46,8 +46,8 @@ pub fn near_write(
     low: u64,
     high: u64,
 ) -> Result<Marks, NoMemory>
-    requires { HasRisingNumbers (get_or (writes_of table.now) row []) }
-    ensures { IfOk result (λ marks. AreMarks (IsLastIn (get_or (writes_of table.now) row []) low high) marks.items) }
+    requires { HasRisingNumbers (get_or (lanes_written table.now) row []) }
+    ensures { IfOk result (λ marks. AreMarks (IsLastIn (get_or (lanes_written table.now) row []) low high) marks.items) }
 {
     only(alloc, last_write(table, row, low, high))
 }
@@ -61,8 +61,8 @@ pub fn add_row(
     high: u64,
     marks: &mut Marks,
 ) -> Result<(), NoMemory>
-    requires { AreApart (reads_of table.now) (writes_of table.now) }
-    ensures { OnOk result (AddsMarks (IsNearInRow (get_or (reads_of table.now) row []) (get_or (writes_of table.now) row []) low high) marks.old.items marks.new.items) }
+    requires { AreApart (lanes_read table.now) (lanes_written table.now) }
+    ensures { OnOk result (AddsMarks (IsNearInRow (get_or (lanes_read table.now) row []) (get_or (lanes_written table.now) row []) low high) marks.old.items marks.new.items) }
 {
     let write = last_write(table, row, low, high);
     let had = marks.len();
@@ -81,8 +81,8 @@ pub fn near_row(
     low: u64,
     high: u64,
 ) -> Result<Marks, NoMemory>
-    requires { AreApart (reads_of table.now) (writes_of table.now) }
-    ensures { IfOk result (λ marks. AreMarks (IsNearInRow (get_or (reads_of table.now) row []) (get_or (writes_of table.now) row []) low high) marks.items) }
+    requires { AreApart (lanes_read table.now) (lanes_written table.now) }
+    ensures { IfOk result (λ marks. AreMarks (IsNearInRow (get_or (lanes_read table.now) row []) (get_or (lanes_written table.now) row []) low high) marks.items) }
 {
     let mut marks = SmallVec::new(alloc);
     add_row(table, row, low, high, &mut marks)?;
@@ -97,9 +97,9 @@ pub fn near_rows(
     low: u64,
     high: u64,
 ) -> Result<Marks, NoMemory>
-    requires apart { AreApart (reads_of table.now) (writes_of table.now) }
+    requires apart { AreApart (lanes_read table.now) (lanes_written table.now) }
     requires once { Distinct rows.now }
-    ensures { IfOk result (λ marks. AreMarks (λ m. AnyIn (λ row. IsNearInRow (get_or (reads_of table.now) row []) (get_or (writes_of table.now) row []) low high m) rows.now) marks.items) }
+    ensures { IfOk result (λ marks. AreMarks (λ m. AnyIn (λ row. IsNearInRow (get_or (lanes_read table.now) row []) (get_or (lanes_written table.now) row []) low high m) rows.now) marks.items) }
 {
     let mut marks = SmallVec::new(alloc);
     for row in rows {

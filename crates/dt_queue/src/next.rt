@@ -1,7 +1,7 @@
 ghost use Rattle.std.specs.Prelude.{◌≡◌, [], get_or, is_some, ◌||◌};
 ghost use Rattle.dt_lists.specs.Lists.{AnyIn};
 ghost use Rattle.dt_queue.specs.LanesInner.{AreApart, HasRisingNumbers, IsFirstIn, IsNextInRow, earlier, later_than};
-ghost use Rattle.dt_queue.specs.TableInner.{reads_of, writes_of};
+ghost use Rattle.dt_queue.specs.TableInner.{lanes_read, lanes_written};
 
 use crate::mark::Mark;
 use crate::nearest::number_or;
@@ -45,8 +45,8 @@ impl Next {
 
     /// Of the marks of those that write a row between two numbers the first one, if there is one.
     pub fn in_writes(table: &[Row], row: usize, low: u64, high: u64, after: u64) -> Self
-        requires { HasRisingNumbers (get_or (writes_of table.now) row []) }
-        ensures { IsKnownNext (IsFirstIn (get_or (writes_of table.now) row []) low high) after result }
+        requires { HasRisingNumbers (get_or (lanes_written table.now) row []) }
+        ensures { IsKnownNext (IsFirstIn (get_or (lanes_written table.now) row []) low high) after result }
     {
         Next::one(first_write(table, row, low, high), after)
     }
@@ -54,8 +54,8 @@ impl Next {
     /// Of the marks of a row between two numbers those that are nearest to an entry before them that writes the row: those that
     /// read it and before which none writes it, or, where there are none, the first one that writes it.
     pub fn in_row(table: &[Row], row: usize, low: u64, high: u64, after: u64) -> Self
-        requires { AreApart (reads_of table.now) (writes_of table.now) }
-        ensures { IsKnownNext (IsNextInRow (get_or (reads_of table.now) row []) (get_or (writes_of table.now) row []) low high) after result }
+        requires { AreApart (lanes_read table.now) (lanes_written table.now) }
+        ensures { IsKnownNext (IsNextInRow (get_or (lanes_read table.now) row []) (get_or (lanes_written table.now) row []) low high) after result }
     {
         let write = first_write(table, row, low, high);
         let limit = number_or(write, high);
@@ -71,8 +71,8 @@ impl Next {
 
     /// The same of several rows.
     pub fn in_rows(table: &[Row], rows: &[usize], low: u64, high: u64, after: u64) -> Self
-        requires { AreApart (reads_of table.now) (writes_of table.now) }
-        ensures { IsKnownNext (λ m. AnyIn (λ row. IsNextInRow (get_or (reads_of table.now) row []) (get_or (writes_of table.now) row []) low high m) rows.now) after result }
+        requires { AreApart (lanes_read table.now) (lanes_written table.now) }
+        ensures { IsKnownNext (λ m. AnyIn (λ row. IsNextInRow (get_or (lanes_read table.now) row []) (get_or (lanes_written table.now) row []) low high m) rows.now) after result }
     {
         let mut next = Next {
             any: false,

@@ -2,7 +2,7 @@ ghost use Rattle.std.specs.Prelude.{◌≡◌, ◌<◌, ◌≤◌, ◌==◌, [],
 ghost use Rattle.std.specs.List.{filter};
 ghost use Rattle.dt_lists.specs.Lists.{AllIn};
 ghost use Rattle.dt_queue.specs.LanesInner.{ChangesLane, IsFirstBetween, IsLastBetween, SameLanes, is_between};
-ghost use Rattle.dt_queue.specs.TableInner.{granules_of, reads_of, writes_of};
+ghost use Rattle.dt_queue.specs.TableInner.{granules_of, lanes_read, lanes_written};
 ghost use Rattle.dt_queue.specs.ListedInner.{is_used};
 ghost use Rattle.dt_queue.specs.NumbersInner.{IsGap, renumbered};
 
@@ -44,10 +44,10 @@ pub fn push_read(
 ) -> Result<(), NoMemory>
     requires known { row < length table.old.items }
     requires positive { 0 < mark.number }
-    requires last { AllIn (λ m. m.number < mark.number) (get_or (reads_of table.old.items) row []) }
-    ensures added { OnOk result (ChangesLane (reads_of table.old.items) row (get_or (reads_of table.old.items) row [] ++ mark ∷ []) (reads_of table.new.items)) }
-    ensures same { OnErr result (SameLanes (reads_of table.old.items) (reads_of table.new.items)) }
-    ensures writes { SameLanes (writes_of table.old.items) (writes_of table.new.items) }
+    requires last { AllIn (λ m. m.number < mark.number) (get_or (lanes_read table.old.items) row []) }
+    ensures added { OnOk result (ChangesLane (lanes_read table.old.items) row (get_or (lanes_read table.old.items) row [] ++ mark ∷ []) (lanes_read table.new.items)) }
+    ensures same { OnErr result (SameLanes (lanes_read table.old.items) (lanes_read table.new.items)) }
+    ensures writes { SameLanes (lanes_written table.old.items) (lanes_written table.new.items) }
     ensures granules { granules_of table.new.items ≡ granules_of table.old.items }
 {
     table[row].reads.push(alloc, mark)
@@ -62,10 +62,10 @@ pub fn push_write(
 ) -> Result<(), NoMemory>
     requires known { row < length table.old.items }
     requires positive { 0 < mark.number }
-    requires last { AllIn (λ m. m.number < mark.number) (get_or (writes_of table.old.items) row []) }
-    ensures added { OnOk result (ChangesLane (writes_of table.old.items) row (get_or (writes_of table.old.items) row [] ++ mark ∷ []) (writes_of table.new.items)) }
-    ensures same { OnErr result (SameLanes (writes_of table.old.items) (writes_of table.new.items)) }
-    ensures reads { SameLanes (reads_of table.old.items) (reads_of table.new.items) }
+    requires last { AllIn (λ m. m.number < mark.number) (get_or (lanes_written table.old.items) row []) }
+    ensures added { OnOk result (ChangesLane (lanes_written table.old.items) row (get_or (lanes_written table.old.items) row [] ++ mark ∷ []) (lanes_written table.new.items)) }
+    ensures same { OnErr result (SameLanes (lanes_written table.old.items) (lanes_written table.new.items)) }
+    ensures reads { SameLanes (lanes_read table.old.items) (lanes_read table.new.items) }
     ensures granules { granules_of table.new.items ≡ granules_of table.old.items }
 {
     table[row].writes.push(alloc, mark)
@@ -73,8 +73,8 @@ pub fn push_write(
 
 /// Takes out the mark of a number of those that are to read a row. Takes no memory.
 pub fn remove_read(table: &mut Vec<Row>, row: usize, number: u64)
-    ensures reads { ChangesLane (reads_of table.old.items) row (filter (λ m. not (m.number == number)) (get_or (reads_of table.old.items) row [])) (reads_of table.new.items) }
-    ensures writes { SameLanes (writes_of table.old.items) (writes_of table.new.items) }
+    ensures reads { ChangesLane (lanes_read table.old.items) row (filter (λ m. not (m.number == number)) (get_or (lanes_read table.old.items) row [])) (lanes_read table.new.items) }
+    ensures writes { SameLanes (lanes_written table.old.items) (lanes_written table.new.items) }
     ensures granules { granules_of table.new.items ≡ granules_of table.old.items }
 {
     if row < table.len() {
@@ -84,8 +84,8 @@ pub fn remove_read(table: &mut Vec<Row>, row: usize, number: u64)
 
 /// The same of those that are to write it.
 pub fn remove_write(table: &mut Vec<Row>, row: usize, number: u64)
-    ensures writes { ChangesLane (writes_of table.old.items) row (filter (λ m. not (m.number == number)) (get_or (writes_of table.old.items) row [])) (writes_of table.new.items) }
-    ensures reads { SameLanes (reads_of table.old.items) (reads_of table.new.items) }
+    ensures writes { ChangesLane (lanes_written table.old.items) row (filter (λ m. not (m.number == number)) (get_or (lanes_written table.old.items) row [])) (lanes_written table.new.items) }
+    ensures reads { SameLanes (lanes_read table.old.items) (lanes_read table.new.items) }
     ensures granules { granules_of table.new.items ≡ granules_of table.old.items }
 {
     if row < table.len() {
@@ -97,9 +97,9 @@ pub fn remove_write(table: &mut Vec<Row>, row: usize, number: u64)
 pub fn renumber_read(table: &mut Vec<Row>, row: usize, number: u64, new: u64)
     requires positive { 0 < new }
     requires lesser { new ≤ number }
-    requires gap { AllIn (IsGap number new) (get_or (reads_of table.old.items) row []) }
-    ensures reads { ChangesLane (reads_of table.old.items) row (map (renumbered number new) (get_or (reads_of table.old.items) row [])) (reads_of table.new.items) }
-    ensures writes { SameLanes (writes_of table.old.items) (writes_of table.new.items) }
+    requires gap { AllIn (IsGap number new) (get_or (lanes_read table.old.items) row []) }
+    ensures reads { ChangesLane (lanes_read table.old.items) row (map (renumbered number new) (get_or (lanes_read table.old.items) row [])) (lanes_read table.new.items) }
+    ensures writes { SameLanes (lanes_written table.old.items) (lanes_written table.new.items) }
     ensures granules { granules_of table.new.items ≡ granules_of table.old.items }
 {
     if row < table.len() {
@@ -111,9 +111,9 @@ pub fn renumber_read(table: &mut Vec<Row>, row: usize, number: u64, new: u64)
 pub fn renumber_write(table: &mut Vec<Row>, row: usize, number: u64, new: u64)
     requires positive { 0 < new }
     requires lesser { new ≤ number }
-    requires gap { AllIn (IsGap number new) (get_or (writes_of table.old.items) row []) }
-    ensures writes { ChangesLane (writes_of table.old.items) row (map (renumbered number new) (get_or (writes_of table.old.items) row [])) (writes_of table.new.items) }
-    ensures reads { SameLanes (reads_of table.old.items) (reads_of table.new.items) }
+    requires gap { AllIn (IsGap number new) (get_or (lanes_written table.old.items) row []) }
+    ensures writes { ChangesLane (lanes_written table.old.items) row (map (renumbered number new) (get_or (lanes_written table.old.items) row [])) (lanes_written table.new.items) }
+    ensures reads { SameLanes (lanes_read table.old.items) (lanes_read table.new.items) }
     ensures granules { granules_of table.new.items ≡ granules_of table.old.items }
 {
     if row < table.len() {
@@ -123,7 +123,7 @@ pub fn renumber_write(table: &mut Vec<Row>, row: usize, number: u64, new: u64)
 
 /// Whether nothing waits to read a row.
 pub fn has_no_read(table: &[Row], row: usize) -> bool
-    ensures { result ≡ (length (get_or (reads_of table.now) row []) == 0) }
+    ensures { result ≡ (length (get_or (lanes_read table.now) row []) == 0) }
 {
     match table.get(row) {
         Some(of_row) => of_row.reads.is_empty(),
@@ -133,7 +133,7 @@ pub fn has_no_read(table: &[Row], row: usize) -> bool
 
 /// Whether something waits to read or write a row.
 pub fn is_used(table: &[Row], row: usize) -> bool
-    ensures { result ≡ is_used (reads_of table.now) (writes_of table.now) row }
+    ensures { result ≡ is_used (lanes_read table.now) (lanes_written table.now) row }
 {
     match table.get(row) {
         Some(of_row) => !of_row.reads.is_empty() || !of_row.writes.is_empty(),
@@ -144,7 +144,7 @@ pub fn is_used(table: &[Row], row: usize) -> bool
 /// Of those that are to write a row the last mark with a number between the two.
 #[inline(always)]
 pub fn last_write(table: &[Row], row: usize, low: u64, high: u64) -> Option<Mark>
-    ensures { IsLastBetween low high (get_or (writes_of table.now) row []) result }
+    ensures { IsLastBetween low high (get_or (lanes_written table.now) row []) result }
 {
     table.get(row)?.writes.last_between(low, high)
 }
@@ -152,7 +152,7 @@ pub fn last_write(table: &[Row], row: usize, low: u64, high: u64) -> Option<Mark
 /// Of those that are to write a row the first mark with a number between the two.
 #[inline(always)]
 pub fn first_write(table: &[Row], row: usize, low: u64, high: u64) -> Option<Mark>
-    ensures { IsFirstBetween low high (get_or (writes_of table.now) row []) result }
+    ensures { IsFirstBetween low high (get_or (lanes_written table.now) row []) result }
 {
     table.get(row)?.writes.first_between(low, high)
 }
@@ -160,7 +160,7 @@ pub fn first_write(table: &[Row], row: usize, low: u64, high: u64) -> Option<Mar
 /// Of those that are to read a row the first mark with a number between the two.
 #[inline(always)]
 pub fn first_read(table: &[Row], row: usize, low: u64, high: u64) -> Option<Mark>
-    ensures { IsFirstBetween low high (get_or (reads_of table.now) row []) result }
+    ensures { IsFirstBetween low high (get_or (lanes_read table.now) row []) result }
 {
     table.get(row)?.reads.first_between(low, high)
 }
@@ -173,7 +173,7 @@ pub fn add_reads(
     high: u64,
     marks: &mut Marks,
 ) -> Result<(), NoMemory>
-    ensures { OnOk result (marks.new.items ≡ marks.old.items ++ filter (is_between low high) (get_or (reads_of table.now) row [])) }
+    ensures { OnOk result (marks.new.items ≡ marks.old.items ++ filter (is_between low high) (get_or (lanes_read table.now) row [])) }
 {
     match table.get(row) {
         Some(of_row) => of_row.reads.add_between(low, high, marks),

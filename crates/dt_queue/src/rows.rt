@@ -1,7 +1,7 @@
 ghost use Rattle.std.specs.Prelude.{◌≡◌, ◌<◌, [], length, slice_get, Some, IfOk};
 ghost use Rattle.dt_lists.specs.Lists.{Has};
 ghost use Rattle.dt_queue.specs.LanesInner.{SameLanes};
-ghost use Rattle.dt_queue.specs.TableInner.{reads_of, writes_of};
+ghost use Rattle.dt_queue.specs.TableInner.{lanes_read, lanes_written};
 
 use crate::row::Row;
 use crate::used::Used;
@@ -40,8 +40,8 @@ impl Rows {
         requires { AreRowsLinked (links self.old) }
         ensures linked { AreRowsLinked (links self.new) }
         ensures kept { KeepsRows (links self.old) (links self.new) }
-        ensures reads { SameLanes (reads_of self.old.table.items) (reads_of self.new.table.items) }
-        ensures writes { SameLanes (writes_of self.old.table.items) (writes_of self.new.table.items) }
+        ensures reads { SameLanes (lanes_read self.old.table.items) (lanes_read self.new.table.items) }
+        ensures writes { SameLanes (lanes_written self.old.table.items) (lanes_written self.new.table.items) }
         ensures found { IfOk result (λ row. slice_get self.new.names.keys row ≡ Some (home, key.now)) }
     {
         match self.names.get_index_of(Used { home, key }) {
@@ -56,8 +56,8 @@ impl Rows {
         requires absent { ¬ (Has self.old.names.keys name) }
         ensures linked { AreRowsLinked (links self.new) }
         ensures kept { KeepsRows (links self.old) (links self.new) }
-        ensures reads { SameLanes (reads_of self.old.table.items) (reads_of self.new.table.items) }
-        ensures writes { SameLanes (writes_of self.old.table.items) (writes_of self.new.table.items) }
+        ensures reads { SameLanes (lanes_read self.old.table.items) (lanes_read self.new.table.items) }
+        ensures writes { SameLanes (lanes_written self.old.table.items) (lanes_written self.new.table.items) }
         ensures found { IfOk result (λ row. slice_get self.new.names.keys row ≡ Some name) }
     {
         let granule = self.granule((name.0, granule(alloc, &name.1)?))?;

@@ -1,12 +1,12 @@
 use Rattle.std.proofs.Common.{◌≡◌, [], get_or, length, arith}
-use Rattle.dt_queue.specs.TableInner.{reads_of, writes_of}
+use Rattle.dt_queue.specs.TableInner.{lanes_read, lanes_written}
 use Rattle.dt_queue.proofs.NearMarks.{added_reads, added_write, row_of}
 use Rattle.dt_queue.proofs.nearest.add_row.Goals as goal
 
 pub returns-in_ok-add : goal.returns-in_ok-add
 returns-in_ok-add c =
-    let reads = reads_of c.args.table.now in
-    let writes = writes_of c.args.table.now in
+    let reads = lanes_read c.args.table.now in
+    let writes = lanes_written c.args.table.now in
     let same : length c.add_reads.new.marks.items ≡ length c.args.marks.now.items = omega (arith, c.if-len-had.true, c.len.ensures, c.len-had.ensures) in
     added_write _ _ _ (get_or reads c.args.row []) (get_or writes c.args.row []) c.args.low c.args.high c.number_or.result c.last_write-write.result
     (row_of reads writes c.requires c.args.row) c.last_write-write.ensures c.number_or.ensures
@@ -14,8 +14,8 @@ returns-in_ok-add c =
 
 pub returns-else-len-had : goal.returns-else-len-had
 returns-else-len-had c =
-    let reads = reads_of c.args.table.now in
-    let writes = writes_of c.args.table.now in
+    let reads = lanes_read c.args.table.now in
+    let writes = lanes_written c.args.table.now in
     let other : ¬ (length c.add_reads.new.marks.items ≡ length c.args.marks.now.items) = λ e. c.if-len-had.false (omega (arith, e, c.len.ensures, c.len-had.ensures)) in
     added_reads _ _ (get_or reads c.args.row []) (get_or writes c.args.row []) c.args.low c.args.high c.number_or.result c.last_write-write.result
     (row_of reads writes c.requires c.args.row) c.last_write-write.ensures c.number_or.ensures

@@ -2,7 +2,7 @@ use Rattle.std.proofs.Common.{◌≡◌, [], get_or, length, take, ap, subst, ar
 use Rattle.std.proofs.lemmas.List.{take_more, take_all}
 use Rattle.std.proofs.lemmas.List.Sorted.{IsNonDecreasingBy-from_sort_by_key}
 use Rattle.smallvec.proofs.SmallVecLemmas.{items-with_items}
-use Rattle.dt_queue.specs.TableInner.{reads_of, writes_of}
+use Rattle.dt_queue.specs.TableInner.{lanes_read, lanes_written}
 use Rattle.dt_queue.specs.LanesInner.{IsNearInRow}
 use Rattle.dt_queue.proofs.RowsNear.{AreGathered, fresh_at, gathered_more, near_parted, none_gathered, sorted_marks}
 use Rattle.dt_queue.proofs.nearest.near_rows.Goals as goal
@@ -12,8 +12,8 @@ loop-row-init c = rw c.new-marks.ensures.items (none_gathered _)
 
 pub loop-row-preserved : goal.loop-row-preserved
 loop-row-preserved c =
-    let reads = reads_of c.args.table.now in
-    let writes = writes_of c.args.table.now in
+    let reads = lanes_read c.args.table.now in
+    let writes = lanes_written c.args.table.now in
     let rows = c.args.rows.now in
     let i = c.loop-row.row-index in
     rw (take_more rows i 0 c.loop-row-test.true)
@@ -22,8 +22,8 @@ loop-row-preserved c =
 
 pub returns : goal.returns
 returns c =
-    let reads = reads_of c.args.table.now in
-    let writes = writes_of c.args.table.now in
+    let reads = lanes_read c.args.table.now in
+    let writes = lanes_written c.args.table.now in
     let rows = c.args.rows.now in
     let sorted = c.sort_by_key.new.self in
     let all : take c.loop-row.row-index rows ≡ rows = take_all c.loop-row.row-index rows (omega (arith, c.loop-row-test.false)) in

@@ -16,7 +16,8 @@ returns-clause-added c =
 pub returns-clause-same : goal.returns-clause-same
 returns-clause-same c =
     let r : Row = c.index_mut.result.now in
-    on_err_weaker c.push.result (λ e. lane_stays (λ (x : Row). x.reads) c.args.table.now.items c.args.row (record { granule = r.granule; reads = c.push.new.self; writes = r.writes }) r c.requires.known c.index_mut.ensures.value e) c.push.ensures.same
+    on_err_weaker c.push.result (λ e. lane_stays (λ (x : Row). x.reads) c.args.table.now.items c.args.row
+    (record { granule = r.granule; reads = c.push.new.self; writes = r.writes }) r c.requires.known c.index_mut.ensures.value e) c.push.ensures.same
 
 pub returns-clause-writes : goal.returns-clause-writes
 returns-clause-writes c =

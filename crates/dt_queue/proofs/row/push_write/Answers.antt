@@ -16,7 +16,8 @@ returns-clause-added c =
 pub returns-clause-same : goal.returns-clause-same
 returns-clause-same c =
     let r : Row = c.index_mut.result.now in
-    on_err_weaker c.push.result (λ e. lane_stays (λ (x : Row). x.writes) c.args.table.now.items c.args.row (record { granule = r.granule; writes = c.push.new.self; reads = r.reads }) r c.requires.known c.index_mut.ensures.value e) c.push.ensures.same
+    on_err_weaker c.push.result (λ e. lane_stays (λ (x : Row). x.writes) c.args.table.now.items c.args.row
+    (record { granule = r.granule; writes = c.push.new.self; reads = r.reads }) r c.requires.known c.index_mut.ensures.value e) c.push.ensures.same
 
 pub returns-clause-reads : goal.returns-clause-reads
 returns-clause-reads c =

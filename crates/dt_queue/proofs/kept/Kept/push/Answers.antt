@@ -9,8 +9,8 @@ use Rattle.dt_queue.specs.declared.kept.Kept.{Kept}
 use Rattle.dt_queue.specs.declared.row.Row.{Row}
 use Rattle.dt_queue.specs.declared.rows.Rows.{Rows}
 use Rattle.dt_queue.specs.LanesInner.{SameLanes}
-use Rattle.dt_queue.specs.TableInner.{reads_of, writes_of}
-use Rattle.dt_queue.specs.RowsInner.{AreRowsLinked, KeepsRows, Links, links, name_at}
+use Rattle.dt_queue.specs.TableInner.{lanes_read, lanes_written}
+use Rattle.dt_queue.specs.RowsInner.{AreRowsLinked, KeepsRows, RowLinks, links, name_at}
 use Rattle.dt_queue.specs.KeptInner.{AreRowsListed, lane, place_at}
 use Rattle.dt_queue.specs.ListedInner.{rows_at}
 use Rattle.dt_queue.proofs.LanesOfCells.{all_before, kept_same, rows_refl, same_lanes, same_self, to_err}
@@ -18,10 +18,10 @@ use Rattle.dt_queue.proofs.RowsUsed.{listed_same, push_steps, rows_same, used_sa
 use Rattle.dt_queue.proofs.kept.Kept.push.Goals as goal
 
 -- the lanes are as before, and rows may have been added and listed
-lanes_entered : (k : Kept) (r : Rows) (e : Kept) → SameLanes (reads_of k.rows.table.items) (reads_of r.table.items) → SameLanes (writes_of k.rows.table.items) (writes_of r.table.items)
+lanes_entered : (k : Kept) (r : Rows) (e : Kept) → SameLanes (lanes_read k.rows.table.items) (lanes_read r.table.items) → SameLanes (lanes_written k.rows.table.items) (lanes_written r.table.items)
     → e ≡ record k { rows = r; listed = e.listed } → (m : Mode) (p : ℕ) → lane e m p ≡ lane k m p
-lanes_entered k r e a b same m p = same_lanes e k (subst (λ (y : Kept). SameLanes (reads_of k.rows.table.items) (reads_of y.rows.table.items)) (sym same) a)
-    (subst (λ (y : Kept). SameLanes (writes_of k.rows.table.items) (writes_of y.rows.table.items)) (sym same) b) (ap (λ (y : Kept). y.wholes) same) m p
+lanes_entered k r e a b same m p = same_lanes e k (subst (λ (y : Kept). SameLanes (lanes_read k.rows.table.items) (lanes_read y.rows.table.items)) (sym same) a)
+    (subst (λ (y : Kept). SameLanes (lanes_written k.rows.table.items) (lanes_written y.rows.table.items)) (sym same) b) (ap (λ (y : Kept). y.wholes) same) m p
 
 -- and so it is whatever the cells are
 lanes_in : (e : Kept) (cells : Slab Cell) (m : Mode) (p : ℕ) → lane (record e { cells = cells }) m p ≡ lane e m p
@@ -99,7 +99,7 @@ returns-in_err-add_mark-clause-kept c =
     (same.number ∙ ap (λ (y : Kept). y.next_number) entered) lanes listed
 
 pub returns-in_err-add_mark-clause-rows : goal.returns-in_err-add_mark-clause-rows
-returns-in_err-add_mark-clause-rows c = subst (λ (l : Links). IsFront c.args.self.now.rows.names.keys l.names)
+returns-in_err-add_mark-clause-rows c = subst (λ (l : RowLinks). IsFront c.args.self.now.rows.names.keys l.names)
     (sym (c.in_err-add_mark.ensures.same.rows ∙ ap (λ (y : Kept). links y.rows) c.in_ok-enter.ensures.same)) c.in_ok-row.ensures.kept.names
 
 pub returns-in_err-add_mark-clause-same : goal.returns-in_err-add_mark-clause-same
@@ -127,10 +127,10 @@ returns-clause-kept c =
     (λ m p. lanes_in e c.reserve.new.self m p ∙ lanes_entered k c.row.new.self e c.in_ok-row.ensures.reads c.in_ok-row.ensures.writes entered m p) added refl refl
     (λ m p. same_lanes n marked (same_self _) (same_self _) refl m p)
     (subst (λ s. Updates marked.cells n.cells s (Some cell)) at c.insert_reserved.ensures.updates) (subst (λ s. get marked.cells s ≡ None) at c.insert_reserved.ensures.was_vacant) refl refl within
-    (subst (λ (l : Links). c.in_ok-row.row < length l.names) (sym rows) (slice_get_within c.row.new.self.names.keys c.in_ok-row.row _ c.in_ok-row.ensures.found)) c.in_ok-enter.ensures.entered).0
+    (subst (λ (l : RowLinks). c.in_ok-row.row < length l.names) (sym rows) (slice_get_within c.row.new.self.names.keys c.in_ok-row.row _ c.in_ok-row.ensures.found)) c.in_ok-enter.ensures.entered).0
 
 pub returns-clause-rows : goal.returns-clause-rows
-returns-clause-rows c = subst (λ (l : Links). IsFront c.args.self.now.rows.names.keys l.names)
+returns-clause-rows c = subst (λ (l : RowLinks). IsFront c.args.self.now.rows.names.keys l.names)
     (sym (c.in_ok-add_mark.ensures.added.rows ∙ ap (λ (y : Kept). links y.rows) c.in_ok-enter.ensures.same)) c.in_ok-row.ensures.kept.names
 
 pub returns-clause-added : goal.returns-clause-added
@@ -148,7 +148,7 @@ returns-clause-added c =
       vacant = sym (old c.insert_reserved.result) ∙ c.insert_reserved.ensures.was_vacant;
       updates = record { changed = up.changed; others = λ s ne. up.others s ne ∙ old s };
       number = refl;
-      name = ap (λ (l : Links). name_at l.names c.in_ok-row.row) (added.rows ∙ ap (λ (y : Kept). links y.rows) entered)
+      name = ap (λ (l : RowLinks). name_at l.names c.in_ok-row.row) (added.rows ∙ ap (λ (y : Kept). links y.rows) entered)
           ∙ get_or_from_slice_get c.row.new.self.names.keys c.in_ok-row.row _ _ c.in_ok-row.ensures.found;
       mode_is = refl;
       vertex_is = refl;

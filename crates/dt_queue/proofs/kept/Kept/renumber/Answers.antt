@@ -27,7 +27,8 @@ returns-clause-same c =
     subst (λ (z : Cell). Updates k.cells n.cells c.args.slot (Some (record z { number = c.args.number }))) one
     (cell_set k.cells marked.cells c.args.slot x (record y { number = c.args.number }) change.cells c.index-cell.ensures) in
     let first = first_is k.cells c.args.slot c.args.number x c.index-cell.ensures c.requires.first in
-    let kept = kept_renumbered k n c.args.slot x c.args.number c.requires.kept change.rows c.index-cell.ensures up first.0 first.1 change.number c.requires.positive (same_lanes n marked (same_self _) (same_self _) refl _ _ ∙ change.changed)
+    let kept = kept_renumbered k n c.args.slot x c.args.number c.requires.kept change.rows c.index-cell.ensures up first.0 first.1 change.number c.requires.positive
+    (same_lanes n marked (same_self _) (same_self _) refl _ _ ∙ change.changed)
     (λ m p ne. same_lanes n marked (same_self _) (same_self _) refl m p ∙ change.others m p ne) change.listed in
     record {
       kept = kept;
