@@ -1,5 +1,5 @@
 -- What is ready or stuck is a vertex, and there are fewer than a 32-bit number can count.
-use Rattle.std.proofs.Common.{◌≡◌, ◌<◌, ◌≤◌, ◌^◌, ◌∙◌, ℕ, List, length, sym, ap, subst, inl, inr, arith}
+use Rattle.std.proofs.Common.{◌≡◌, ◌<◌, ◌≤◌, ◌^◌, ◌∙◌, ℕ, List, length, sym, ap, subst, inl, inr}
 use Rattle.dt_lists.specs.Lists.{AllIn, Has}
 use Rattle.dt_lists.proofs.Callers.{all_get, all_put, distinct_within, has_place}
 use Rattle.dt_access.specs.declared.TxnId.{TxnId}

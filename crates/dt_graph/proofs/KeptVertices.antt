@@ -1,12 +1,11 @@
 -- The ready and the stuck numbers stand as the records of their vertices say, also after a vertex came to them or went from them.
-use Rattle.std.proofs.Common.{◌≡◌, ◌≢◌, ◌≤◌, ◌<◌, ◌+◌, ◌^◌, ◌∙◌, ℕ, List, [], ◌∷◌, ◌++◌, length, map, get_or, set, Option, None, Some, refl, sym, ap, subst, arith}
+use Rattle.std.proofs.Common.{◌≡◌, ◌≢◌, ◌≤◌, ◌<◌, ◌+◌, ◌^◌, ◌∙◌, ℕ, List, [], ◌∷◌, ◌++◌, length, map, get_or, set, Option, None, Some, refl, sym, ap, subst}
 use Rattle.std.proofs.Math.ListN.{get_or-map as read_map}
 use Rattle.std.proofs.Math.Seq.{map-set_same}
 use Rattle.std.proofs.lemmas.List.{get_or-map, get_or-set_other, length-map, map-append, map-set, set-get_or}
 use Rattle.std.proofs.lemmas.Option.{slice_get_within}
 use Rattle.dt_lists.specs.Lists.{Has}
 use Rattle.dt_lists.proofs.Callers.{has_last}
-use Rattle.dt_waits.specs.declared.vertex.Vertex.{Vertex}
 use Rattle.dt_waits.specs.Graph.{vertex_at}
 use Rattle.dt_graph.specs.declared.vertices.Kept.{Kept}
 use Rattle.dt_graph.specs.declared.vertices.State.{State}

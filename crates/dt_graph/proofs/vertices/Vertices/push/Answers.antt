@@ -1,4 +1,4 @@
-use Rattle.std.proofs.Common.{◌<◌, ◌≤◌, ◌+◌, ◌^◌, ◌++◌, ◌∷◌, [], length, map, vec_capacity, sym, ap, subst, arith, ◌∙◌}
+use Rattle.std.proofs.Common.{◌<◌, ◌≤◌, ◌+◌, ◌^◌, ◌∷◌, [], length, map, vec_capacity, sym, ap, subst, arith, ◌∙◌}
 use Rattle.std.proofs.lemmas.List.{length-map, map-append}
 use Rattle.dt_graph.specs.VerticesInner.{ready_place, states_of, stuck_place}
 use Rattle.dt_graph.specs.SubsetInner.{IsSubset}

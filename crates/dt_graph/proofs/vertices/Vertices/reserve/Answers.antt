@@ -1,4 +1,4 @@
-use Rattle.std.proofs.Common.{◌≤◌, length, arith}
+use Rattle.std.proofs.Common.{arith}
 use Rattle.std.proofs.lemmas.List.{length-map}
 use Rattle.dt_lists.proofs.Callers.{few_below}
 use Rattle.dt_graph.specs.VerticesInner.{ready_place, states_of, stuck_place}

@@ -1,4 +1,4 @@
-use Rattle.std.proofs.Common.{◌≡◌, ◌<◌, ◌++◌, ◌∷◌, [], length, set, subst, sym, ap, refl, arith, ◌∙◌}
+use Rattle.std.proofs.Common.{◌<◌, ◌++◌, ◌∷◌, [], length, set, subst, sym, ap, refl, arith, ◌∙◌}
 use Rattle.dt_lists.specs.Lists.{Has}
 use Rattle.dt_lists.proofs.Callers.{none_in_empty as not_empty}
 use Rattle.dt_graph.specs.declared.vertices.State.TheVariants.{Neither}
