@@ -11,7 +11,7 @@ use Rattle.dt_graph.specs.declared.vertices.Kept.{Kept}
 use Rattle.dt_graph.specs.declared.vertices.State.{State}
 use Rattle.dt_graph.specs.declared.vertices.State.TheVariants.{Neither, Ready, Stuck}
 use Rattle.dt_graph.specs.SubsetInner.{IsSubset, PutsIn, Removes}
-use Rattle.dt_graph.specs.VerticesInner.{AreKept, degrees_of, ready_place, states_of, stuck_place, vertices_of}
+use Rattle.dt_graph.specs.VerticesInner.{AreVerticesKept, degrees_of, ready_place, states_of, stuck_place, vertices_of}
 use Rattle.dt_graph.proofs.Subsets.{absent_unplaced, added, at_front, has_placed, last_within, place_fits, placed_has, removed, removed_last, room_for, subset_added, subset_reached, subset_removed, subset_removed_last}
 use Rattle.dt_graph.proofs.Subsets.{subset_room}
 
@@ -155,7 +155,8 @@ module _ {f g : State → Option ℕ} {put : ℕ → State} (l : AreApart f g pu
               l.apart _ p.0 (sym (place_of_state f l.f_none states last) ∙ p.1)
 
 -- records with the same states
-pub same_states : (kept new : List Kept) (ready stuck : List ℕ) (ready_room stuck_room : ℕ) → AreKept kept ready stuck ready_room stuck_room → states_of new ≡ states_of kept → AreKept new ready stuck ready_room stuck_room
+pub same_states : (kept new : List Kept) (ready stuck : List ℕ) (ready_room stuck_room : ℕ) → AreVerticesKept kept ready stuck ready_room stuck_room → states_of new ≡ states_of kept
+    → AreVerticesKept new ready stuck ready_room stuck_room
 same_states kept new ready stuck ready_room stuck_room k e = record {
   are_ready = subst (λ x. IsSubset ready (map ready_place x) ready_room) (sym e) k.are_ready;
   are_stuck = subst (λ x. IsSubset stuck (map stuck_place x) stuck_room) (sym e) k.are_stuck;

@@ -42,7 +42,7 @@ stuck_place (Ready place) = None
 stuck_place (Stuck place) = Some place
 
 -- the ready and the stuck numbers are those of which the records say so, and there is this much room for them
-pub record AreKept (kept : List Kept) (ready stuck : List ℕ) (ready_room stuck_room : ℕ) : Type 0 where
+pub record AreVerticesKept (kept : List Kept) (ready stuck : List ℕ) (ready_room stuck_room : ℕ) : Type 0 where
   pub are_ready : IsSubset ready (map ready_place (states_of kept)) ready_room
   pub are_stuck : IsSubset stuck (map stuck_place (states_of kept)) stuck_room
 

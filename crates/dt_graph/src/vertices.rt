@@ -43,7 +43,7 @@ pub struct Vertices {
 
 impl Model for Vertices {
     ghost use Rattle.std.specs.Prelude.{vec_capacity, vec_len};
-    ghost use Rattle.dt_graph.specs.VerticesInner.{AreKept, VerticesView, degrees_of, room_of, vertices_of};
+    ghost use Rattle.dt_graph.specs.VerticesInner.{AreVerticesKept, VerticesView, degrees_of, room_of, vertices_of};
 
     ghost Value = { VerticesView };
 
@@ -55,7 +55,7 @@ impl Model for Vertices {
       room = room_of (vec_len v.kept) (vec_capacity v.kept) (vec_capacity v.ready) (vec_capacity v.stuck);
     } };
 
-    ghost invariant = { λ v. AreKept v.kept.items v.ready.items v.stuck.items (vec_capacity v.ready) (vec_capacity v.stuck) };
+    ghost invariant = { λ v. AreVerticesKept v.kept.items v.ready.items v.stuck.items (vec_capacity v.ready) (vec_capacity v.stuck) };
 }
 
 impl Vertices {
