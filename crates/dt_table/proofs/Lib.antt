@@ -6,5 +6,6 @@ pub mod StoredUnits
 pub mod OpeningTable
 pub mod SortedEntries
 pub mod ShownKeys
+pub mod RowsNow
 pub mod Layers
 pub mod TableLaws

@@ -7,6 +7,7 @@
 
 mod effect;
 mod homes;
+mod opened;
 mod opening;
 mod rows;
 mod shown;

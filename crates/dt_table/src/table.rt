@@ -115,6 +115,13 @@ impl Table {
         self.values.get(key)
     }
 
+    /// The same key, with a hint by which what tables of the same opening keep of it is found soon. Contracts do not see hints.
+    pub fn hinted(&self, key: Key) -> Key
+        ensures { result ≡ key }
+    {
+        self.values.hinted(key)
+    }
+
     /// The present home of a key, and how often its unit was moved.
     pub fn mastership(&self, key: &Key) -> Mastership
         ensures home { result.home ≡ home_of self.now.state key.now }
