@@ -7,6 +7,7 @@
 
 mod effect;
 mod homes;
+mod moved;
 mod opened;
 mod opening;
 mod rows;
