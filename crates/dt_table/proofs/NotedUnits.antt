@@ -1,5 +1,5 @@
 -- Bits of units: one that is set stays set, and a unit whose bit is not set is not among those that were noted.
-use Rattle.std.proofs.Common.{◌≡◌, ℕ, ◌+◌, ◌*◌, ◌/◌, ◌%◌, ◌^◌, ◌<◌, List, [], ◌∷◌, length, set, get_or, slice_index, bit_or, refl, sym, ap, ◌∙◌, subst, arith, Option, Some, None, inl, inr, w64}
+use Rattle.std.proofs.Common.{◌≡◌, ℕ, ◌*◌, ◌/◌, ◌%◌, ◌^◌, ◌<◌, List, length, set, slice_index, bit_or, refl, sym, ap, ◌∙◌, arith, Option, Some, None, inl, inr, w64}
 use Rattle.std.specs.Cmp.Lexicographic.{bytes_decides}
 use Rattle.std.specs.Int.{bit_at}
 use Rattle.std.specs.Map.{lookup}
@@ -8,7 +8,7 @@ use Rattle.std.proofs.lemmas.List.{get_or-set_same, get_or-set_other}
 use Rattle.dt_lists.specs.Lists.{AllIn, Either}
 use Rattle.dt_lists.proofs.Callers.{either_nat}
 use Rattle.dt_access.specs.Clash.{Bytes, same_key}
-use Rattle.dt_table.specs.MovedUnitsInner.{spread_from, spread, bit_of, IsNoted}
+use Rattle.dt_table.specs.MovedUnitsInner.{bit_of, IsNoted}
 use Rattle.dt_table.proofs.Entries.{AllIn-lookup}
 
 -- a unit that was not noted is not among those of which each was

@@ -1,5 +1,5 @@
 -- The rows of the opening, each with what it has now: their keys, what stands at a place, and what a change does.
-use Rattle.std.proofs.Common.{◌≡◌, ℕ, zero, suc, ◌+◌, ◌<◌, Bool, false, true, not, nat_lt, lt-ltb, cond, if◌then◌else◌, is_some, List, [], ◌∷◌, ◌++◌, flat_map, length, set, get_or, slice_get, take, replicate, append-nil, refl, sym, ap, ◌∙◌, subst, arith, Option, Some, None}
+use Rattle.std.proofs.Common.{◌≡◌, ℕ, zero, suc, ◌+◌, ◌<◌, false, true, not, nat_lt, lt-ltb, cond, if◌then◌else◌, is_some, List, [], ◌∷◌, ◌++◌, length, set, slice_get, take, replicate, append-nil, refl, sym, ap, ◌∙◌, subst, arith, Option, Some, None}
 use Rattle.std.specs.Prelude.{position}
 use Rattle.std.specs.Cmp.Lexicographic.{nat_list_eq_equiv}
 use Rattle.std.specs.List.{IsDistinct, AllByRecursion, position_or_len}

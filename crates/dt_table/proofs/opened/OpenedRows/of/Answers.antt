@@ -1,4 +1,4 @@
-use Rattle.std.proofs.Common.{ap, ap₂, length, replicate, sym, ◌∙◌}
+use Rattle.std.proofs.Common.{ap, ap₂, length, replicate, ◌∙◌}
 use Rattle.dt_table.specs.RowsInner.{rows_now}
 use Rattle.dt_table.specs.declared.opened.Kept.TheVariants.{AsOpened}
 use Rattle.dt_table.proofs.RowsNow.{rows_now-unchanged}

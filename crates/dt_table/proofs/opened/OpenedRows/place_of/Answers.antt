@@ -1,4 +1,4 @@
-use Rattle.std.proofs.Common.{Some, ap, slice_get, sym, ◌∙◌}
+use Rattle.std.proofs.Common.{ap, slice_get, sym, ◌∙◌}
 use Rattle.std.specs.Prelude.{position}
 use Rattle.std.specs.Cmp.Lexicographic.{bytes_decides}
 use Rattle.std.specs.Map.{keys_of}
