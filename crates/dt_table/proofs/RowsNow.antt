@@ -1,5 +1,6 @@
 -- The rows of the opening, each with what it has now: their keys, what stands at a place, and what a change does.
-use Rattle.std.proofs.Common.{◌≡◌, ℕ, zero, suc, ◌+◌, ◌<◌, false, true, not, nat_lt, lt-ltb, cond, if◌then◌else◌, is_some, List, [], ◌∷◌, ◌++◌, length, set, slice_get, take, replicate, append-nil, refl, sym, ap, ◌∙◌, subst, arith, Option, Some, None}
+use Rattle.std.proofs.Common.{◌≡◌, ℕ, zero, suc, ◌+◌, ◌<◌, false, true, not, nat_lt, lt-ltb, cond, if◌then◌else◌, is_some, List, [], ◌∷◌, ◌++◌}
+use Rattle.std.proofs.Common.{length, set, slice_get, take, replicate, append-nil, refl, sym, ap, ◌∙◌, subst, arith, Option, Some, None}
 use Rattle.std.specs.Prelude.{position}
 use Rattle.std.specs.Cmp.Lexicographic.{nat_list_eq_equiv}
 use Rattle.std.specs.List.{IsDistinct, AllByRecursion, position_or_len}
@@ -12,7 +13,7 @@ use Rattle.std.proofs.lemmas.Map.Entries.{length-keys_of}
 use Rattle.dt_access.specs.Clash.{Bytes, same_key}
 use Rattle.dt_access.proofs.Callers.{same_key_self}
 use Rattle.dt_text.specs.declared.Value.{Value}
-use Rattle.dt_table.specs.RowsInner.{KeyValues, first_values, value_now, rows_now}
+use Rattle.dt_table.specs.RowsInner.{KeyValues, first_values, kept_value, rows_now}
 use Rattle.dt_table.specs.StoredUnitInner.{keys_with_value}
 use Rattle.dt_table.specs.declared.opened.Kept.{Kept}
 use Rattle.dt_table.specs.declared.opened.Kept.TheVariants.{AsOpened, Now}
@@ -62,13 +63,13 @@ not_within (x ∷ xs) (suc i) none within = not_within xs i none (omega (arith, 
 
 -- the row at a place, and what is kept of it
 pub row_at : (rows : List (Bytes × Value)) (kept : List Kept) (i : ℕ) (r : Bytes × Value) (k : Kept) → slice_get rows i ≡ Some r → slice_get kept i ≡ Some k
-    → slice_get (rows_now rows kept) i ≡ Some (r.0, value_now r.1 k)
+    → slice_get (rows_now rows kept) i ≡ Some (r.0, kept_value r.1 k)
 row_at [] kept i r k there since = cc
 row_at (x ∷ rows) [] i r k there since = cc
 row_at (x ∷ rows) (y ∷ kept) zero r k there since =
     let is : x ≡ r = cc in
     let now : y ≡ k = cc in
-    λ j. Some ((is j).0, value_now (is j).1 (now j))
+    λ j. Some ((is j).0, kept_value (is j).1 (now j))
 row_at (x ∷ rows) (y ∷ kept) (suc i) r k there since = row_at rows kept i r k there since
 
 -- ---- what is made of them
@@ -83,7 +84,7 @@ pub rows_now-set : (rows : List (Bytes × Value)) (kept : List Kept) (i : ℕ) (
 rows_now-set [] kept i w = refl
 rows_now-set (r ∷ rows) [] i w = refl
 rows_now-set (r ∷ rows) (k ∷ kept) zero w = refl
-rows_now-set (r ∷ rows) (k ∷ kept) (suc i) w = ap (λ l. (r.0, value_now r.1 k) ∷ l) (rows_now-set rows kept i w)
+rows_now-set (r ∷ rows) (k ∷ kept) (suc i) w = ap (λ l. (r.0, kept_value r.1 k) ∷ l) (rows_now-set rows kept i w)
 
 -- the keys with a value, one row further
 next_row : (es : KeyValues) (i : ℕ) (e : Bytes × Option Value) → slice_get es i ≡ Some e

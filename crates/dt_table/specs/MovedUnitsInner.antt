@@ -4,16 +4,16 @@ use Rattle.std.specs.Prelude.{◌≡◌, ◌+◌, ◌*◌, ◌/◌, ◌%◌, ℕ
 use Rattle.std.specs.Int.{bit_at}
 use Rattle.dt_access.specs.Clash.{Bytes}
 
--- the bit where a spread of bytes ends that has come to this bit
+-- the bit to which bytes lead on from a bit
 abbrev pub spread_from : ℕ → List ℕ → ℕ
 spread_from place [] = place
 spread_from place (byte ∷ bytes) = spread_from ((place * 31 + byte) % 16384) bytes
 
--- the bit of a unit
+-- the bit that the bytes of a unit lead to
 abbrev pub spread : Bytes → ℕ
 spread unit = spread_from 0 unit
 
--- whether a bit is set among these words
+-- a bit among these words, 64 in each: 1 where it is set, else 0
 abbrev pub bit_of : List ℕ → ℕ → ℕ
 bit_of words place = bit_at (slice_index words (place / 64)) (place % 64)
 

@@ -19,15 +19,15 @@ abbrev pub first_values : List (Bytes × Value) → KeyValues
 first_values rows = map (λ r. (r.0, Some r.1)) rows
 
 -- what a row has now that had this value in the opening
-abbrev pub value_now : Value → Kept → Option Value
-value_now value AsOpened = Some value
-value_now value (Now changed) = changed
+abbrev pub kept_value : Value → Kept → Option Value
+kept_value value AsOpened = Some value
+kept_value value (Now changed) = changed
 
 -- the rows of the opening, each with what it has now
 abbrev pub rows_now : List (Bytes × Value) → List Kept → KeyValues
 rows_now [] kept = []
 rows_now (r ∷ rows) [] = []
-rows_now (r ∷ rows) (k ∷ kept) = (r.0, value_now r.1 k) ∷ rows_now rows kept
+rows_now (r ∷ rows) (k ∷ kept) = (r.0, kept_value r.1 k) ∷ rows_now rows kept
 
 -- no key stands twice in the opening, and something is kept of each row
 pub record AreOpened (rows : List (Bytes × Value)) (kept : List Kept) : Type 0 where

@@ -8,8 +8,10 @@ use std::marker::Model;
 /// How many bits there are.
 const BITS: usize = 16_384;
 
-/// The units that were noted, and perhaps others: a unit has one bit, which some others share. Contracts see the bits, 64 in a
-/// number.
+/// The units that were noted. Each unit has a bit, by its bytes, and may share it with others: so a unit whose bit is not set was
+/// not noted, and one whose bit is set may have been.
+///
+/// Contracts see the bits, 64 in a number.
 #[derive(Drop)]
 pub struct MovedUnits {
     words: [u64; BITS / 64],
@@ -31,7 +33,7 @@ impl MovedUnits {
         }
     }
 
-    /// Whether a unit may be among them, as each is that was noted.
+    /// Whether a unit may have been noted. Each that was may.
     pub fn may_have(&self, unit: &[u8]) -> bool
         ensures { IsNoted self.now unit.now → IsTrue result }
     {
