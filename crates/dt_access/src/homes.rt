@@ -3,7 +3,6 @@ ghost use Rattle.dt_access.specs.HomesInner.{FitsForm, homes_of};
 ghost use Rattle.dt_access.specs.Orders.{AreAscendingHomes};
 
 use dt_text::{Common, NoMemory};
-use smallvec::SmallVec;
 use std::alloc::Global;
 use std::marker::Model;
 
@@ -70,7 +69,7 @@ impl Homes {
         ensures added { OnOk result (self.new ≡ self.old ++ home ∷ []) }
         ensures same { OnErr result (self.new ≡ self.old) }
     {
-        let mut homes: SmallVec<u8, 8> = SmallVec::from_slice(self.alloc, self.as_slice())?;
+        let mut homes = Vec::from_slice(self.alloc, self.as_slice())?;
         homes.push(home)?;
         *self = Homes::from_slice(self.alloc, homes.as_slice())?;
         Ok(())
