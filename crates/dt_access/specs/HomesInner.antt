@@ -5,11 +5,11 @@ use Rattle.dt_access.specs.declared.homes.Form.{Form}
 use Rattle.dt_access.specs.declared.homes.Form.TheVariants.{Few, Many}
 
 -- the homes that are kept so
-abbrev pub homes_of : Form → List ℕ
-homes_of (Few count homes) = take count homes
-homes_of (Many homes) = homes.items
+abbrev pub kept_homes : Form → List ℕ
+kept_homes (Few count homes) = take count homes
+kept_homes (Many homes) = homes.items
 
 -- what lies in the list itself is not more than fits there
-abbrev pub FitsForm : Form → Type 0
-FitsForm (Few count homes) = count ≤ 8
-FitsForm (Many homes) = Unit {0}
+abbrev pub FitsInList : Form → Type 0
+FitsInList (Few count homes) = count ≤ 8
+FitsInList (Many homes) = Unit {0}

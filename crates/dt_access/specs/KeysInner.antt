@@ -6,6 +6,6 @@ use Rattle.dt_access.specs.declared.keys.Form.{Form}
 use Rattle.dt_access.specs.declared.keys.Form.TheVariants.{One, Many}
 
 -- the keys with their modes that are kept so
-abbrev pub keys_of : Form → List (List ℕ × Mode)
-keys_of (One item) = item ∷ []
-keys_of (Many items) = items
+abbrev pub kept_keys : Form → List (List ℕ × Mode)
+kept_keys (One item) = item ∷ []
+kept_keys (Many items) = items

@@ -1,5 +1,5 @@
 ghost use Rattle.std.specs.Prelude.{◌≡◌, ◌≤◌, [], ◌∷◌, ◌++◌, IfOk, OnOk, OnErr, length};
-ghost use Rattle.dt_access.specs.HomesInner.{FitsForm, homes_of};
+ghost use Rattle.dt_access.specs.HomesInner.{FitsInList, kept_homes};
 ghost use Rattle.dt_access.specs.Orders.{AreAscendingHomes};
 
 use dt_text::{Common, NoMemory};
@@ -28,14 +28,14 @@ enum Form {
 
 impl Model for Homes {
     ghost use Rattle.std.specs.Prelude.{List, ℕ};
-    ghost use Rattle.dt_access.specs.HomesInner.{FitsForm, homes_of};
+    ghost use Rattle.dt_access.specs.HomesInner.{FitsInList, kept_homes};
     ghost use Rattle.dt_access.specs.Orders.{AreAscendingHomes};
 
     ghost Value = { List ℕ };
 
-    ghost view = { λ h. homes_of h.form };
+    ghost view = { λ h. kept_homes h.form };
 
-    ghost invariant = { λ h. FitsForm h.form × AreAscendingHomes (homes_of h.form) };
+    ghost invariant = { λ h. FitsInList h.form × AreAscendingHomes (kept_homes h.form) };
 }
 
 impl Homes {
@@ -104,8 +104,8 @@ impl Homes {
 /// The form of few homes. Takes no memory.
 fn few(homes: &[u8]) -> Form
     requires { length homes.now ≤ 8 }
-    ensures same { homes_of result ≡ homes.now }
-    ensures fits { FitsForm result }
+    ensures same { kept_homes result ≡ homes.now }
+    ensures fits { FitsInList result }
 {
     let mut kept = [0; 8];
     kept[..homes.len()].copy_from_slice(homes);

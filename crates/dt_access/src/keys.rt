@@ -29,14 +29,14 @@ enum Form {
 impl Model for Keys {
     ghost use Rattle.std.specs.Prelude.{List, ℕ};
     ghost use Rattle.dt_access.specs.declared.access.Mode.{Mode};
-    ghost use Rattle.dt_access.specs.KeysInner.{keys_of};
+    ghost use Rattle.dt_access.specs.KeysInner.{kept_keys};
     ghost use Rattle.dt_access.specs.Orders.{HasAscendingKeys};
 
     ghost Value = { List (List ℕ × Mode) };
 
-    ghost view = { λ k. keys_of k.form };
+    ghost view = { λ k. kept_keys k.form };
 
-    ghost invariant = { λ k. HasAscendingKeys (keys_of k.form) };
+    ghost invariant = { λ k. HasAscendingKeys (kept_keys k.form) };
 }
 
 impl Keys {
