@@ -8,9 +8,9 @@ use Rattle.dt_lists.specs.Lists.{Has}
 use Rattle.dt_lists.proofs.Callers.{has_last}
 use Rattle.dt_waits.specs.declared.vertex.Vertex.{Vertex}
 use Rattle.dt_waits.specs.Graph.{vertex_at}
-use Rattle.dt_graph.specs.declared.vertices.Kept.{Kept}
-use Rattle.dt_graph.specs.declared.vertices.State.{State}
-use Rattle.dt_graph.specs.declared.vertices.State.TheVariants.{Neither, Ready, Stuck}
+use Rattle.dt_graph.specs.declared.kept.Kept.{Kept}
+use Rattle.dt_graph.specs.declared.kept.State.{State}
+use Rattle.dt_graph.specs.declared.kept.State.TheVariants.{Neither, Ready, Stuck}
 use Rattle.dt_graph.specs.SubsetInner.{IsSubset, PutsIn, Removes}
 use Rattle.dt_graph.specs.VerticesInner.{AreKept, degrees_of, ready_place, states_of, stuck_place, vertices_of}
 use Rattle.dt_graph.proofs.Subsets.{absent_unplaced, added, at_front, has_placed, last_within, place_fits, placed_has, removed, removed_last, room_for, subset_added, subset_reached, subset_removed, subset_removed_last}

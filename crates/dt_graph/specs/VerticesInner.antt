@@ -3,9 +3,9 @@
 -- numbers and places belong together.
 use Rattle.std.specs.Prelude.{◌-◌, ℕ, List, map, min, Option, None, Some}
 use Rattle.dt_waits.specs.declared.vertex.Vertex.{Vertex}
-use Rattle.dt_graph.specs.declared.vertices.Kept.{Kept}
-use Rattle.dt_graph.specs.declared.vertices.State.{State}
-use Rattle.dt_graph.specs.declared.vertices.State.TheVariants.{Neither, Ready, Stuck}
+use Rattle.dt_graph.specs.declared.kept.Kept.{Kept}
+use Rattle.dt_graph.specs.declared.kept.State.{State}
+use Rattle.dt_graph.specs.declared.kept.State.TheVariants.{Neither, Ready, Stuck}
 use Rattle.dt_graph.specs.SubsetInner.{IsSubset}
 
 -- the vertices and the degrees by their numbers, the ready and the stuck numbers, in no order, and how many more vertices fit

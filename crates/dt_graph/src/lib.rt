@@ -17,8 +17,10 @@
 
 mod class;
 mod enter;
+mod gone;
 mod graph;
 mod group;
+mod kept;
 mod leave;
 mod names;
 mod numbers;

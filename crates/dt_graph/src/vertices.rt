@@ -4,31 +4,12 @@ ghost use Rattle.dt_waits.specs.Graph.{vertex_at};
 ghost use Rattle.dt_graph.specs.SubsetInner.{PutsIn, Removes};
 ghost use Rattle.dt_graph.specs.VerticesInner.{degrees_of, states_of, vertices_of};
 
+use crate::kept::{Kept, State};
 use crate::room::push_reserved;
 use dt_text::NoMemory;
 use dt_waits::{Place, Slots, Vertex};
 use std::alloc::Global;
 use std::marker::Model;
-
-/// Whether a transaction may be executed, waits for others, or neither.
-#[derive(Clone, Copy, Drop)]
-pub enum State {
-    /// A part of it is missing, another member of its class runs before it, or it is done.
-    Neither,
-    /// It is ready, and stands at this place among those that are.
-    Ready(u32),
-    /// It is stuck, and stands at this place among those that are.
-    Stuck(u32),
-}
-
-/// All that is kept of a transaction, side by side.
-#[derive(Drop)]
-pub struct Kept {
-    /// How many neighbours its entries have.
-    pub degree: u128,
-    pub vertex: Vertex,
-    pub state: State,
-}
 
 /// The vertices by their numbers, each with its degree, and which of them are ready or stuck.
 ///

@@ -1,7 +1,7 @@
 use Rattle.std.proofs.Common.{◌≡◌, ◌<◌, ◌+◌, ◌^◌, length, vec_capacity, sym, ap, subst, true≢false, arith, ◌∙◌}
 use Rattle.dt_lists.specs.Lists.{Has}
 use Rattle.dt_graph.specs.VerticesInner.{AreKept}
-use Rattle.dt_graph.specs.declared.vertices.State.TheVariants.{Stuck}
+use Rattle.dt_graph.specs.declared.kept.State.TheVariants.{Stuck}
 use Rattle.dt_graph.proofs.KeptVertices.{below_states, fits_place, has_room, put_in, puts, stuck_laws}
 use Rattle.dt_graph.proofs.vertices.Vertices.add_stuck.Goals as goal
 

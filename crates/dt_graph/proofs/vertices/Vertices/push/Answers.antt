@@ -2,7 +2,7 @@ use Rattle.std.proofs.Common.{◌<◌, ◌≤◌, ◌+◌, ◌^◌, ◌++◌, �
 use Rattle.std.proofs.lemmas.List.{length-map, map-append}
 use Rattle.dt_graph.specs.VerticesInner.{ready_place, states_of, stuck_place}
 use Rattle.dt_graph.specs.SubsetInner.{IsSubset}
-use Rattle.dt_graph.specs.declared.vertices.State.TheVariants.{Neither}
+use Rattle.dt_graph.specs.declared.kept.State.TheVariants.{Neither}
 use Rattle.dt_graph.proofs.KeptVertices.{one_more, ready_laws, stuck_laws}
 use Rattle.dt_graph.proofs.vertices.Vertices.push.Goals as goal
 

@@ -1,7 +1,7 @@
 use Rattle.std.proofs.Common.{◌≡◌, ◌<◌, ◌++◌, ◌∷◌, [], length, set, subst, sym, ap, refl, arith, ◌∙◌}
 use Rattle.dt_lists.specs.Lists.{Has}
 use Rattle.dt_lists.proofs.Callers.{none_in_empty as not_empty}
-use Rattle.dt_graph.specs.declared.vertices.State.TheVariants.{Neither}
+use Rattle.dt_graph.specs.declared.kept.State.TheVariants.{Neither}
 use Rattle.dt_graph.proofs.KeptVertices.{below_states, last_below, place_within, stuck_laws, removes, removes_last, seen, state_read, taken, taken_last, unseen}
 use Rattle.dt_graph.proofs.vertices.Vertices.take_stuck.Goals as goal
 use Rattle.dt_graph.proofs.vertices.Vertices.take_stuck.Goals.{in-Some+then-last-number, in-Some+else-last-number, in_default-pop}
