@@ -24,6 +24,7 @@ mod kept;
 mod leave;
 mod names;
 mod numbers;
+mod records;
 mod room;
 mod sched;
 mod seen;
