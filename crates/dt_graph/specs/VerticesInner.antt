@@ -6,7 +6,9 @@ use Rattle.dt_waits.specs.declared.vertex.Vertex.{Vertex}
 use Rattle.dt_graph.specs.declared.kept.Kept.{Kept}
 use Rattle.dt_graph.specs.declared.kept.State.{State}
 use Rattle.dt_graph.specs.declared.kept.State.TheVariants.{Neither, Ready, Stuck}
-use Rattle.dt_lists.specs.Lists.{AllIn}
+use Rattle.dt_lists.specs.Lists.{AllIn, Has}
+use Rattle.dt_waits.specs.Graph.{IsPast, vertex_at}
+use Rattle.dt_waits.specs.declared.open.Open.{Open}
 use Rattle.dt_graph.specs.SubsetInner.{IsSubset}
 
 -- the vertices and the degrees by their numbers, the number of the first that is kept, the ready and the stuck numbers, in no
@@ -64,6 +66,10 @@ stuck_place (Stuck place) = Some place
 -- the vertex of the number is kept
 abbrev pub IsKept : VerticesView → ℕ → Type 0
 IsKept v number = (v.first ≤ number) × (number < length v.vertices)
+
+-- the vertex of the number is of a transaction that has left
+abbrev pub HasPassed : List Open → VerticesView → ℕ → Type 0
+HasPassed classes v number = IsPast classes (vertex_at v.vertices number) × ¬ (Has v.ready number) × ¬ (Has v.stuck number)
 
 -- the ready and the stuck numbers are those of which the records say so, there is this much room for them, and their records
 -- are kept

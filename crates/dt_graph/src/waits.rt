@@ -1,15 +1,15 @@
-ghost use Rattle.std.specs.Prelude.{◌≡◌, ◌≤◌, ◌<◌, ◌+◌, ◌-◌, ◌^◌, ℕ, List, [], ◌∷◌, ◌++◌, IfOk, OnOk, OnErr, Some, get_or, length, set, slice_get};
+ghost use Rattle.std.specs.Prelude.{◌≡◌, ◌≤◌, ◌<◌, ◌+◌, ◌-◌, ◌^◌, ◌↔◌, ℕ, List, [], ◌∷◌, ◌++◌, IfOk, IsTrue, OnOk, OnErr, Some, get_or, length, set, slice_get};
 ghost use Rattle.dt_lists.specs.Lists.{AllIn, Distinct, Has};
 ghost use Rattle.dt_access.specs.Orders.{AreAscendingHomes};
 ghost use Rattle.dt_access.specs.declared.TxnId.{TxnId};
 ghost use Rattle.dt_queue.specs.Queues.{HasDistinctSlots, Waiting};
 ghost use Rattle.dt_waits.specs.declared.open.Open.{Open};
-ghost use Rattle.dt_waits.specs.Graph.{vertex_at};
+ghost use Rattle.dt_waits.specs.Graph.{IsClassDone, vertex_at};
 ghost use Rattle.dt_waits.specs.Steps.{AreEntriesBelow, HaveSlots, Inserts, Leaves, Resolves};
 ghost use Rattle.dt_graph.specs.SmallStepsInner.{Sorts};
 ghost use Rattle.dt_waits.specs.Waits.{degree, id_at, lowered_by};
 ghost use Rattle.dt_graph.specs.HeldInner.{kept_of};
-ghost use Rattle.dt_graph.specs.VerticesInner.{IsKept};
+ghost use Rattle.dt_graph.specs.VerticesInner.{HasPassed, IsKept};
 
 use crate::enter::enter;
 use crate::leave::leave;
@@ -17,7 +17,7 @@ use crate::vertices::Vertices;
 use dt_access::{Homes, Part};
 use dt_queue::Queues;
 use dt_text::NoMemory;
-use dt_waits::{Place, Slots, Vertex};
+use dt_waits::{Open, Place, Slots, Vertex};
 use std::alloc::Global;
 
 /// The vertices by their numbers, what each waits for, and which of them are ready or stuck.
@@ -172,6 +172,52 @@ impl Waits {
         ensures first { self.new.vertices.first ≡ self.old.vertices.first }
     {
         leave(&mut self.queues, &mut self.vertices, leaving);
+    }
+
+    /// Forgets the vertices at the front whose transactions have left, up to the first that has not. Takes no memory.
+    pub fn forget(&mut self, classes: &[Open])
+        requires few { length self.old.vertices.vertices < 2 ^ 32 }
+        requires first { self.old.vertices.first ≤ length self.old.vertices.vertices }
+        ensures same { (ids : List TxnId) (kept : List Open) → kept_of ids self.new kept ≡ kept_of ids self.old kept }
+        ensures first { self.new.vertices.first ≤ length self.old.vertices.vertices }
+        ensures passed { (v : ℕ) → self.old.vertices.first ≤ v → v < self.new.vertices.first → HasPassed classes.now self.old.vertices v }
+        ensures all { self.new.vertices.first < length self.old.vertices.vertices → ¬ (HasPassed classes.now self.old.vertices self.new.vertices.first) }
+    {
+        while self.has_front_passed(classes) {
+            self.vertices.forget();
+        }
+    }
+
+    /// Whether there is a first vertex that is kept, and its transaction has left.
+    fn has_front_passed(&self, classes: &[Open]) -> bool
+        requires few { length self.now.vertices.vertices < 2 ^ 32 }
+        ensures { IsTrue result ↔ (self.now.vertices.first < length self.now.vertices.vertices) × HasPassed classes.now self.now.vertices self.now.vertices.first }
+    {
+        let front = self.vertices.first();
+        front < self.vertices.len() && self.has_passed(front as u32, classes)
+    }
+
+    /// Whether the transaction of a vertex has left.
+    fn has_passed(&self, number: u32, classes: &[Open]) -> bool
+        requires { IsKept self.now.vertices number }
+        ensures { IsTrue result ↔ HasPassed classes.now self.now.vertices number }
+    {
+        let vertex = self.vertices.get(number);
+        vertex.missing == 0
+            && !self.vertices.is_ready(number)
+            && !self.vertices.is_stuck(number)
+            && is_class_done(classes, vertex.class.get())
+    }
+}
+
+/// Whether the resolved class at a place is done, if there is one.
+fn is_class_done(classes: &[Open], place: Option<u32>) -> bool
+    ensures { IsTrue result ↔ IsClassDone classes.now place }
+{
+    let Some(place) = place else { return true };
+    match classes.get(place as usize) {
+        Some(class) => class.members.as_slice().len() <= class.next,
+        None => false,
     }
 }
 
