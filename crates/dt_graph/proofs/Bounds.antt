@@ -41,8 +41,7 @@ done_further classes at o next e le None d = tt
 done_further classes at o next e le (Some place) d = elim (either_nat place at) [
   | inl same ↦
       let here : slice_get classes at ≡ Some d.0 = subst (λ p. slice_get classes p ≡ Some d.0) same d.1 in
-      let is : o ≡ d.0 = e ∙ get_or_from_slice_get classes at d.0 o here in
-      (
+      let is : o ≡ d.0 = e ∙ get_or_from_slice_get classes at d.0 o here in (
         record { members = o.members; next = next },
         ap (slice_get (set classes at (record { members = o.members; next = next }))) same ∙ set_here classes at _ (slice_get_within classes at d.0 here),
         further _ (subst (λ x. length x.members ≤ x.next) (sym is) d.2),

@@ -28,11 +28,11 @@ impl Model for Records {
     ghost Value = { RecordsView };
 
     ghost view = { λ r. record {
-        vertices = vertices_of (r.gone.records ++ r.kept.items);
-        degrees = degrees_of (r.gone.records ++ r.kept.items);
-        states = states_of (r.gone.records ++ r.kept.items);
-        first = r.first;
-        room = deque_capacity r.kept - deque_len r.kept;
+      vertices = vertices_of (r.gone.records ++ r.kept.items);
+      degrees = degrees_of (r.gone.records ++ r.kept.items);
+      states = states_of (r.gone.records ++ r.kept.items);
+      first = r.first;
+      room = deque_capacity r.kept - deque_len r.kept;
     } };
 
     ghost invariant = { λ r. IsCounted r.first r.gone.records r.kept.items };
@@ -140,8 +140,8 @@ impl Records {
         requires within { IsIn self.old number }
         requires missing { 0 < (vertex_at self.old.vertices number).missing }
         ensures { self.new ≡ record self.old {
-            vertices = set self.old.vertices number (record (vertex_at self.old.vertices number) { missing = (vertex_at self.old.vertices number).missing - 1; slots = slots });
-            degrees = set self.old.degrees number degree;
+          vertices = set self.old.vertices number (record (vertex_at self.old.vertices number) { missing = (vertex_at self.old.vertices number).missing - 1; slots = slots });
+          degrees = set self.old.degrees number degree;
         } }
     {
         let kept = &mut self.kept[number as usize - self.first];

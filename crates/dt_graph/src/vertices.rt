@@ -30,12 +30,12 @@ impl Model for Vertices {
     ghost Value = { VerticesView };
 
     ghost view = { λ v. record {
-        vertices = v.records.vertices;
-        degrees = v.records.degrees;
-        first = v.records.first;
-        ready = v.ready.items;
-        stuck = v.stuck.items;
-        room = room_of (length v.records.vertices) v.records.room (vec_capacity v.ready) (vec_capacity v.stuck);
+      vertices = v.records.vertices;
+      degrees = v.records.degrees;
+      first = v.records.first;
+      ready = v.ready.items;
+      stuck = v.stuck.items;
+      room = room_of (length v.records.vertices) v.records.room (vec_capacity v.ready) (vec_capacity v.stuck);
     } };
 
     ghost invariant = { λ v. AreKept v.records v.ready.items v.stuck.items (vec_capacity v.ready) (vec_capacity v.stuck) };

@@ -27,8 +27,7 @@ lower-requires-clause-enough c = λ ne.
 pub wake-requires : goal.wake-requires
 wake-requires c =
     let below : c.in-Some.follower.vertex < length c.args.vertices.now.degrees = told_below _ _ _ _ _ c.requires.below (sym c.in-Some.ensures) in
-    let kept : c.args.vertices.now.first ≤ c.in-Some.follower.vertex = told_of (λ v. c.args.vertices.now.first ≤ v) _ _ _ _ c.requires.kept (sym c.in-Some.ensures) in
-    (
+    let kept : c.args.vertices.now.first ≤ c.in-Some.follower.vertex = told_of (λ v. c.args.vertices.now.first ≤ v) _ _ _ _ c.requires.kept (sym c.in-Some.ensures) in (
       omega (arith, kept, c.loop-follower.invariant.first, ap (λ v. v.first) c.lower.ensures.same),
       omega (arith, below, c.requires.sizes, ap length c.loop-follower.invariant.same, ap (λ v. length v.vertices) c.lower.ensures.same),
     )

@@ -14,8 +14,7 @@ pub extend-requires-clause-vertex : goal.extend-requires-clause-vertex
 extend-requires-clause-vertex c =
     let g : GraphView = kept_of c.self.inside.names.ids c.self.inside.waits c.self.inside.classes.items in
     let r : MayInsert g c.args.part.now = subst (λ g. MayInsert g c.args.part.now) (sym c.self.view_is) c.requires in
-    let lt : c.in-Some.vertex < length g.ids = slice_get_within g.ids c.in-Some.vertex c.args.part.now.id c.in-Some.ensures.number in
-    (
+    let lt : c.in-Some.vertex < length g.ids = slice_get_within g.ids c.in-Some.vertex c.args.part.now.id c.in-Some.ensures.number in (
       missing_kept g.ids c.self.inside.waits g.classes c.self.invariant c.in-Some.vertex (missing_before r.0 r.1 r.2 c.args.part.now r.3 r.4 c.as_slice-homes.ensures.ascending g r.5 c.in-Some.vertex lt
           (at_named g.ids c.in-Some.vertex c.args.part.now.id c.in-Some.ensures.number)),
       subst (λ n. c.in-Some.vertex < n) (sym c.self.invariant.vertices) lt,

@@ -18,7 +18,7 @@ returns c =
     let now : Kept = record k { vertex = record k.vertex { class = c.at.result } } in
     let at = set_at s.gone.records s.kept.items s.first n c.self.invariant.after r.0 r.1 now in
     let vertices = ap vertices_of at ∙ map-set (λ x. x.vertex) items n now ∙ ap (λ p. set (vertices_of items) n (record k.vertex { class = p })) c.at.ensures
-        ∙ ap (λ x. set (vertices_of items) n (record x { class = Some c.args.class })) (vertex_read items n r.1 k is) in
+    ∙ ap (λ x. set (vertices_of items) n (record x { class = Some c.args.class })) (vertex_read items n r.1 k is) in
     let degrees = ap degrees_of at ∙ degrees_beside items n r.1 k is now refl in
     let states = ap states_of at ∙ states_beside items n r.1 k is now refl in
     rw (← c.self.view_is) (λ i. record { vertices = vertices i; degrees = degrees i; states = states i; first = s.first; room = deque_capacity s.kept - deque_len s.kept })

@@ -37,8 +37,8 @@ invariant_of-self c =
     let place : c.len-place.result ≡ length s.ready.items = omega (arith, c.len-place.ensures, s.ready.ok.0) in
     let e = c.set_state.ensures in
     let both = put_in ready_laws _ _ _ _ _ c.self.invariant.are_ready c.self.invariant.are_stuck c.args.number below absent c.ranges.number.fits
-        (λ h. c.requires.apart (subst (λ v. Has v.stuck c.args.number) c.self.view_is h)) _ c.push_reserved.ensures.room _
-        (ap (λ x. x.states) e ∙ ap (λ p. set states c.args.number (Ready p)) place) in
+    (λ h. c.requires.apart (subst (λ v. Has v.stuck c.args.number) c.self.view_is h)) _ c.push_reserved.ensures.room _
+    (ap (λ x. x.states) e ∙ ap (λ p. set states c.args.number (Ready p)) place) in
     rw c.push_reserved.ensures.added (record {
       are_ready = both.0;
       are_stuck = both.1;

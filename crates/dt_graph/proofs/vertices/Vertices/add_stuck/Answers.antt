@@ -37,8 +37,8 @@ invariant_of-self c =
     let place : c.len-place.result ≡ length s.stuck.items = omega (arith, c.len-place.ensures, s.stuck.ok.0) in
     let e = c.set_state.ensures in
     let both = put_in stuck_laws _ _ _ _ _ c.self.invariant.are_stuck c.self.invariant.are_ready c.args.number below absent c.ranges.number.fits
-        (λ h. c.requires.apart (subst (λ v. Has v.ready c.args.number) c.self.view_is h)) _ c.push_reserved.ensures.room _
-        (ap (λ x. x.states) e ∙ ap (λ p. set states c.args.number (Stuck p)) place) in
+    (λ h. c.requires.apart (subst (λ v. Has v.ready c.args.number) c.self.view_is h)) _ c.push_reserved.ensures.room _
+    (ap (λ x. x.states) e ∙ ap (λ p. set states c.args.number (Stuck p)) place) in
     rw c.push_reserved.ensures.added (record {
       are_stuck = both.0;
       are_ready = both.1;

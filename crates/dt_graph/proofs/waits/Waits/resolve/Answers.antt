@@ -19,8 +19,7 @@ take_stuck-requires c =
     let now = c.loop-vertex.self.vertices in
     let below = all_get _ _ c.requires.within _ (has_at {A = ℕ} _ _ 0 c.loop-vertex-test.true) in
     let kept = all_get _ _ c.requires.kept _ (has_at {A = ℕ} _ _ 0 c.loop-vertex-test.true) in
-    let size = Rattle.std.proofs.lemmas.List.length-set now.vertices v (record (vertex_at now.vertices v) { class = Some c.args.class }) in
-    (
+    let size = Rattle.std.proofs.lemmas.List.length-set now.vertices v (record (vertex_at now.vertices v) { class = Some c.args.class }) in (
       omega (arith, kept, c.loop-vertex.invariant.first, ap (λ x. x.first) c.put_in_class.ensures),
       omega (arith, below, c.loop-vertex.invariant.put.size, ap (λ x. length x.vertices) c.put_in_class.ensures, size),
     )
@@ -69,7 +68,8 @@ returns-in-Some c =
     subst (λ l. IsPutting c.args.class c.args.members.now old.vertices l old.stuck new.stuck) (sym (ap (λ x. x.vertices) same))
     (subst (λ l. IsPutting c.args.class c.args.members.now old.vertices now.vertices old.stuck l) (sym (ap (λ x. x.stuck) same)) put) in
     record {
-      first = ap (λ x. x.first) same ∙ k.first; resolved = λ ids classes. resolves_held _ _ ids _ _ _ _ _ _ _ _ _ _ classes held (ap (λ x. x.degrees) same ∙ k.degrees) k.queues
+      first = ap (λ x. x.first) same ∙ k.first;
+      resolved = λ ids classes. resolves_held _ _ ids _ _ _ _ _ _ _ _ _ _ classes held (ap (λ x. x.degrees) same ∙ k.degrees) k.queues
           (first_readied c.args.members.now c.in-Some.first.now old.ready new.ready (sym c.in-Some.ensures.value) (subst (λ r. PutsIn c.in-Some.first.now r new.ready) k.ready c.add_ready.ensures.put));
     }
 
@@ -79,7 +79,8 @@ returns-in_default c =
     let old = c.args.self.now.vertices in let now = c.loop-vertex.self.vertices in
     let put = subst (λ l. IsPutting c.args.class l old.vertices now.vertices old.stuck now.stuck) (take_all _ _ c.loop-vertex-test.false) k.put in
     record {
-      first = k.first; resolved = λ ids classes. resolves_held _ _ ids _ _ _ _ _ _ _ _ _ _ classes put k.degrees k.queues
+      first = k.first;
+      resolved = λ ids classes. resolves_held _ _ ids _ _ _ _ _ _ _ _ _ _ classes put k.degrees k.queues
           (subst (λ r. (v : ℕ) → Has r v ↔ Has old.ready v ⊎ (slice_get c.args.members.now 0 ≡ Some v)) (sym k.ready)
           (none_readied c.args.members.now old.ready (sym c.in_default.ensures.value)));
     }
