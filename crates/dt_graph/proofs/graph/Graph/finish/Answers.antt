@@ -27,7 +27,8 @@ pub leave-requires-clause-left : goal.leave-requires-clause-left
 leave-requires-clause-left c =
     let g : GraphView = kept_of c.self.inside.names.ids c.self.inside.waits c.self.inside.classes.items in
     let r : MayFinish g c.args.id = subst (λ g. MayFinish g c.args.id) (sym c.self.view_is) c.requires in
-    let kept : IsKept c.self.inside.waits.vertices c.in-Some.vertex = ready_is_kept c.self.inside.names.ids c.self.inside.waits c.self.inside.classes.items c.self.invariant c.in-Some.vertex (is_ready g c.args.id r c.in-Some.vertex c.in-Some.ensures.number) in
+    let kept : IsKept c.self.inside.waits.vertices c.in-Some.vertex =
+    ready_is_kept c.self.inside.names.ids c.self.inside.waits c.self.inside.classes.items c.self.invariant c.in-Some.vertex (is_ready g c.args.id r c.in-Some.vertex c.in-Some.ensures.number) in
     subst (λ (x : VerticesView). AllIn (λ u. x.first ≤ u) (c.in-Some.vertex ∷ [])) (sym c.take_ready.ensures.same) (kept.0, tt)
 
 pub leave-requires-clause-kept : goal.leave-requires-clause-kept

@@ -25,7 +25,8 @@ add_ready-requires-clause-within c =
     let at : slice_get c.index_mut-kept.result.now.members (c.index_mut-kept.result.now.next + 1) ≡ Some c.in-Some.vertex.now =
     rw c.as_slice.ensures at (slice_get-get_or c.as_slice.result.now (c.index_mut-kept.result.now.next + 1) c.in-Some.vertex.now c.in-Some.ensures.lookup.3.0 ∙ ap Some (sym c.in-Some.ensures.lookup.1)) in
     let lt : c.in-Some.vertex.now < length g.ids = within_open c.args.class g m c.index_mut-kept.result.now c.index_mut-kept.ensures.value c.in-Some.vertex.now at in
-    let first : c.self.inside.waits.vertices.first ≤ c.in-Some.vertex.now = all_get _ m.kept.members (open_kept c.self.inside.names.ids c.self.inside.waits c.self.inside.classes.items c.self.invariant c.args.class m.kept m.at_place m.waits m.kept.members m.of_class)
+    let first : c.self.inside.waits.vertices.first ≤ c.in-Some.vertex.now = all_get _ m.kept.members
+    (open_kept c.self.inside.names.ids c.self.inside.waits c.self.inside.classes.items c.self.invariant c.args.class m.kept m.at_place m.waits m.kept.members m.of_class)
     c.in-Some.vertex.now (open_has c.args.class g m c.index_mut-kept.result.now c.index_mut-kept.ensures.value c.in-Some.vertex.now at) in
     (first, omega (arith, lt, c.self.invariant.vertices))
 
@@ -44,7 +45,8 @@ invariant_of-self c =
     let at : slice_get c.index_mut-kept.result.now.members (c.index_mut-kept.result.now.next + 1) ≡ Some c.in-Some.vertex.now =
     rw c.as_slice.ensures at (slice_get-get_or c.as_slice.result.now (c.index_mut-kept.result.now.next + 1) c.in-Some.vertex.now c.in-Some.ensures.lookup.3.0 ∙ ap Some (sym c.in-Some.ensures.lookup.1)) in
     let lt : c.in-Some.vertex.now < length g.ids = within_open c.args.class g m c.index_mut-kept.result.now c.index_mut-kept.ensures.value c.in-Some.vertex.now at in
-    let first : c.self.inside.waits.vertices.first ≤ c.in-Some.vertex.now = all_get _ m.kept.members (open_kept c.self.inside.names.ids c.self.inside.waits c.self.inside.classes.items c.self.invariant c.args.class m.kept m.at_place m.waits m.kept.members m.of_class)
+    let first : c.self.inside.waits.vertices.first ≤ c.in-Some.vertex.now = all_get _ m.kept.members
+    (open_kept c.self.inside.names.ids c.self.inside.waits c.self.inside.classes.items c.self.invariant c.args.class m.kept m.at_place m.waits m.kept.members m.of_class)
     c.in-Some.vertex.now (open_has c.args.class g m c.index_mut-kept.result.now c.index_mut-kept.ensures.value c.in-Some.vertex.now at) in
     let o = c.index_mut-kept.result.now in
     let le : o.next ≤ o.next + 1 = omega arith in

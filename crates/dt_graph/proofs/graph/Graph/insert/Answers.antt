@@ -1,4 +1,4 @@
-use Rattle.std.proofs.Common.{◌≡◌, ◌≤◌, ◌<◌, ◌^◌, ◌∙◌, ℕ, List, OnErr, OnOk, length, sym, ap, subst}
+use Rattle.std.proofs.Common.{◌≡◌, ◌≤◌, ◌<◌, ◌^◌, ◌∙◌, ℕ, List, OnErr, OnOk, sym, subst}
 use Rattle.dt_waits.specs.declared.open.Open.{Open}
 use Rattle.dt_waits.specs.Graph.{GraphView}
 use Rattle.dt_waits.specs.Steps.{InsertsPart}

@@ -28,9 +28,11 @@ invariant_of-self-in_err-reserve-2 c =
 pub invariant_of-self-in_err-reserve-3 : goal.invariant_of-self-in_err-reserve-3
 invariant_of-self-in_err-reserve-3 c =
     let e = c.reserve.ensures.same in
-    rw (c.reserve-2.ensures.items, c.reserve-3.ensures.items) (kept_same c.self.inside.records c.reserve.new.self _ _ _ _ _ _ c.self.invariant (ap (λ x. x.states) e) (ap (λ x. length x.vertices) e) (ap (λ x. x.first) e) c.reserve-2.ensures.capacity (c.reserve-3.ensures.capacity))
+    rw (c.reserve-2.ensures.items, c.reserve-3.ensures.items)
+    (kept_same c.self.inside.records c.reserve.new.self _ _ _ _ _ _ c.self.invariant (ap (λ x. x.states) e) (ap (λ x. length x.vertices) e) (ap (λ x. x.first) e) c.reserve-2.ensures.capacity (c.reserve-3.ensures.capacity))
 
 pub invariant_of-self-2 : goal.invariant_of-self-2
 invariant_of-self-2 c =
     let e = c.reserve.ensures.same in
-    rw (c.reserve-2.ensures.items, c.reserve-3.ensures.items) (kept_same c.self.inside.records c.reserve.new.self _ _ _ _ _ _ c.self.invariant (ap (λ x. x.states) e) (ap (λ x. length x.vertices) e) (ap (λ x. x.first) e) c.reserve-2.ensures.capacity (c.reserve-3.ensures.capacity))
+    rw (c.reserve-2.ensures.items, c.reserve-3.ensures.items)
+    (kept_same c.self.inside.records c.reserve.new.self _ _ _ _ _ _ c.self.invariant (ap (λ x. x.states) e) (ap (λ x. length x.vertices) e) (ap (λ x. x.first) e) c.reserve-2.ensures.capacity (c.reserve-3.ensures.capacity))

@@ -50,16 +50,20 @@ invariant_of-self c =
           rw (w.self-inside-is, w.in-Some.ensures.capacity) (record {
             are_stuck = both.0;
             are_ready = both.1;
-            sizes = ap length states ∙ length-set (set r.states w.in-Some.last (Stuck c.in-Stuck.place)) c.args.number Neither ∙ length-set r.states w.in-Some.last (Stuck c.in-Stuck.place) ∙ c.self.invariant.sizes ∙ sym (ap length vertices);
-            stuck_kept = subst (λ f. AllIn (λ n. f ≤ n) (set front c.in-Stuck.place w.in-Some.last)) (sym first) (all_put _ (set front c.in-Stuck.place w.in-Some.last) (λ n h. all_get _ s.stuck.items c.self.invariant.stuck_kept n ((gone n).0 h).0));
+            sizes = ap length states ∙ length-set (set r.states w.in-Some.last (Stuck c.in-Stuck.place)) c.args.number Neither
+                ∙ length-set r.states w.in-Some.last (Stuck c.in-Stuck.place) ∙ c.self.invariant.sizes ∙ sym (ap length vertices);
+            stuck_kept = subst (λ f. AllIn (λ n. f ≤ n) (set front c.in-Stuck.place w.in-Some.last)) (sym first)
+                (all_put _ (set front c.in-Stuck.place w.in-Some.last) (λ n h. all_get _ s.stuck.items c.self.invariant.stuck_kept n ((gone n).0 h).0));
             ready_kept = subst (λ f. AllIn (λ n. f ≤ n) s.ready.items) (sym first) c.self.invariant.ready_kept;
           })
       | in-Some+else-last-number w ↦
           let states = ap (λ x. x.states) e ∙ ap (λ i. set i.records.states c.args.number Neither) w.self-inside-is in
           let first = ap (λ x. x.first) e ∙ ap (λ i. i.records.first) w.self-inside-is in
           let vertices = ap (λ x. x.vertices) e ∙ ap (λ i. i.records.vertices) w.self-inside-is in
-          let both = taken_last stuck_laws _ _ _ _ _ c.self.invariant.are_stuck c.self.invariant.are_ready c.args.number below c.in-Stuck.place state front (w.in-Some.ensures.items ∙ ap (λ x. front ++ x ∷ []) w.if-last-number.false) _ states in
-          let gone = removes_last stuck_laws _ _ _ _ _ c.self.invariant.are_stuck c.self.invariant.are_ready c.args.number below c.in-Stuck.place state front (w.in-Some.ensures.items ∙ ap (λ x. front ++ x ∷ []) w.if-last-number.false) in
+          let both = taken_last stuck_laws _ _ _ _ _ c.self.invariant.are_stuck c.self.invariant.are_ready c.args.number below c.in-Stuck.place state front
+          (w.in-Some.ensures.items ∙ ap (λ x. front ++ x ∷ []) w.if-last-number.false) _ states in
+          let gone = removes_last stuck_laws _ _ _ _ _ c.self.invariant.are_stuck c.self.invariant.are_ready c.args.number below c.in-Stuck.place state front
+          (w.in-Some.ensures.items ∙ ap (λ x. front ++ x ∷ []) w.if-last-number.false) in
           rw (w.self-inside-is, w.in-Some.ensures.capacity) (record {
             are_stuck = both.0;
             are_ready = both.1;
@@ -82,9 +86,12 @@ returns-after-pop-clause-removed c =
     let front = c.pop.new.self.items in
     elim c.match-pop.branch [
       | in-Some+then-last-number w ↦
-          rw (← c.self.view_is, w.self-inside-is) (removes stuck_laws _ _ _ _ _ c.self.invariant.are_stuck c.self.invariant.are_ready c.args.number below c.in-Stuck.place state front w.in-Some.last w.in-Some.ensures.items w.if-last-number.true)
+          rw (← c.self.view_is, w.self-inside-is)
+          (removes stuck_laws _ _ _ _ _ c.self.invariant.are_stuck c.self.invariant.are_ready c.args.number below c.in-Stuck.place state front w.in-Some.last w.in-Some.ensures.items w.if-last-number.true)
       | in-Some+else-last-number w ↦
-          rw (← c.self.view_is, w.self-inside-is) (removes_last stuck_laws _ _ _ _ _ c.self.invariant.are_stuck c.self.invariant.are_ready c.args.number below c.in-Stuck.place state front (w.in-Some.ensures.items ∙ ap (λ x. front ++ x ∷ []) w.if-last-number.false))
+          rw (← c.self.view_is, w.self-inside-is)
+          (removes_last stuck_laws _ _ _ _ _ c.self.invariant.are_stuck c.self.invariant.are_ready c.args.number below c.in-Stuck.place state front
+          (w.in-Some.ensures.items ∙ ap (λ x. front ++ x ∷ []) w.if-last-number.false))
       | in_default-pop w ↦
           absurd (not_empty s.stuck.items c.args.number (seen stuck_laws _ _ _ _ _ c.self.invariant.are_stuck c.self.invariant.are_ready c.args.number below c.in-Stuck.place state)
           (omega (arith, w.in_default-pop.ensures.cases.0, s.stuck.ok.0)))
