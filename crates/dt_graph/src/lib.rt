@@ -17,11 +17,14 @@
 
 mod class;
 mod enter;
+mod gone;
 mod graph;
 mod group;
+mod kept;
 mod leave;
 mod names;
 mod numbers;
+mod records;
 mod room;
 mod sched;
 mod seen;
