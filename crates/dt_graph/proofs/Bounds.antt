@@ -18,7 +18,7 @@ use Rattle.dt_waits.specs.Waits.{is_leaving}
 use Rattle.dt_waits.specs.Graph.{GraphView, IsClassDone, IsPast, KeepsGraph, vertex_at}
 use Rattle.dt_waits.proofs.Callers.{past_entries}
 use Rattle.dt_graph.specs.HeldInner.{IsFitted, kept_of}
-use Rattle.dt_graph.specs.VerticesInner.{HasPassed, IsKept, VerticesView}
+use Rattle.dt_graph.specs.VerticesInner.{HasPassed, IsVertexKept, VerticesView}
 use Rattle.dt_waits.specs.Steps.{Inserts, Leaves, Resolves}
 
 -- the ids that have a part are at most as many as the parts
@@ -100,10 +100,10 @@ module _ (ids : List TxnId) (w : Waits) (classes : List Open) (f : IsFitted ids 
   pub stuck_there : (v : ℕ) → Has w.vertices.stuck v → (w.vertices.first ≤ v) × (v < length ids)
   stuck_there v h = (all_get _ w.vertices.stuck f.stuck_kept v h, all_get _ w.vertices.stuck f.stuck_within v h)
 
-  pub ready_is_kept : (v : ℕ) → Has w.vertices.ready v → IsKept w.vertices v
+  pub ready_is_kept : (v : ℕ) → Has w.vertices.ready v → IsVertexKept w.vertices v
   ready_is_kept v h = let t : (w.vertices.first ≤ v) × (v < length ids) = ready_there v h in (t.0, subst (λ n. v < n) (sym f.vertices) t.1)
 
-  pub stuck_is_kept : (v : ℕ) → Has w.vertices.stuck v → IsKept w.vertices v
+  pub stuck_is_kept : (v : ℕ) → Has w.vertices.stuck v → IsVertexKept w.vertices v
   stuck_is_kept v h = let t : (w.vertices.first ≤ v) × (v < length ids) = stuck_there v h in (t.0, subst (λ n. v < n) (sym f.vertices) t.1)
 
   -- what lacks a part is kept

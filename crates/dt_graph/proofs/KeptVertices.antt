@@ -1,5 +1,5 @@
 -- The ready and the stuck numbers stand as the records of their vertices say, also after a vertex came to them or went from them.
-use Rattle.std.proofs.Common.{◌≡◌, ◌≢◌, ◌≤◌, ◌<◌, ◌+◌, ◌^◌, ◌∙◌, ℕ, List, [], ◌∷◌, ◌++◌, length, map, get_or, set, Option, None, Some, refl, sym, ap, subst}
+use Rattle.std.proofs.Common.{◌≡◌, ◌≢◌, ◌≤◌, ◌<◌, ◌+◌, ◌^◌, ◌∙◌, ℕ, List, [], ◌∷◌, ◌++◌, length, map, get_or, set, Option, None, Some, refl, sym, ap, subst, arith}
 use Rattle.std.proofs.Math.ListN.{get_or-map as read_map}
 use Rattle.std.proofs.Math.Seq.{map-set_same}
 use Rattle.std.proofs.lemmas.List.{get_or-map, get_or-set_other, length-append, length-map, map-append, map-set, set-get_or}
@@ -12,7 +12,7 @@ use Rattle.dt_graph.specs.declared.kept.Kept.{Kept}
 use Rattle.dt_graph.specs.declared.kept.State.{State}
 use Rattle.dt_graph.specs.declared.kept.State.TheVariants.{Neither, Ready, Stuck}
 use Rattle.dt_graph.specs.SubsetInner.{IsSubset, PutsIn, Removes}
-use Rattle.dt_graph.specs.VerticesInner.{AreKept, RecordsView, degrees_of, ready_place, states_of, stuck_place, vertices_of}
+use Rattle.dt_graph.specs.VerticesInner.{AreVerticesKept, RecordsView, degrees_of, ready_place, states_of, stuck_place, vertices_of}
 use Rattle.dt_graph.proofs.Subsets.{absent_unplaced, added, at_front, has_placed, last_within, place_fits, placed_has, removed, removed_last, room_for, subset_added, subset_reached, subset_removed, subset_removed_last}
 use Rattle.dt_graph.proofs.Subsets.{subset_room}
 
@@ -156,8 +156,8 @@ module _ {f g : State → Option ℕ} {put : ℕ → State} (l : AreApart f g pu
               l.apart _ p.0 (sym (place_of_state f l.f_none states last) ∙ p.1)
 
 -- the lists stay right where no state changes
-pub kept_same : (old new : RecordsView) (ready stuck : List ℕ) (r s more_r more_s : ℕ) → AreKept old ready stuck r s → new.states ≡ old.states → length new.vertices ≡ length old.vertices → new.first ≡ old.first
-    → r ≤ more_r → s ≤ more_s → AreKept new ready stuck more_r more_s
+pub kept_same : (old new : RecordsView) (ready stuck : List ℕ) (r s more_r more_s : ℕ) → AreVerticesKept old ready stuck r s → new.states ≡ old.states → length new.vertices ≡ length old.vertices → new.first ≡ old.first
+    → r ≤ more_r → s ≤ more_s → AreVerticesKept new ready stuck more_r more_s
 kept_same old new ready stuck r s more_r more_s k states size first le_r le_s = record {
   are_ready = subst (λ x. IsSubset ready (map ready_place x) more_r) (sym states) (subset_room _ _ _ _ le_r k.are_ready);
   are_stuck = subst (λ x. IsSubset stuck (map stuck_place x) more_s) (sym states) (subset_room _ _ _ _ le_s k.are_stuck);
@@ -167,8 +167,8 @@ kept_same old new ready stuck r s more_r more_s k states size first le_r le_s = 
 }
 
 -- where the first that is kept is forgotten
-pub kept_forgotten : (old new : RecordsView) (ready stuck : List ℕ) (r s : ℕ) → AreKept old ready stuck r s → ¬ (Has ready old.first) → ¬ (Has stuck old.first)
-    → new ≡ record old { first = old.first + 1; room = new.room } → AreKept new ready stuck r s
+pub kept_forgotten : (old new : RecordsView) (ready stuck : List ℕ) (r s : ℕ) → AreVerticesKept old ready stuck r s → ¬ (Has ready old.first) → ¬ (Has stuck old.first)
+    → new ≡ record old { first = old.first + 1; room = new.room } → AreVerticesKept new ready stuck r s
 kept_forgotten old new ready stuck r s k not_ready not_stuck e = record {
   are_ready = subst (λ x. IsSubset ready (map ready_place x.states) r) (sym e) k.are_ready;
   are_stuck = subst (λ x. IsSubset stuck (map stuck_place x.states) s) (sym e) k.are_stuck;
@@ -184,8 +184,9 @@ kept_forgotten old new ready stuck r s k not_ready not_stuck e = record {
         next n le ne = grind (arith, le, ne)
 
 -- where one is added
-pub kept_pushed : (old new : RecordsView) (ready stuck : List ℕ) (r s : ℕ) (vertex : Vertex) → AreKept old ready stuck r s → new.states ≡ old.states ++ Neither ∷ [] → new.vertices ≡ old.vertices ++ vertex ∷ [] → new.first ≡ old.first
-    → length old.vertices + 1 < 2 ^ 32 → length old.vertices + 1 ≤ r → length old.vertices + 1 ≤ s → AreKept new ready stuck r s
+pub kept_pushed : (old new : RecordsView) (ready stuck : List ℕ) (r s : ℕ) (vertex : Vertex) → AreVerticesKept old ready stuck r s → new.states ≡ old.states ++ Neither ∷ []
+    → new.vertices ≡ old.vertices ++ vertex ∷ [] → new.first ≡ old.first
+    → length old.vertices + 1 < 2 ^ 32 → length old.vertices + 1 ≤ r → length old.vertices + 1 ≤ s → AreVerticesKept new ready stuck r s
 kept_pushed old new ready stuck r s vertex k states vertices first few fits_r fits_s = record {
   are_ready = subst (λ x. IsSubset ready (map ready_place x) r) (sym states) (one_more ready_laws _ _ _ _ k.are_ready (subst (λ n. n + 1 < 2 ^ 32) (sym k.sizes) few) (subst (λ n. n + 1 ≤ r) (sym k.sizes) fits_r));
   are_stuck = subst (λ x. IsSubset stuck (map stuck_place x) s) (sym states) (one_more stuck_laws _ _ _ _ k.are_stuck (subst (λ n. n + 1 < 2 ^ 32) (sym k.sizes) few) (subst (λ n. n + 1 ≤ s) (sym k.sizes) fits_s));

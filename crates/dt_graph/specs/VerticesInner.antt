@@ -35,7 +35,7 @@ abbrev pub IsIn : RecordsView → ℕ → Type 0
 IsIn r number = (r.first ≤ number) × (number < length r.vertices)
 
 -- the first that is kept follows those that are gone, and all of them are counted in 32 bits
-pub record IsCounted (first : ℕ) (gone kept : List Kept) : Type 0 where
+pub record IsVertexCounted (first : ℕ) (gone kept : List Kept) : Type 0 where
   pub after : first ≡ length gone
   pub few : length gone + length kept < 2 ^ 32
 
@@ -64,8 +64,8 @@ stuck_place (Ready place) = None
 stuck_place (Stuck place) = Some place
 
 -- the vertex of the number is kept
-abbrev pub IsKept : VerticesView → ℕ → Type 0
-IsKept v number = (v.first ≤ number) × (number < length v.vertices)
+abbrev pub IsVertexKept : VerticesView → ℕ → Type 0
+IsVertexKept v number = (v.first ≤ number) × (number < length v.vertices)
 
 -- the vertex of the number is of a transaction that has left
 abbrev pub HasPassed : List Open → VerticesView → ℕ → Type 0
@@ -73,7 +73,7 @@ HasPassed classes v number = IsPast classes (vertex_at v.vertices number) × ¬ 
 
 -- the ready and the stuck numbers are those of which the records say so, there is this much room for them, and their records
 -- are kept
-pub record AreKept (records : RecordsView) (ready stuck : List ℕ) (ready_room stuck_room : ℕ) : Type 0 where
+pub record AreVerticesKept (records : RecordsView) (ready stuck : List ℕ) (ready_room stuck_room : ℕ) : Type 0 where
   pub are_ready : IsSubset ready (map ready_place records.states) ready_room
   pub are_stuck : IsSubset stuck (map stuck_place records.states) stuck_room
   pub sizes : length records.states ≡ length records.vertices

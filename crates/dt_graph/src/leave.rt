@@ -5,7 +5,7 @@ ghost use Rattle.dt_queue.specs.Queues.{HasDistinctSlots, IsQueued};
 ghost use Rattle.dt_waits.specs.Graph.{vertex_at};
 ghost use Rattle.dt_waits.specs.Steps.{AreEntriesBelow, HaveSlots};
 ghost use Rattle.dt_graph.specs.SmallStepsInner.{AreLowered, IsFollowedAt, Wakes, falls};
-ghost use Rattle.dt_graph.specs.VerticesInner.{IsKept};
+ghost use Rattle.dt_graph.specs.VerticesInner.{IsVertexKept};
 ghost use Rattle.dt_waits.specs.Waits.{IsFollowed, is_leaving, lowered, lowered_by};
 
 use crate::vertices::Vertices;
@@ -13,7 +13,7 @@ use dt_queue::Queues;
 
 /// Takes one from the degree of a follower of an entry of a vertex, unless it follows itself.
 fn lower(vertices: &mut Vertices, follower: u32, vertex: u32)
-    requires within { IsKept vertices.old follower }
+    requires within { IsVertexKept vertices.old follower }
     requires sizes { length vertices.old.degrees ≡ length vertices.old.vertices }
     requires enough { follower ≢ vertex → 1 ≤ get_or vertices.old.degrees follower 0 }
     ensures lowered { AreLowered (falls vertex follower) vertices.old.degrees vertices.new.degrees }
@@ -26,7 +26,7 @@ fn lower(vertices: &mut Vertices, follower: u32, vertex: u32)
 
 /// A vertex is ready, if it is stuck and has come to degree 0.
 fn wake(vertices: &mut Vertices, vertex: u32)
-    requires { IsKept vertices.old vertex }
+    requires { IsVertexKept vertices.old vertex }
     ensures woken { Wakes (λ v. vertex ≡ v) vertices.old.degrees vertices.old.stuck vertices.old.ready vertices.new.stuck vertices.new.ready }
     ensures vertices { vertices.new.vertices ≡ vertices.old.vertices }
     ensures degrees { vertices.new.degrees ≡ vertices.old.degrees }
@@ -63,7 +63,7 @@ fn free_followers(queues: &Queues, slot: usize, vertex: u32, vertices: &mut Vert
 /// Lowers the degrees of the followers of the entries of a vertex, but not its own; those that are stuck and come to degree 0 are
 /// ready.
 fn free_slots(queues: &Queues, vertex: u32, vertices: &mut Vertices)
-    requires within { IsKept vertices.old vertex }
+    requires within { IsVertexKept vertices.old vertex }
     requires wait { AllIn (IsQueued queues.now) (vertex_at vertices.old.vertices vertex).slots }
     requires distinct { HasDistinctSlots queues.now }
     requires below { AreEntriesBelow (length vertices.old.degrees) queues.now }

@@ -23,7 +23,7 @@ pub struct Records {
 impl Model for Records {
     ghost use Rattle.std.specs.Prelude.{◌-◌, ◌++◌};
     ghost use Rattle.std.specs.VecDeque.{deque_capacity, deque_len};
-    ghost use Rattle.dt_graph.specs.VerticesInner.{IsCounted, RecordsView, degrees_of, states_of, vertices_of};
+    ghost use Rattle.dt_graph.specs.VerticesInner.{IsVertexCounted, RecordsView, degrees_of, states_of, vertices_of};
 
     ghost Value = { RecordsView };
 
@@ -35,7 +35,7 @@ impl Model for Records {
       room = deque_capacity r.kept - deque_len r.kept;
     } };
 
-    ghost invariant = { λ r. IsCounted r.first r.gone.records r.kept.items };
+    ghost invariant = { λ r. IsVertexCounted r.first r.gone.records r.kept.items };
 }
 
 impl Records {

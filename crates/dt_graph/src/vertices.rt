@@ -2,7 +2,7 @@ ghost use Rattle.std.specs.Prelude.{◌≡◌, ◌≢◌, ◌≤◌, ◌<◌, �
 ghost use Rattle.dt_lists.specs.Lists.{AllIn, Has, Distinct};
 ghost use Rattle.dt_waits.specs.Graph.{vertex_at};
 ghost use Rattle.dt_graph.specs.SubsetInner.{PutsIn, Removes};
-ghost use Rattle.dt_graph.specs.VerticesInner.{IsKept};
+ghost use Rattle.dt_graph.specs.VerticesInner.{IsVertexKept};
 
 use crate::kept::State;
 use crate::records::Records;
@@ -25,7 +25,7 @@ pub struct Vertices {
 
 impl Model for Vertices {
     ghost use Rattle.std.specs.Prelude.{length, vec_capacity};
-    ghost use Rattle.dt_graph.specs.VerticesInner.{AreKept, VerticesView, room_of};
+    ghost use Rattle.dt_graph.specs.VerticesInner.{AreVerticesKept, VerticesView, room_of};
 
     ghost Value = { VerticesView };
 
@@ -38,7 +38,7 @@ impl Model for Vertices {
       room = room_of (length v.records.vertices) v.records.room (vec_capacity v.ready) (vec_capacity v.stuck);
     } };
 
-    ghost invariant = { λ v. AreKept v.records v.ready.items v.stuck.items (vec_capacity v.ready) (vec_capacity v.stuck) };
+    ghost invariant = { λ v. AreVerticesKept v.records v.ready.items v.stuck.items (vec_capacity v.ready) (vec_capacity v.stuck) };
 }
 
 impl Vertices {
@@ -115,7 +115,7 @@ impl Vertices {
 
     /// The vertex of a number.
     pub fn get(&self, number: u32) -> &Vertex
-        requires { IsKept self.now number }
+        requires { IsVertexKept self.now number }
         ensures { result.now ≡ vertex_at self.now.vertices number }
     {
         self.records.get(number)
@@ -123,7 +123,7 @@ impl Vertices {
 
     /// The degree of a vertex.
     pub fn degree(&self, number: u32) -> u128
-        requires { IsKept self.now number }
+        requires { IsVertexKept self.now number }
         ensures { result ≡ get_or self.now.degrees number 0 }
     {
         self.records.degree(number)
@@ -131,7 +131,7 @@ impl Vertices {
 
     /// Gives a vertex with a part more its slots and its degree.
     pub fn grow(&mut self, number: u32, slots: Slots, degree: u128)
-        requires within { IsKept self.old number }
+        requires within { IsVertexKept self.old number }
         requires missing { 0 < (vertex_at self.old.vertices number).missing }
         ensures { self.new ≡ record self.old {
           vertices = set self.old.vertices number (record (vertex_at self.old.vertices number) { missing = (vertex_at self.old.vertices number).missing - 1; slots = slots });
@@ -143,7 +143,7 @@ impl Vertices {
 
     /// Puts a vertex into the resolved class at a place.
     pub fn put_in_class(&mut self, number: u32, class: u32)
-        requires within { IsKept self.old number }
+        requires within { IsVertexKept self.old number }
         requires few { class + 1 < 2 ^ 32 }
         ensures { self.new ≡ record self.old { vertices = set self.old.vertices number (record (vertex_at self.old.vertices number) { class = Some class }) } }
     {
@@ -152,7 +152,7 @@ impl Vertices {
 
     /// Takes one from the degree of a vertex.
     pub fn lower(&mut self, number: u32)
-        requires within { IsKept self.old number }
+        requires within { IsVertexKept self.old number }
         requires enough { 1 ≤ get_or self.old.degrees number 0 }
         ensures { self.new ≡ record self.old { degrees = set self.old.degrees number (get_or self.old.degrees number 0 - 1) } }
     {
@@ -192,7 +192,7 @@ impl Vertices {
 
     /// Puts a vertex that is not stuck to the ready ones, unless it is one of them. Takes no memory.
     pub fn add_ready(&mut self, number: u32)
-        requires within { IsKept self.old number }
+        requires within { IsVertexKept self.old number }
         requires apart { ¬ (Has self.old.stuck number) }
         ensures put { PutsIn number self.old.ready self.new.ready }
         ensures same { self.new ≡ record self.old { ready = self.new.ready; room = self.new.room } }
@@ -206,7 +206,7 @@ impl Vertices {
 
     /// Puts a vertex that is not ready to the stuck ones, unless it is one of them. Takes no memory.
     pub fn add_stuck(&mut self, number: u32)
-        requires within { IsKept self.old number }
+        requires within { IsVertexKept self.old number }
         requires apart { ¬ (Has self.old.ready number) }
         ensures put { PutsIn number self.old.stuck self.new.stuck }
         ensures same { self.new ≡ record self.old { stuck = self.new.stuck; room = self.new.room } }
@@ -220,7 +220,7 @@ impl Vertices {
 
     /// Takes a vertex out of the ready ones, if it is one of them; the last one comes to its place. Takes no memory.
     pub fn take_ready(&mut self, number: u32)
-        requires { IsKept self.old number }
+        requires { IsVertexKept self.old number }
         ensures removed { Removes number self.old.ready self.new.ready }
         ensures same { self.new ≡ record self.old { ready = self.new.ready } }
     {
@@ -237,7 +237,7 @@ impl Vertices {
 
     /// Takes a vertex out of the stuck ones, if it is one of them; the last one comes to its place. Takes no memory.
     pub fn take_stuck(&mut self, number: u32)
-        requires { IsKept self.old number }
+        requires { IsVertexKept self.old number }
         ensures removed { Removes number self.old.stuck self.new.stuck }
         ensures same { self.new ≡ record self.old { stuck = self.new.stuck } }
     {

@@ -9,7 +9,7 @@ ghost use Rattle.dt_waits.specs.Steps.{AreEntriesBelow, HaveSlots, Inserts, Leav
 ghost use Rattle.dt_graph.specs.SmallStepsInner.{Sorts};
 ghost use Rattle.dt_waits.specs.Waits.{degree, id_at, lowered_by};
 ghost use Rattle.dt_graph.specs.HeldInner.{kept_of};
-ghost use Rattle.dt_graph.specs.VerticesInner.{HasPassed, IsKept};
+ghost use Rattle.dt_graph.specs.VerticesInner.{HasPassed, IsVertexKept};
 
 use crate::enter::enter;
 use crate::leave::leave;
@@ -85,7 +85,7 @@ impl Waits {
 
     /// Puts in one more part to a vertex; after `NoMemory` all is as before.
     pub fn extend(&mut self, alloc: Global, vertex: u32, part: &Part) -> Result<(), NoMemory>
-        requires vertex { IsKept self.old.vertices vertex }
+        requires vertex { IsVertexKept self.old.vertices vertex }
         requires sizes { length self.old.vertices.degrees ≡ length self.old.vertices.vertices }
         requires distinct { HasDistinctSlots self.old.queues }
         requires missing { 0 < (vertex_at self.old.vertices.vertices vertex).missing }
@@ -114,7 +114,7 @@ impl Waits {
 
     /// A copy of the slots of a vertex.
     fn copied_slots(&self, alloc: Global, vertex: u32) -> Result<Slots, NoMemory>
-        requires { IsKept self.now.vertices vertex }
+        requires { IsVertexKept self.now.vertices vertex }
         ensures { IfOk result (λ slots. slots ≡ (vertex_at self.now.vertices.vertices vertex).slots) }
     {
         self.vertices.get(vertex).slots.copy(alloc)
@@ -122,7 +122,7 @@ impl Waits {
 
     /// Puts a vertex that is neither ready nor stuck to those that are, if it is complete.
     fn sort(&mut self, vertex: u32)
-        requires vertex { IsKept self.old.vertices vertex }
+        requires vertex { IsVertexKept self.old.vertices vertex }
         requires not_ready { ¬ (Has self.old.vertices.ready vertex) }
         requires not_stuck { ¬ (Has self.old.vertices.stuck vertex) }
         ensures sorted { Sorts vertex self.old.vertices.vertices self.old.vertices.degrees self.old.vertices.ready self.old.vertices.stuck self.new.vertices.ready self.new.vertices.stuck }
@@ -199,7 +199,7 @@ impl Waits {
 
     /// Whether the transaction of a vertex has left.
     fn has_passed(&self, number: u32, classes: &[Open]) -> bool
-        requires { IsKept self.now.vertices number }
+        requires { IsVertexKept self.now.vertices number }
         ensures { IsTrue result ↔ HasPassed classes.now self.now.vertices number }
     {
         let vertex = self.vertices.get(number);

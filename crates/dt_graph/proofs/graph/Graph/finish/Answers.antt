@@ -4,7 +4,7 @@ use Rattle.dt_waits.specs.Graph.{GraphView, vertex_at}
 use Rattle.dt_waits.specs.Steps.{AreEntriesBelow, HaveSlots, Leaves, alone}
 use Rattle.dt_waits.specs.Waits.{lowered_by}
 use Rattle.dt_graph.specs.HeldInner.{kept_of}
-use Rattle.dt_graph.specs.VerticesInner.{IsKept, VerticesView}
+use Rattle.dt_graph.specs.VerticesInner.{IsVertexKept, VerticesView}
 use Rattle.dt_graph.specs.SmallStepsInner.{FinishesIn, MayFinishIn}
 use Rattle.dt_graph.proofs.FinishCall.{MayFinish, finishes_in, is_ready, may_finish, may_finish_without, may_leave_one, number_there}
 use Rattle.dt_graph.proofs.Bounds.{fitted_left, fitted_ready, ready_is_kept, ready_there, with_room}
@@ -20,14 +20,14 @@ pub get-requires : goal.get-requires
 get-requires c =
     let g : GraphView = kept_of c.self.inside.names.ids c.self.inside.waits c.self.inside.classes.items in
     let r : MayFinish g c.args.id = subst (λ g. MayFinish g c.args.id) (sym c.self.view_is) c.requires in
-    subst (λ (x : VerticesView). IsKept x c.in-Some.vertex) (sym c.take_ready.ensures.same)
+    subst (λ (x : VerticesView). IsVertexKept x c.in-Some.vertex) (sym c.take_ready.ensures.same)
     (ready_is_kept c.self.inside.names.ids c.self.inside.waits c.self.inside.classes.items c.self.invariant c.in-Some.vertex (is_ready g c.args.id r c.in-Some.vertex c.in-Some.ensures.number))
 
 pub leave-requires-clause-left : goal.leave-requires-clause-left
 leave-requires-clause-left c =
     let g : GraphView = kept_of c.self.inside.names.ids c.self.inside.waits c.self.inside.classes.items in
     let r : MayFinish g c.args.id = subst (λ g. MayFinish g c.args.id) (sym c.self.view_is) c.requires in
-    let kept : IsKept c.self.inside.waits.vertices c.in-Some.vertex =
+    let kept : IsVertexKept c.self.inside.waits.vertices c.in-Some.vertex =
     ready_is_kept c.self.inside.names.ids c.self.inside.waits c.self.inside.classes.items c.self.invariant c.in-Some.vertex (is_ready g c.args.id r c.in-Some.vertex c.in-Some.ensures.number) in
     subst (λ (x : VerticesView). AllIn (λ u. x.first ≤ u) (c.in-Some.vertex ∷ [])) (sym c.take_ready.ensures.same) (kept.0, tt)
 

@@ -2,7 +2,7 @@ use Rattle.std.proofs.Common.{◌≡◌, ◌≤◌, ◌<◌, ◌++◌, ◌∷◌
 use Rattle.std.proofs.lemmas.List.{length-set}
 use Rattle.dt_lists.specs.Lists.{AllIn, Has}
 use Rattle.dt_lists.proofs.Callers.{all_get, all_put, has_last, none_in_empty as not_empty}
-use Rattle.dt_graph.specs.VerticesInner.{IsKept}
+use Rattle.dt_graph.specs.VerticesInner.{IsVertexKept}
 use Rattle.dt_graph.specs.declared.kept.State.TheVariants.{Neither, Ready}
 use Rattle.dt_graph.proofs.KeptVertices.{last_below, place_within, ready_laws, removes, removes_last, seen, taken, taken_last, unseen}
 use Rattle.dt_graph.proofs.vertices.Vertices.take_ready.Goals as goal
@@ -12,7 +12,7 @@ pub index_mut-requires : goal.index_mut-requires
 index_mut-requires c =
     let s = c.self.inside in
     let r = s.records in
-    let kept = subst (λ v. IsKept v c.args.number) (sym c.self.view_is) c.requires in
+    let kept = subst (λ v. IsVertexKept v c.args.number) (sym c.self.view_is) c.requires in
     let below : c.args.number < length r.states = omega (arith, kept.1, c.self.invariant.sizes) in
     let state = sym c.state.ensures ∙ c.in-Ready.is in
     let front = c.pop.new.self.items in
@@ -23,7 +23,7 @@ pub set_state-requires : goal.set_state-requires
 set_state-requires c =
     let s = c.self.inside in
     let r = s.records in
-    let kept = subst (λ v. IsKept v c.args.number) (sym c.self.view_is) c.requires in
+    let kept = subst (λ v. IsVertexKept v c.args.number) (sym c.self.view_is) c.requires in
     let below : c.args.number < length r.states = omega (arith, kept.1, c.self.invariant.sizes) in
     let state = sym c.state.ensures ∙ c.in-Ready.is in
     let front = c.pop.new.self.items in
@@ -35,7 +35,7 @@ pub invariant_of-self : goal.invariant_of-self
 invariant_of-self c =
     let s = c.self.inside in
     let r = s.records in
-    let kept = subst (λ v. IsKept v c.args.number) (sym c.self.view_is) c.requires in
+    let kept = subst (λ v. IsVertexKept v c.args.number) (sym c.self.view_is) c.requires in
     let below : c.args.number < length r.states = omega (arith, kept.1, c.self.invariant.sizes) in
     let state = sym c.state.ensures ∙ c.in-Ready.is in
     let front = c.pop.new.self.items in
@@ -80,7 +80,7 @@ pub returns-after-pop-clause-removed : goal.returns-after-pop-clause-removed
 returns-after-pop-clause-removed c =
     let s = c.self.inside in
     let r = s.records in
-    let kept = subst (λ v. IsKept v c.args.number) (sym c.self.view_is) c.requires in
+    let kept = subst (λ v. IsVertexKept v c.args.number) (sym c.self.view_is) c.requires in
     let below : c.args.number < length r.states = omega (arith, kept.1, c.self.invariant.sizes) in
     let state = sym c.state.ensures ∙ c.in-Ready.is in
     let front = c.pop.new.self.items in
@@ -101,7 +101,7 @@ pub returns-in_default : goal.returns-in_default
 returns-in_default c =
     let s = c.self.inside in
     let r = s.records in
-    let kept = subst (λ v. IsKept v c.args.number) (sym c.self.view_is) c.requires in
+    let kept = subst (λ v. IsVertexKept v c.args.number) (sym c.self.view_is) c.requires in
     let below : c.args.number < length r.states = omega (arith, kept.1, c.self.invariant.sizes) in
     let absent : ¬ (Has c.args.self.now.ready c.args.number) =
     λ h. unseen ready_laws _ _ _ _ _ c.self.invariant.are_ready c.self.invariant.are_stuck c.args.number below (λ p e. c.in_default.not-Ready p (c.state.ensures ∙ e)) (subst (λ v. Has v.ready c.args.number) (sym c.self.view_is) h) in
