@@ -184,7 +184,8 @@ kept_forgotten old new ready stuck r s k not_ready not_stuck e = record {
         next n le ne = grind (arith, le, ne)
 
 -- where one is added
-pub kept_pushed : (old new : RecordsView) (ready stuck : List ℕ) (r s : ℕ) (vertex : Vertex) → AreKept old ready stuck r s → new.states ≡ old.states ++ Neither ∷ [] → new.vertices ≡ old.vertices ++ vertex ∷ [] → new.first ≡ old.first
+pub kept_pushed : (old new : RecordsView) (ready stuck : List ℕ) (r s : ℕ) (vertex : Vertex) → AreKept old ready stuck r s → new.states ≡ old.states ++ Neither ∷ []
+    → new.vertices ≡ old.vertices ++ vertex ∷ [] → new.first ≡ old.first
     → length old.vertices + 1 < 2 ^ 32 → length old.vertices + 1 ≤ r → length old.vertices + 1 ≤ s → AreKept new ready stuck r s
 kept_pushed old new ready stuck r s vertex k states vertices first few fits_r fits_s = record {
   are_ready = subst (λ x. IsSubset ready (map ready_place x) r) (sym states) (one_more ready_laws _ _ _ _ k.are_ready (subst (λ n. n + 1 < 2 ^ 32) (sym k.sizes) few) (subst (λ n. n + 1 ≤ r) (sym k.sizes) fits_r));
