@@ -3,5 +3,3 @@ pub mod Granules
 pub mod Clash
 pub mod Orders
 pub mod ClashSearchInner
-pub mod HomesInner
-pub mod KeysInner

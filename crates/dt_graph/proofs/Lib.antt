@@ -1,6 +1,5 @@
 pub mod Subsets
 pub mod KeptVertices
-pub mod KeptRecords
 pub mod Bounds
 pub mod FinishCall
 pub mod InsertCall

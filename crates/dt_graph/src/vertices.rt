@@ -2,15 +2,33 @@ ghost use Rattle.std.specs.Prelude.{◌≡◌, ◌≢◌, ◌≤◌, ◌<◌, �
 ghost use Rattle.dt_lists.specs.Lists.{AllIn, Has, Distinct};
 ghost use Rattle.dt_waits.specs.Graph.{vertex_at};
 ghost use Rattle.dt_graph.specs.SubsetInner.{PutsIn, Removes};
-ghost use Rattle.dt_graph.specs.VerticesInner.{IsVertexKept};
+ghost use Rattle.dt_graph.specs.VerticesInner.{degrees_of, states_of, vertices_of};
 
-use crate::kept::State;
-use crate::records::Records;
 use crate::room::push_reserved;
 use dt_text::NoMemory;
-use dt_waits::{Slots, Vertex};
+use dt_waits::{Place, Slots, Vertex};
 use std::alloc::Global;
 use std::marker::Model;
+
+/// Whether a transaction may be executed, waits for others, or neither.
+#[derive(Clone, Copy, Drop)]
+pub enum State {
+    /// A part of it is missing, another member of its class runs before it, or it is done.
+    Neither,
+    /// It is ready, and stands at this place among those that are.
+    Ready(u32),
+    /// It is stuck, and stands at this place among those that are.
+    Stuck(u32),
+}
+
+/// All that is kept of a transaction, side by side.
+#[derive(Drop)]
+pub struct Kept {
+    /// How many neighbours its entries have.
+    pub degree: u128,
+    pub vertex: Vertex,
+    pub state: State,
+}
 
 /// The vertices by their numbers, each with its degree, and which of them are ready or stuck.
 ///
@@ -18,27 +36,26 @@ use std::marker::Model;
 /// comes to them and goes from them at once, and takes no memory.
 #[derive(Drop)]
 pub struct Vertices {
-    records: Records,
+    kept: Vec<Kept>,
     ready: Vec<u32>,
     stuck: Vec<u32>,
 }
 
 impl Model for Vertices {
-    ghost use Rattle.std.specs.Prelude.{length, vec_capacity};
-    ghost use Rattle.dt_graph.specs.VerticesInner.{AreVerticesKept, VerticesView, room_of};
+    ghost use Rattle.std.specs.Prelude.{vec_capacity, vec_len};
+    ghost use Rattle.dt_graph.specs.VerticesInner.{AreVerticesKept, VerticesView, degrees_of, room_of, vertices_of};
 
     ghost Value = { VerticesView };
 
     ghost view = { λ v. record {
-      vertices = v.records.vertices;
-      degrees = v.records.degrees;
-      first = v.records.first;
+      vertices = vertices_of v.kept.items;
+      degrees = degrees_of v.kept.items;
       ready = v.ready.items;
       stuck = v.stuck.items;
-      room = room_of (length v.records.vertices) v.records.room (vec_capacity v.ready) (vec_capacity v.stuck);
+      room = room_of (vec_len v.kept) (vec_capacity v.kept) (vec_capacity v.ready) (vec_capacity v.stuck);
     } };
 
-    ghost invariant = { λ v. AreVerticesKept v.records v.ready.items v.stuck.items (vec_capacity v.ready) (vec_capacity v.stuck) };
+    ghost invariant = { λ v. AreVerticesKept v.kept.items v.ready.items v.stuck.items (vec_capacity v.ready) (vec_capacity v.stuck) };
 }
 
 impl Vertices {
@@ -48,20 +65,19 @@ impl Vertices {
         ensures degrees { result.degrees ≡ [] }
         ensures ready { result.ready ≡ [] }
         ensures stuck { result.stuck ≡ [] }
-        ensures first { result.first ≡ 0 }
     {
         Vertices {
-            records: Records::new(alloc),
+            kept: Vec::new(alloc),
             ready: Vec::new(alloc),
             stuck: Vec::new(alloc),
         }
     }
 
-    /// How many there are, with those that were forgotten.
+    /// How many there are.
     pub fn len(&self) -> usize
         ensures { result ≡ length self.now.vertices }
     {
-        self.records.len()
+        self.kept.len()
     }
 
     /// Makes room for one more. Nothing else changes.
@@ -69,10 +85,10 @@ impl Vertices {
         ensures room { OnOk result (0 < self.new.room) }
         ensures same { self.new ≡ record self.old { room = self.new.room } }
     {
-        let records = self.records.len() + 1;
-        self.records.reserve()?;
-        self.ready.reserve(records - self.ready.len())?;
-        self.stuck.reserve(records - self.stuck.len())?;
+        let kept = self.kept.len() + 1;
+        self.kept.reserve(1)?;
+        self.ready.reserve(kept - self.ready.len())?;
+        self.stuck.reserve(kept - self.stuck.len())?;
         Ok(())
     }
 
@@ -84,79 +100,64 @@ impl Vertices {
         ensures degrees { self.new.degrees ≡ self.old.degrees ++ degree ∷ [] }
         ensures ready { self.new.ready ≡ self.old.ready }
         ensures stuck { self.new.stuck ≡ self.old.stuck }
-        ensures first { self.new.first ≡ self.old.first }
     {
-        self.records.push(vertex, degree);
-    }
-
-    /// The number of the first that is kept.
-    pub fn first(&self) -> usize
-        ensures { result ≡ self.now.first }
-    {
-        self.records.first()
-    }
-
-    /// Whether the vertex of a number is kept.
-    fn is_kept(&self, number: u32) -> bool
-        ensures { IsTrue result ↔ (self.now.first ≤ number) }
-    {
-        self.records.first() <= number as usize
-    }
-
-    /// Forgets the first that is kept, which is neither ready nor stuck.
-    pub fn forget(&mut self)
-        requires some { self.old.first < length self.old.vertices }
-        requires not_ready { ¬ (Has self.old.ready self.old.first) }
-        requires not_stuck { ¬ (Has self.old.stuck self.old.first) }
-        ensures { self.new ≡ record self.old { first = self.old.first + 1; room = self.new.room } }
-    {
-        self.records.forget();
+        push_reserved(
+            &mut self.kept,
+            Kept {
+                degree,
+                vertex,
+                state: State::Neither,
+            },
+        );
     }
 
     /// The vertex of a number.
     pub fn get(&self, number: u32) -> &Vertex
-        requires { IsVertexKept self.now number }
+        requires { number < length self.now.vertices }
         ensures { result.now ≡ vertex_at self.now.vertices number }
     {
-        self.records.get(number)
+        &self.kept[number as usize].vertex
     }
 
     /// The degree of a vertex.
     pub fn degree(&self, number: u32) -> u128
-        requires { IsVertexKept self.now number }
+        requires { number < length self.now.vertices }
         ensures { result ≡ get_or self.now.degrees number 0 }
     {
-        self.records.degree(number)
+        self.kept[number as usize].degree
     }
 
     /// Gives a vertex with a part more its slots and its degree.
     pub fn grow(&mut self, number: u32, slots: Slots, degree: u128)
-        requires within { IsVertexKept self.old number }
+        requires within { number < length self.old.vertices }
         requires missing { 0 < (vertex_at self.old.vertices number).missing }
         ensures { self.new ≡ record self.old {
           vertices = set self.old.vertices number (record (vertex_at self.old.vertices number) { missing = (vertex_at self.old.vertices number).missing - 1; slots = slots });
           degrees = set self.old.degrees number degree;
         } }
     {
-        self.records.grow(number, slots, degree);
+        let kept = &mut self.kept[number as usize];
+        kept.vertex.slots = slots;
+        kept.vertex.missing -= 1;
+        kept.degree = degree;
     }
 
     /// Puts a vertex into the resolved class at a place.
     pub fn put_in_class(&mut self, number: u32, class: u32)
-        requires within { IsVertexKept self.old number }
+        requires within { number < length self.old.vertices }
         requires few { class + 1 < 2 ^ 32 }
         ensures { self.new ≡ record self.old { vertices = set self.old.vertices number (record (vertex_at self.old.vertices number) { class = Some class }) } }
     {
-        self.records.put_in_class(number, class);
+        self.kept[number as usize].vertex.class = Place::at(class);
     }
 
     /// Takes one from the degree of a vertex.
     pub fn lower(&mut self, number: u32)
-        requires within { IsVertexKept self.old number }
+        requires within { number < length self.old.vertices }
         requires enough { 1 ≤ get_or self.old.degrees number 0 }
         ensures { self.new ≡ record self.old { degrees = set self.old.degrees number (get_or self.old.degrees number 0 - 1) } }
     {
-        self.records.lower(number);
+        self.kept[number as usize].degree -= 1;
     }
 
     /// The ready ones, in no order.
@@ -179,7 +180,7 @@ impl Vertices {
         requires { number < length self.now.vertices }
         ensures { IsTrue result ↔ Has self.now.ready number }
     {
-        self.is_kept(number) && matches!(self.records.state(number), State::Ready(_))
+        matches!(self.kept[number as usize].state, State::Ready(_))
     }
 
     /// Whether a vertex is stuck.
@@ -187,68 +188,79 @@ impl Vertices {
         requires { number < length self.now.vertices }
         ensures { IsTrue result ↔ Has self.now.stuck number }
     {
-        self.is_kept(number) && matches!(self.records.state(number), State::Stuck(_))
+        matches!(self.kept[number as usize].state, State::Stuck(_))
     }
 
     /// Puts a vertex that is not stuck to the ready ones, unless it is one of them. Takes no memory.
     pub fn add_ready(&mut self, number: u32)
-        requires within { IsVertexKept self.old number }
+        requires within { number < length self.old.vertices }
         requires apart { ¬ (Has self.old.stuck number) }
         ensures put { PutsIn number self.old.ready self.new.ready }
         ensures same { self.new ≡ record self.old { ready = self.new.ready; room = self.new.room } }
     {
         if !self.is_ready(number) {
             let place = self.ready.len() as u32;
-            self.records.set_state(number, State::Ready(place));
+            set_state(&mut self.kept, number, State::Ready(place));
             push_reserved(&mut self.ready, number);
         }
     }
 
     /// Puts a vertex that is not ready to the stuck ones, unless it is one of them. Takes no memory.
     pub fn add_stuck(&mut self, number: u32)
-        requires within { IsVertexKept self.old number }
+        requires within { number < length self.old.vertices }
         requires apart { ¬ (Has self.old.ready number) }
         ensures put { PutsIn number self.old.stuck self.new.stuck }
         ensures same { self.new ≡ record self.old { stuck = self.new.stuck; room = self.new.room } }
     {
         if !self.is_stuck(number) {
             let place = self.stuck.len() as u32;
-            self.records.set_state(number, State::Stuck(place));
+            set_state(&mut self.kept, number, State::Stuck(place));
             push_reserved(&mut self.stuck, number);
         }
     }
 
     /// Takes a vertex out of the ready ones, if it is one of them; the last one comes to its place. Takes no memory.
     pub fn take_ready(&mut self, number: u32)
-        requires { IsVertexKept self.old number }
+        requires { number < length self.old.vertices }
         ensures removed { Removes number self.old.ready self.new.ready }
         ensures same { self.new ≡ record self.old { ready = self.new.ready } }
     {
-        if let State::Ready(place) = self.records.state(number) {
+        if let State::Ready(place) = self.kept[number as usize].state {
             if let Some(last) = self.ready.pop() {
                 if last != number {
                     self.ready[place as usize] = last;
-                    self.records.set_state(last, State::Ready(place));
+                    set_state(&mut self.kept, last, State::Ready(place));
                 }
             }
-            self.records.set_state(number, State::Neither);
+            set_state(&mut self.kept, number, State::Neither);
         }
     }
 
     /// Takes a vertex out of the stuck ones, if it is one of them; the last one comes to its place. Takes no memory.
     pub fn take_stuck(&mut self, number: u32)
-        requires { IsVertexKept self.old number }
+        requires { number < length self.old.vertices }
         ensures removed { Removes number self.old.stuck self.new.stuck }
         ensures same { self.new ≡ record self.old { stuck = self.new.stuck } }
     {
-        if let State::Stuck(place) = self.records.state(number) {
+        if let State::Stuck(place) = self.kept[number as usize].state {
             if let Some(last) = self.stuck.pop() {
                 if last != number {
                     self.stuck[place as usize] = last;
-                    self.records.set_state(last, State::Stuck(place));
+                    set_state(&mut self.kept, last, State::Stuck(place));
                 }
             }
-            self.records.set_state(number, State::Neither);
+            set_state(&mut self.kept, number, State::Neither);
         }
     }
+}
+
+/// Gives a vertex a state. Nothing else changes.
+fn set_state(kept: &mut Vec<Kept>, number: u32, state: State)
+    requires { number < length kept.old.items }
+    ensures states { states_of kept.new.items ≡ set (states_of kept.old.items) number state }
+    ensures vertices { vertices_of kept.new.items ≡ vertices_of kept.old.items }
+    ensures degrees { degrees_of kept.new.items ≡ degrees_of kept.old.items }
+    ensures room { vec_capacity kept.new ≡ vec_capacity kept.old }
+{
+    kept[number as usize].state = state;
 }

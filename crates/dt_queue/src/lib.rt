@@ -8,7 +8,6 @@
 
 mod cell;
 mod follower;
-mod hints;
 mod kept;
 mod lane;
 mod lanes;

@@ -7,8 +7,6 @@
 
 mod effect;
 mod homes;
-mod moved;
-mod opened;
 mod opening;
 mod rows;
 mod shown;
