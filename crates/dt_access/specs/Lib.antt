@@ -3,3 +3,5 @@ pub mod Granules
 pub mod Clash
 pub mod Orders
 pub mod ClashSearchInner
+pub mod HomesInner
+pub mod KeysInner

@@ -39,8 +39,8 @@ pub fn unit_bytes(version: u8, key: &Key) -> &[u8]
     }
 }
 
-/// The bytes of the granule of a key. Takes no memory.
-pub(crate) fn granule_bytes(key: &[u8]) -> &[u8]
+/// The bytes of the granule of the key of these bytes. Takes no memory.
+pub fn granule_bytes(key: &[u8]) -> &[u8]
     ensures { result.now ≡ granule_of key.now }
 {
     let Some((_, rest)) = key.split_first() else {

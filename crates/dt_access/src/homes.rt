@@ -1,27 +1,41 @@
-ghost use Rattle.std.specs.Prelude.{◌≡◌, [], ◌∷◌, ◌++◌, IfOk, OnOk, OnErr};
+ghost use Rattle.std.specs.Prelude.{◌≡◌, ◌≤◌, [], ◌∷◌, ◌++◌, IfOk, OnOk, OnErr, length};
+ghost use Rattle.dt_access.specs.HomesInner.{FitsInList, kept_homes};
 ghost use Rattle.dt_access.specs.Orders.{AreAscendingHomes};
 
-use dt_text::NoMemory;
-use smallvec::SmallVec;
+use dt_text::{Common, NoMemory};
 use std::alloc::Global;
 use std::marker::Model;
 
-/// Homes in ascending order; so none stands twice. Up to eight of them lie in the list itself, and take no memory when they
-/// are copied.
+/// How many homes fit into a list itself.
+const FEW: usize = 8;
+
+/// Homes in ascending order; so none stands twice. Up to eight of them lie in the list itself, more in common with its copies:
+/// a copy takes no memory.
 #[derive(Debug, Drop)]
 pub struct Homes {
-    items: SmallVec<u8, 8>,
+    alloc: Global,
+    form: Form,
+}
+
+/// Where the homes lie.
+#[derive(Debug, Drop)]
+enum Form {
+    /// The first so many of these homes.
+    Few(u8, [u8; 8]),
+    /// Elsewhere.
+    Many(Common<Vec<u8>>),
 }
 
 impl Model for Homes {
     ghost use Rattle.std.specs.Prelude.{List, ℕ};
+    ghost use Rattle.dt_access.specs.HomesInner.{FitsInList, kept_homes};
     ghost use Rattle.dt_access.specs.Orders.{AreAscendingHomes};
 
     ghost Value = { List ℕ };
 
-    ghost view = { λ h. h.items.items };
+    ghost view = { λ h. kept_homes h.form };
 
-    ghost invariant = { λ h. AreAscendingHomes h.items.items };
+    ghost invariant = { λ h. FitsInList h.form × AreAscendingHomes (kept_homes h.form) };
 }
 
 impl Homes {
@@ -30,7 +44,8 @@ impl Homes {
         ensures { result ≡ [] }
     {
         Homes {
-            items: SmallVec::new(alloc),
+            alloc,
+            form: Form::Few(0, [0; 8]),
         }
     }
 
@@ -39,9 +54,13 @@ impl Homes {
         requires { AreAscendingHomes homes.now }
         ensures { IfOk result (λ made. made ≡ homes.now) }
     {
-        Ok(Homes {
-            items: SmallVec::from_slice(alloc, homes)?,
-        })
+        let form = if homes.len() <= FEW {
+            few(homes)
+        } else {
+            let many = Vec::from_slice(alloc, homes)?;
+            Form::Many(Common::new(alloc, many)?)
+        };
+        Ok(Homes { alloc, form })
     }
 
     /// Adds a home that is greater than all held ones; after `NoMemory` the list is as before.
@@ -50,7 +69,9 @@ impl Homes {
         ensures added { OnOk result (self.new ≡ self.old ++ home ∷ []) }
         ensures same { OnErr result (self.new ≡ self.old) }
     {
-        self.items.push(home)?;
+        let mut homes = Vec::from_slice(self.alloc, self.as_slice())?;
+        homes.push(home)?;
+        *self = Homes::from_slice(self.alloc, homes.as_slice())?;
         Ok(())
     }
 
@@ -59,13 +80,34 @@ impl Homes {
         ensures same { result.now ≡ self.now }
         ensures ascending { AreAscendingHomes self.now }
     {
-        self.items.as_slice()
+        match &self.form {
+            Form::Few(count, homes) => &homes[..*count as usize],
+            Form::Many(homes) => homes.get().as_slice(),
+        }
     }
 
-    /// An equal list.
-    pub fn copy(&self, alloc: Global) -> Result<Self, NoMemory>
+    /// An equal list. Takes no memory.
+    pub fn copy(&self, _alloc: Global) -> Result<Self, NoMemory>
         ensures { IfOk result (λ copied. copied ≡ self.now) }
     {
-        Homes::from_slice(alloc, self.as_slice())
+        let form = match &self.form {
+            Form::Few(count, homes) => Form::Few(*count, *homes),
+            Form::Many(homes) => Form::Many(homes.copy()?),
+        };
+        Ok(Homes {
+            alloc: self.alloc,
+            form,
+        })
     }
+}
+
+/// The form of few homes. Takes no memory.
+fn few(homes: &[u8]) -> Form
+    requires { length homes.now ≤ 8 }
+    ensures same { kept_homes result ≡ homes.now }
+    ensures fits { FitsInList result }
+{
+    let mut kept = [0; 8];
+    kept[..homes.len()].copy_from_slice(homes);
+    Form::Few(homes.len() as u8, kept)
 }

@@ -4,8 +4,10 @@ ghost use Rattle.dt_access.specs.Ids.{AreAscending, Before, ReadsId, id_text};
 use crate::copies::TryCopy;
 use dt_text::{NoMemory, read_u32};
 use itoa::Buffer;
-use smallvec::SmallVec;
 use std::alloc::Global;
+
+/// The most bytes of an id's printed form: ten digits, a dot and three digits.
+const LONGEST: usize = 14;
 
 /// The id of a transaction: the number of the submission in its region, counted from 1, and that region.
 #[derive(Clone, Copy, Debug, PartialEq, Eq, PartialOrd, Ord, Hash)]
@@ -73,15 +75,14 @@ fn around_dot(word: &[u8]) -> Option<(&[u8], &[u8])>
 }
 
 /// Appends the printed form of an id; after `NoMemory` the bytes are as before.
-pub fn put_id(alloc: Global, out: &mut Vec<u8>, id: TxnId) -> Result<(), NoMemory>
+pub fn put_id(_alloc: Global, out: &mut Vec<u8>, id: TxnId) -> Result<(), NoMemory>
     ensures added { OnOk result (out.new.items ≡ out.old.items ++ id_text id) }
     ensures same { OnErr result (out.new.items ≡ out.old.items) }
 {
-    let mut text: SmallVec<u8, 14> = SmallVec::new(alloc);
+    out.reserve(LONGEST)?;
     let mut buffer = Buffer::new();
-    text.extend_from_slice(buffer.format(id.seq).as_bytes())?;
-    text.push(b'.')?;
-    text.extend_from_slice(buffer.format(id.region).as_bytes())?;
-    out.extend_from_slice(text.as_slice())?;
+    out.extend_from_slice(buffer.format(id.seq).as_bytes())?;
+    out.push(b'.')?;
+    out.extend_from_slice(buffer.format(id.region).as_bytes())?;
     Ok(())
 }

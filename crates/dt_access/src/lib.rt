@@ -22,7 +22,7 @@ mod writes;
 pub use access::{Access, Mode};
 pub use clashes::clash;
 pub use copies::TryCopy;
-pub use granules::{granule, is_granule, is_unit, unit_bytes};
+pub use granules::{granule, granule_bytes, is_granule, is_unit, unit_bytes};
 pub use homes::Homes;
 pub use id::{TxnId, are_ascending, put_id, read_id};
 pub use keys::Keys;

@@ -1,20 +1,13 @@
 -- What every cluster is that a file, or a number of regions, gives: its numbers are in their ranges, its procedures are
 -- sound, and its homes and rows can stand in a table. Whoever takes a cluster may rely on this (`IsValidCluster`). Read
 -- next: `World` of dt_session, which begins with a cluster.
-use Rattle.std.specs.Prelude.{◌≡◌, ◌<◌, ◌≤◌, ◌⊎◌, ℕ, map, FitsSigned}
-use Rattle.std.specs.Int.{w64}
+use Rattle.std.specs.Prelude.{◌≡◌, ◌<◌, ◌≤◌, ◌⊎◌, ℕ, map}
 use Rattle.dt_lists.specs.Lists.{AllIn, Distinct}
-use Rattle.dt_text.specs.Texts.{IsKey, IsStr}
-use Rattle.dt_text.specs.declared.value.Value.{Value}
-use Rattle.dt_text.specs.declared.value.Value.TheVariants.{Int, Text}
+use Rattle.dt_text.specs.Texts.{IsKey}
+use Rattle.dt_text.specs.Values.{IsRowValue}
 use Rattle.dt_access.specs.Granules.{IsUnit}
 use Rattle.dt_proc.specs.Sound.{AreProcs}
 use Rattle.dt_cluster.specs.declared.cluster.Cluster.{Cluster}
-
--- a value that a row can have: a number of 64 bits with a sign, or a text
-abbrev pub IsRowValue : Value → Type 0
-IsRowValue (Int z) = FitsSigned w64 z
-IsRowValue (Text t) = IsStr t
 
 -- which packets are lost: none, or one in every n, from 2 to 1000 and so never each of them
 abbrev pub IsDrop : ℕ → Type 0

@@ -20,7 +20,8 @@ use Rattle.dt_cluster_file.specs.Document.{Entry, AreEntriesAt}
 use Rattle.dt_cluster_file.specs.Numbers.{NumberEntry, GivesNumber, within, regions_entry, version_entry, workers_entry, tries_entry, drop_entry, repeat_entry}
 use Rattle.dt_cluster_file.specs.Rows.{IsValue}
 use Rattle.dt_cluster_file.specs.File.{numbers_of, HasNumbers, HasHomes, HasRows}
-use Rattle.dt_cluster.specs.Valid.{IsRowValue, IsDrop, IsValidCluster}
+use Rattle.dt_text.specs.Values.{IsRowValue}
+use Rattle.dt_cluster.specs.Valid.{IsDrop, IsValidCluster}
 use Rattle.dt_cluster.specs.declared.cluster.Cluster.{Cluster}
 
 -- an entry gives a number that it allows, where what stands for it is allowed

@@ -10,7 +10,8 @@ use Rattle.dt_text.specs.Texts.{Bytes, IsKey}
 use Rattle.dt_text.specs.declared.Value.{Value}
 use Rattle.dt_proc.specs.Builtin.{xfer}
 use Rattle.dt_proc.proofs.Callers.{builtin_sound}
-use Rattle.dt_cluster.specs.Valid.{IsRowValue, IsValidCluster}
+use Rattle.dt_text.specs.Values.{IsRowValue}
+use Rattle.dt_cluster.specs.Valid.{IsValidCluster}
 use Rattle.dt_workload.specs.Valid.{calls_in, IsValidSession, IsValidWorkload, RankedFits, WantedFits}
 use Rattle.dt_workload.specs.declared.workload.Wanted.TheVariants.{Move}
 use Rattle.dt_workload.specs.declared.Session.{Session}

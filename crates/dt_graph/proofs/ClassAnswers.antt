@@ -60,7 +60,7 @@ vertices_few g list few within once all =
 
 module _ (view : View) (resolved : List (List TxnId)) (done : List TxnId) (k : IsOrderly view resolved done) (g : GraphView) (is : KeepsGraph view resolved done g) where
   -- a class that may be resolved has several ids, all of them stuck
-  all_stuck : (ids : List TxnId) → IsResolvable view resolved done ids → AllAreStuck g ids
+  pub all_stuck : (ids : List TxnId) → IsResolvable view resolved done ids → AllAreStuck g ids
   all_stuck ids x = all_put _ ids (λ t h.
       let s : IsStuck view resolved done t = member_stuck view resolved done k g is ids x t h in
       let v : (v : ℕ) × (v < length g.ids) × (id_at g.ids v ≡ t) = place_has g.ids t ((is.present t).1 s.left.0) in

@@ -4,10 +4,11 @@ use Rattle.std.proofs.Common.{Option, None, Some, refl, sym, ap, subst, inl, inr
 use Rattle.std.proofs.lemmas.List.{length-map}
 use Rattle.std.proofs.lemmas.Option.{get_or_from_slice_get, slice_get_within}
 use Rattle.dt_lists.specs.Lists.{Has}
-use Rattle.dt_lists.proofs.Callers.{all_get, all_put, any_put, few_below, has_place}
+use Rattle.dt_lists.proofs.Callers.{all_get, all_put, any_put, few_below, has_place, one_place}
 use Rattle.dt_access.specs.declared.TxnId.{TxnId}
 use Rattle.dt_sched.specs.Views.{View, IsClass}
 use Rattle.dt_sched.specs.Decide.{IsExecutable}
+use Rattle.dt_sched.proofs.Callers.{class_unique}
 use Rattle.dt_waits.specs.declared.open.Open.{Open}
 use Rattle.dt_waits.specs.LeftInGraph.{IsLeft, IsOrderly}
 use Rattle.dt_waits.specs.Waits.{id_at}
@@ -42,6 +43,9 @@ module _ (place : ℕ) (g : GraphView) (m : MayFinishIn place g) (o : Open) (e :
       has_of_at : (xs : List ℕ) (i : ℕ) → slice_get xs i ≡ Some next → Has xs next
       has_of_at xs i at = has_place xs i next at
 
+  pub open_has : (next : ℕ) → slice_get o.members (o.next + 1) ≡ Some next → Has m.kept.members next
+  open_has next at = has_place m.kept.members (o.next + 1) next (subst (λ x. slice_get x.members (o.next + 1) ≡ Some next) open_is at)
+
   pub open_not_stuck : (next : ℕ) → slice_get o.members (o.next + 1) ≡ Some next → ¬ (Has g.stuck next)
   open_not_stuck next at = all_get _ m.kept.members m.not_stuck next (has_place m.kept.members (o.next + 1) next (subst (λ x. slice_get x.members (o.next + 1) ≡ Some next) open_is at))
 
@@ -62,7 +66,7 @@ pub may_leave_without : (g : GraphView) (ready leaving : List ℕ) → MayLeave 
 may_leave_without g ready leaving m = record { once = m.once; within = m.within; distinct = m.distinct; below = m.below; slots = m.slots; enough = m.enough }
 
 pub may_finish_without : (place : ℕ) (g : GraphView) (ready : List ℕ) → MayFinishIn place g → MayFinishIn place (record g { ready = ready })
-may_finish_without place g ready m = record { kept = m.kept; at_place = m.at_place; waits = m.waits; leaves = may_leave_without g ready m.kept.members m.leaves; not_stuck = m.not_stuck }
+may_finish_without place g ready m = record { kept = m.kept; at_place = m.at_place; waits = m.waits; leaves = may_leave_without g ready m.kept.members m.leaves; not_stuck = m.not_stuck; of_class = m.of_class }
 
 module _ (g : GraphView) (id : TxnId) (r : MayFinish g id) where
   left : IsLeft r.0 r.2 id
@@ -70,6 +74,9 @@ module _ (g : GraphView) (id : TxnId) (r : MayFinish g id) where
 
   pub number_there : (n : Option ℕ) → n ≡ None → ¬ (IsNumberOf g.ids id n)
   number_there n e i = subst (IsNumberOf g.ids id) e i ((r.5.present id).1 left.0)
+
+  pub is_ready : (v : ℕ) → slice_get g.ids v ≡ Some id → Has g.ready v
+  is_ready v at = (r.5.ready v).1 (slice_get_within g.ids v id at, subst (IsExecutable r.0 r.1 r.2) (sym (at_named g.ids v id at)) r.4)
 
   pub may_leave_one : (v : ℕ) → slice_get g.ids v ≡ Some id → MayLeave g (v ∷ [])
   may_leave_one v at = may_leave r.0 r.1 r.2 g r.5 (v ∷ []) (tt, tt) (slice_get_within g.ids v id at, tt) leaves
@@ -79,7 +86,7 @@ module _ (g : GraphView) (id : TxnId) (r : MayFinish g id) where
       leaves u (inr h) = absurd h
 
   pub may_finish : (v place : ℕ) → slice_get g.ids v ≡ Some id → (vertex_at g.vertices v).class ≡ Some place → MayFinishIn place g
-  may_finish v place at some = record { kept = kept.0; at_place = kept.1; waits = waits; leaves = leaves; not_stuck = all_put _ kept.0.members not_stuck }
+  may_finish v place at some = record { kept = kept.0; at_place = kept.1; waits = waits; leaves = leaves; not_stuck = all_put _ kept.0.members not_stuck; of_class = all_put _ kept.0.members known }
     where
       lt : v < length g.ids
       lt = slice_get_within g.ids v id at
@@ -107,6 +114,23 @@ module _ (g : GraphView) (id : TxnId) (r : MayFinish g id) where
       not_stuck : (u : ℕ) → Has kept.0.members u → ¬ (Has g.stuck u)
       not_stuck u h s = ((r.5.stuck u).0 s).1.apart (any_put (λ ids. Has ids (id_at g.ids u)) r.1 class.0 (has_place r.1 place class.0 class.1)
           (member_of r.0 r.1 r.2 id r.3 r.4 g g r.5 v lt named place class.0 kept.0 class.1 kept.1 class.2 u h))
+
+      known : (u : ℕ) → Has kept.0.members u → (vertex_at g.vertices u).class ≡ Some place
+      known u h = by (vertex_at g.vertices u).class (r.5.kept u (all_get _ kept.0.members kept.2.within u h)).class
+        where
+          member : Has class.0 (id_at g.ids u)
+          member = member_of r.0 r.1 r.2 id r.3 r.4 g g r.5 v lt named place class.0 kept.0 class.1 kept.1 class.2 u h
+
+          there : Has r.1 class.0
+          there = has_place r.1 place class.0 class.1
+
+          by : (other : Option ℕ) → IsPlaceOfClass r.1 (id_at g.ids u) other → other ≡ Some place
+          by None apart = absurd (apart (any_put (λ ids. Has ids (id_at g.ids u)) r.1 class.0 there member))
+          by (Some other) at =
+              let same : at.0 ≡ class.0 = class_unique r.0 (id_at g.ids u) at.0 class.0
+              (class_of_resolved r.0 r.1 r.2 at.0 (id_at g.ids u) r.3.sound (has_place r.1 other at.0 at.1) at.2)
+              (class_of_resolved r.0 r.1 r.2 class.0 (id_at g.ids u) r.3.sound there member) in
+              ap Some (one_place r.1 other place class.0 r.3.sound.resolved_once (at.1 ∙ ap Some same) class.1)
 
 -- what was done in a class, of an id that was ready
 pub finishes_in : (id : TxnId) (v place : ℕ) (ready : List ℕ) (old new : GraphView) → slice_get old.ids v ≡ Some id → (vertex_at old.vertices v).class ≡ Some place → IsReadyWithout old.ready v ready

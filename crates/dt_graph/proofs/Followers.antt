@@ -123,11 +123,14 @@ all_after P (w ∷ ws) place a = by (all_after P ws place a.1) (cases_Bool (w.sl
     by later (inr e) = rw e later
 
 -- what is said of a follower is of an entry
-pub told_below : (waiting : List Waiting) (slot place bound : ℕ) (f : Follower) → AllIn (λ w. w.vertex < bound) waiting → slice_get (map follower_of (followers_after waiting slot place)) 0 ≡ Some f → f.vertex < bound
-told_below waiting slot place bound f below told =
+pub told_of : (P : ℕ → Type 0) (waiting : List Waiting) (slot place : ℕ) (f : Follower) → AllIn (λ w. P w.vertex) waiting → slice_get (map follower_of (followers_after waiting slot place)) 0 ≡ Some f → P f.vertex
+told_of P waiting slot place f said told =
     let t : (w : Waiting) × (more : List Waiting) × (followers_after waiting slot place ≡ w ∷ more) × (w.slot ≡ f.slot) × (w.vertex ≡ f.vertex) = first_told (followers_after waiting slot place) f told in
-    let all : AllIn (λ w. w.vertex < bound) (followers_after waiting slot place) = filter_all _ (λ w. is_neighbour waiting slot w.slot) (pushed_after waiting place) (all_after _ waiting place below) in
-    subst (λ v. v < bound) t.4 (subst (AllIn (λ w. w.vertex < bound)) t.2 all).0
+    let all : AllIn (λ w. P w.vertex) (followers_after waiting slot place) = filter_all _ (λ w. is_neighbour waiting slot w.slot) (pushed_after waiting place) (all_after _ waiting place said) in
+    subst P t.4 (subst (AllIn (λ w. P w.vertex)) t.2 all).0
+
+pub told_below : (waiting : List Waiting) (slot place bound : ℕ) (f : Follower) → AllIn (λ w. w.vertex < bound) waiting → slice_get (map follower_of (followers_after waiting slot place)) 0 ≡ Some f → f.vertex < bound
+told_below waiting slot place bound f below told = told_of (λ v. v < bound) waiting slot place f below told
 
 -- after what is said of the first follower one fewer is left
 pub fewer_told : (waiting : List Waiting) → HasDistinctSlots waiting → (slot place : ℕ) (f : Follower) → IsQueued waiting place → slice_get (map follower_of (followers_after waiting slot place)) 0 ≡ Some f

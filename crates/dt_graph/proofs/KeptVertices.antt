@@ -1,17 +1,18 @@
 -- The ready and the stuck numbers stand as the records of their vertices say, also after a vertex came to them or went from them.
-use Rattle.std.proofs.Common.{◌≡◌, ◌≢◌, ◌≤◌, ◌<◌, ◌+◌, ◌^◌, ◌∙◌, ℕ, List, [], ◌∷◌, ◌++◌, length, map, get_or, set, Option, None, Some, refl, sym, ap, subst}
+use Rattle.std.proofs.Common.{◌≡◌, ◌≢◌, ◌≤◌, ◌<◌, ◌+◌, ◌^◌, ◌∙◌, ℕ, List, [], ◌∷◌, ◌++◌, length, map, get_or, set, Option, None, Some, refl, sym, ap, subst, arith}
 use Rattle.std.proofs.Math.ListN.{get_or-map as read_map}
 use Rattle.std.proofs.Math.Seq.{map-set_same}
-use Rattle.std.proofs.lemmas.List.{get_or-map, get_or-set_other, length-map, map-append, map-set, set-get_or}
+use Rattle.std.proofs.lemmas.List.{get_or-map, get_or-set_other, length-append, length-map, map-append, map-set, set-get_or}
 use Rattle.std.proofs.lemmas.Option.{slice_get_within}
-use Rattle.dt_lists.specs.Lists.{Has}
-use Rattle.dt_lists.proofs.Callers.{has_last}
+use Rattle.dt_lists.specs.Lists.{AllIn, Has}
+use Rattle.dt_lists.proofs.Callers.{all_get, all_put, has_last}
+use Rattle.dt_waits.specs.declared.vertex.Vertex.{Vertex}
 use Rattle.dt_waits.specs.Graph.{vertex_at}
-use Rattle.dt_graph.specs.declared.vertices.Kept.{Kept}
-use Rattle.dt_graph.specs.declared.vertices.State.{State}
-use Rattle.dt_graph.specs.declared.vertices.State.TheVariants.{Neither, Ready, Stuck}
+use Rattle.dt_graph.specs.declared.kept.Kept.{Kept}
+use Rattle.dt_graph.specs.declared.kept.State.{State}
+use Rattle.dt_graph.specs.declared.kept.State.TheVariants.{Neither, Ready, Stuck}
 use Rattle.dt_graph.specs.SubsetInner.{IsSubset, PutsIn, Removes}
-use Rattle.dt_graph.specs.VerticesInner.{AreVerticesKept, degrees_of, ready_place, states_of, stuck_place, vertices_of}
+use Rattle.dt_graph.specs.VerticesInner.{AreVerticesKept, RecordsView, degrees_of, ready_place, states_of, stuck_place, vertices_of}
 use Rattle.dt_graph.proofs.Subsets.{absent_unplaced, added, at_front, has_placed, last_within, place_fits, placed_has, removed, removed_last, room_for, subset_added, subset_reached, subset_removed, subset_removed_last}
 use Rattle.dt_graph.proofs.Subsets.{subset_room}
 
@@ -154,16 +155,45 @@ module _ {f g : State → Option ℕ} {put : ℕ → State} (l : AreApart f g pu
               let p : (q : ℕ) × (get_or (map f states) last None ≡ Some q) = has_placed items (map f states) room s last (within last last_below) (subst (λ x. Has x last) (sym e) (has_last front last)) in
               l.apart _ p.0 (sym (place_of_state f l.f_none states last) ∙ p.1)
 
--- records with the same states
-pub same_states : (kept new : List Kept) (ready stuck : List ℕ) (ready_room stuck_room : ℕ) → AreVerticesKept kept ready stuck ready_room stuck_room → states_of new ≡ states_of kept
-    → AreVerticesKept new ready stuck ready_room stuck_room
-same_states kept new ready stuck ready_room stuck_room k e = record {
-  are_ready = subst (λ x. IsSubset ready (map ready_place x) ready_room) (sym e) k.are_ready;
-  are_stuck = subst (λ x. IsSubset stuck (map stuck_place x) stuck_room) (sym e) k.are_stuck;
+-- the lists stay right where no state changes
+pub kept_same : (old new : RecordsView) (ready stuck : List ℕ) (r s more_r more_s : ℕ) → AreVerticesKept old ready stuck r s → new.states ≡ old.states → length new.vertices ≡ length old.vertices → new.first ≡ old.first
+    → r ≤ more_r → s ≤ more_s → AreVerticesKept new ready stuck more_r more_s
+kept_same old new ready stuck r s more_r more_s k states size first le_r le_s = record {
+  are_ready = subst (λ x. IsSubset ready (map ready_place x) more_r) (sym states) (subset_room _ _ _ _ le_r k.are_ready);
+  are_stuck = subst (λ x. IsSubset stuck (map stuck_place x) more_s) (sym states) (subset_room _ _ _ _ le_s k.are_stuck);
+  sizes = ap length states ∙ k.sizes ∙ sym size;
+  ready_kept = subst (λ f. AllIn (λ n. f ≤ n) ready) (sym first) k.ready_kept;
+  stuck_kept = subst (λ f. AllIn (λ n. f ≤ n) stuck) (sym first) k.stuck_kept;
 }
 
-pub below_states : (kept : List Kept) (n : ℕ) → n < length (vertices_of kept) → n < length (states_of kept)
-below_states kept n lt = subst (λ m. n < m) (length-map kept (λ k. k.vertex) ∙ sym (length-map kept (λ k. k.state))) lt
+-- where the first that is kept is forgotten
+pub kept_forgotten : (old new : RecordsView) (ready stuck : List ℕ) (r s : ℕ) → AreVerticesKept old ready stuck r s → ¬ (Has ready old.first) → ¬ (Has stuck old.first)
+    → new ≡ record old { first = old.first + 1; room = new.room } → AreVerticesKept new ready stuck r s
+kept_forgotten old new ready stuck r s k not_ready not_stuck e = record {
+  are_ready = subst (λ x. IsSubset ready (map ready_place x.states) r) (sym e) k.are_ready;
+  are_stuck = subst (λ x. IsSubset stuck (map stuck_place x.states) s) (sym e) k.are_stuck;
+  sizes = ap (λ x. length x.states) e ∙ k.sizes ∙ sym (ap (λ x. length x.vertices) e);
+  ready_kept = subst (λ x. AllIn (λ n. x.first ≤ n) ready) (sym e) (beyond ready not_ready k.ready_kept);
+  stuck_kept = subst (λ x. AllIn (λ n. x.first ≤ n) stuck) (sym e) (beyond stuck not_stuck k.stuck_kept);
+}
+  where
+    beyond : (xs : List ℕ) → ¬ (Has xs old.first) → AllIn (λ n. old.first ≤ n) xs → AllIn (λ n. old.first + 1 ≤ n) xs
+    beyond xs out all = all_put _ xs (λ n h. next n (all_get _ xs all n h) (λ e. out (subst (Has xs) e h)))
+      where
+        next : (n : ℕ) → old.first ≤ n → n ≢ old.first → old.first + 1 ≤ n
+        next n le ne = grind (arith, le, ne)
+
+-- where one is added
+pub kept_pushed : (old new : RecordsView) (ready stuck : List ℕ) (r s : ℕ) (vertex : Vertex) → AreVerticesKept old ready stuck r s → new.states ≡ old.states ++ Neither ∷ []
+    → new.vertices ≡ old.vertices ++ vertex ∷ [] → new.first ≡ old.first
+    → length old.vertices + 1 < 2 ^ 32 → length old.vertices + 1 ≤ r → length old.vertices + 1 ≤ s → AreVerticesKept new ready stuck r s
+kept_pushed old new ready stuck r s vertex k states vertices first few fits_r fits_s = record {
+  are_ready = subst (λ x. IsSubset ready (map ready_place x) r) (sym states) (one_more ready_laws _ _ _ _ k.are_ready (subst (λ n. n + 1 < 2 ^ 32) (sym k.sizes) few) (subst (λ n. n + 1 ≤ r) (sym k.sizes) fits_r));
+  are_stuck = subst (λ x. IsSubset stuck (map stuck_place x) s) (sym states) (one_more stuck_laws _ _ _ _ k.are_stuck (subst (λ n. n + 1 < 2 ^ 32) (sym k.sizes) few) (subst (λ n. n + 1 ≤ s) (sym k.sizes) fits_s));
+  sizes = ap length states ∙ length-append old.states (Neither ∷ []) ∙ ap (λ n. n + 1) k.sizes ∙ sym (length-append old.vertices (vertex ∷ [])) ∙ sym (ap length vertices);
+  ready_kept = subst (λ f. AllIn (λ n. f ≤ n) ready) (sym first) k.ready_kept;
+  stuck_kept = subst (λ f. AllIn (λ n. f ≤ n) stuck) (sym first) k.stuck_kept;
+}
 
 pub below_kept : (kept : List Kept) (n : ℕ) → n < length (vertices_of kept) → n < length kept
 below_kept kept n lt = subst (λ m. n < m) (length-map kept (λ k. k.vertex)) lt

@@ -1,5 +1,6 @@
 pub mod Subsets
 pub mod KeptVertices
+pub mod KeptRecords
 pub mod Bounds
 pub mod FinishCall
 pub mod InsertCall

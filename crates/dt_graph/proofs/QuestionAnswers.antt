@@ -60,8 +60,11 @@ module _ (g : GraphView) (ids : List TxnId) (i : ℕ) (t : TxnId) (within : AllI
       let v : (v : ℕ) × Has g.stuck v × (id_at g.ids v ≡ t) = stuck_of_all all in
       out (subst (Has g.ids) v.2 (id_has g.ids v.0 (all_get _ g.stuck within v.0 v.1)))
 
-  pub named_not_stuck : (v : ℕ) → Distinct g.ids → slice_get g.ids v ≡ Some t → ¬ (Has g.stuck v) → AllAreStuck g ids → ⊥
-  named_not_stuck v once named out all =
+  pub named_stuck : (v : ℕ) → Distinct g.ids → slice_get g.ids v ≡ Some t → AllAreStuck g ids → Has g.stuck v
+  named_stuck v once named all =
       let u : (u : ℕ) × Has g.stuck u × (id_at g.ids u ≡ t) = stuck_of_all all in
-      out (subst (Has g.stuck) (same_place g.ids u.0 v once (all_get _ g.stuck within u.0 u.1) (slice_get_within g.ids v t named)
-      (u.2 ∙ sym (get_or_from_slice_get g.ids v t (record { seq = 0; region = 0 }) named))) u.1)
+      subst (Has g.stuck) (same_place g.ids u.0 v once (all_get _ g.stuck within u.0 u.1) (slice_get_within g.ids v t named)
+      (u.2 ∙ sym (get_or_from_slice_get g.ids v t (record { seq = 0; region = 0 }) named))) u.1
+
+  pub named_not_stuck : (v : ℕ) → Distinct g.ids → slice_get g.ids v ≡ Some t → ¬ (Has g.stuck v) → AllAreStuck g ids → ⊥
+  named_not_stuck v once named out all = out (named_stuck v once named all)

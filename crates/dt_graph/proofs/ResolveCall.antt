@@ -2,14 +2,18 @@
 use Rattle.std.proofs.Common.{◌≡◌, ◌≢◌, ◌∙◌, ◌+◌, ◌<◌, ◌≤◌, ◌^◌, ℕ, suc, List, [], ◌∷◌, ◌++◌, length, get_or, slice_get, Some, refl, sym, ap, subst, inl, inr, arith}
 use Rattle.std.proofs.lemmas.Option.{get_or_from_slice_get}
 use Rattle.dt_lists.specs.Lists.{AllIn, AnyIn, Has, Distinct}
-use Rattle.dt_lists.proofs.Callers.{all_get, all_map, all_put, any_get, distinct_within, each_map, last_place, pairwise_length}
+use Rattle.dt_lists.proofs.Callers.{all_get, all_map, all_put, any_get, distinct_within, each_map, has_map, last_place, pairwise_length}
 use Rattle.dt_access.specs.declared.TxnId.{TxnId}
 use Rattle.dt_access.proofs.Callers.{before_differs}
 use Rattle.dt_sched.specs.Views.{View, IsClass}
 use Rattle.dt_sched.specs.Decide.{IsResolvable}
 use Rattle.dt_sched.proofs.Callers.{class_of_member, class_unique, complete_of_closed, present_of_complete}
 use Rattle.dt_waits.specs.LeftInGraph.{IsOrderly}
-use Rattle.dt_waits.specs.Graph.{GraphView, KeepsGraph}
+use Rattle.dt_waits.specs.Graph.{AllAreStuck, GraphView, KeepsGraph}
+use Rattle.dt_waits.specs.Steps.{RunInOrder}
+use Rattle.dt_waits.specs.Waits.{id_at}
+use Rattle.dt_waits.proofs.Callers.{same_place}
+use Rattle.dt_graph.proofs.ClassAnswers.{all_stuck}
 
 -- the ids may be resolved, and what is kept is the graph
 abbrev pub MayResolve : GraphView → List TxnId → Type 0
@@ -20,6 +24,16 @@ are_there g ids r = all_map _ _ ids (λ t c. (r.5.present t).1 (present_of_compl
 
 pub are_once : (g : GraphView) (ids : List TxnId) → MayResolve g ids → Distinct ids
 are_once g ids r = each_map _ _ ids (λ t u b. before_differs t u b) r.4.group.1.ascending
+
+pub are_stuck : (g : GraphView) (ids : List TxnId) → MayResolve g ids → AllAreStuck g ids
+are_stuck g ids r = all_stuck r.0 r.1 r.2 r.3 g r.5 ids r.4
+
+-- so their vertices in the order in which they run are stuck
+pub run_stuck : (g : GraphView) (ids : List TxnId) (members : List ℕ) → MayResolve g ids → RunInOrder g ids members → AllIn (Has g.stuck) members
+run_stuck g ids members r run = all_put _ members (λ u h.
+    let a : AnyIn (λ v. id_at g.ids v ≡ id_at g.ids u) g.stuck = all_get _ ids (are_stuck g ids r) (id_at g.ids u) ((run.names (id_at g.ids u)).0 (has_map (id_at g.ids) members u h)) in
+    let v : (v : ℕ) × Has g.stuck v × (id_at g.ids v ≡ id_at g.ids u) = any_get _ g.stuck a in
+    subst (Has g.stuck) (same_place g.ids v.0 u r.5.once ((r.5.stuck v.0).0 v.1).0 (all_get _ members run.within u h) v.2) v.1)
 
 -- what was pushed stands at the end
 pub pushed_at : {A : Type 0} (xs : List A) (x y : A) (n : ℕ) → n ≡ length xs → y ≡ get_or (xs ++ x ∷ []) n y → y ≡ x

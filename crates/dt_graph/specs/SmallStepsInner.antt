@@ -67,6 +67,7 @@ pub record MayFinishIn (place : ℕ) (g : GraphView) : Type 0 where
   pub waits : kept.next < length kept.members
   pub leaves : MayLeave g kept.members
   pub not_stuck : AllIn (λ u. ¬ (Has g.stuck u)) kept.members
+  pub of_class : AllIn (λ u. (vertex_at g.vertices u).class ≡ Some place) kept.members
 
 -- it is done: another member is ready now, or the class leaves
 pub data FinishesIn (place : ℕ) (old new : GraphView) : Type 0 where

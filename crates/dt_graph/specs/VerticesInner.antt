@@ -1,21 +1,43 @@
 -- The vertices as they are kept: a record of each, by its number, and the numbers of the ready and of the stuck ones. The record
 -- of a vertex that is ready or stuck has its place among those. Contracts see plain lists. Read next: `SubsetInner`, for how
 -- numbers and places belong together.
-use Rattle.std.specs.Prelude.{◌-◌, ℕ, List, map, min, Option, None, Some}
+use Rattle.std.specs.Prelude.{◌≡◌, ◌≤◌, ◌<◌, ◌+◌, ◌-◌, ◌^◌, ℕ, List, length, map, min, Option, None, Some}
 use Rattle.dt_waits.specs.declared.vertex.Vertex.{Vertex}
-use Rattle.dt_graph.specs.declared.vertices.Kept.{Kept}
-use Rattle.dt_graph.specs.declared.vertices.State.{State}
-use Rattle.dt_graph.specs.declared.vertices.State.TheVariants.{Neither, Ready, Stuck}
+use Rattle.dt_graph.specs.declared.kept.Kept.{Kept}
+use Rattle.dt_graph.specs.declared.kept.State.{State}
+use Rattle.dt_graph.specs.declared.kept.State.TheVariants.{Neither, Ready, Stuck}
+use Rattle.dt_lists.specs.Lists.{AllIn, Has}
+use Rattle.dt_waits.specs.Graph.{IsPast, vertex_at}
+use Rattle.dt_waits.specs.declared.open.Open.{Open}
 use Rattle.dt_graph.specs.SubsetInner.{IsSubset}
 
--- the vertices and the degrees by their numbers, the ready and the stuck numbers, in no order, and how many more vertices fit
--- in without taking memory
+-- the vertices and the degrees by their numbers, the number of the first that is kept, the ready and the stuck numbers, in no
+-- order, and how many more vertices fit in without taking memory
 pub record VerticesView : Type 0 where
   pub vertices : List Vertex
   pub degrees : List ℕ
+  pub first : ℕ
   pub ready : List ℕ
   pub stuck : List ℕ
   pub room : ℕ
+
+-- records as contracts see them: the vertices, the degrees and the states by their numbers, the number of the first record
+-- that is kept, and how many more fit in without taking memory
+pub record RecordsView : Type 0 where
+  pub vertices : List Vertex
+  pub degrees : List ℕ
+  pub states : List State
+  pub first : ℕ
+  pub room : ℕ
+
+-- the record of the number is kept
+abbrev pub IsIn : RecordsView → ℕ → Type 0
+IsIn r number = (r.first ≤ number) × (number < length r.vertices)
+
+-- the first that is kept follows those that are gone, and all of them are counted in 32 bits
+pub record IsVertexCounted (first : ℕ) (gone kept : List Kept) : Type 0 where
+  pub after : first ≡ length gone
+  pub few : length gone + length kept < 2 ^ 32
 
 -- the vertices of records
 abbrev pub vertices_of : List Kept → List Vertex
@@ -41,11 +63,23 @@ stuck_place Neither = None
 stuck_place (Ready place) = None
 stuck_place (Stuck place) = Some place
 
--- the ready and the stuck numbers are those of which the records say so, and there is this much room for them
-pub record AreVerticesKept (kept : List Kept) (ready stuck : List ℕ) (ready_room stuck_room : ℕ) : Type 0 where
-  pub are_ready : IsSubset ready (map ready_place (states_of kept)) ready_room
-  pub are_stuck : IsSubset stuck (map stuck_place (states_of kept)) stuck_room
+-- the vertex of the number is kept
+abbrev pub IsVertexKept : VerticesView → ℕ → Type 0
+IsVertexKept v number = (v.first ≤ number) × (number < length v.vertices)
 
--- how many more vertices fit in: into the list of records, which has this length, and among the ready and the stuck ones
+-- the vertex of the number is of a transaction that has left
+abbrev pub HasPassed : List Open → VerticesView → ℕ → Type 0
+HasPassed classes v number = IsPast classes (vertex_at v.vertices number) × ¬ (Has v.ready number) × ¬ (Has v.stuck number)
+
+-- the ready and the stuck numbers are those of which the records say so, there is this much room for them, and their records
+-- are kept
+pub record AreVerticesKept (records : RecordsView) (ready stuck : List ℕ) (ready_room stuck_room : ℕ) : Type 0 where
+  pub are_ready : IsSubset ready (map ready_place records.states) ready_room
+  pub are_stuck : IsSubset stuck (map stuck_place records.states) stuck_room
+  pub sizes : length records.states ≡ length records.vertices
+  pub ready_kept : AllIn (λ n. records.first ≤ n) ready
+  pub stuck_kept : AllIn (λ n. records.first ≤ n) stuck
+
+-- how many more vertices fit in: as records, and among the ready and the stuck ones, where there are this many
 abbrev pub room_of : ℕ → ℕ → ℕ → ℕ → ℕ
-room_of length kept ready stuck = min kept (min ready stuck) - length
+room_of length records ready stuck = min records (min ready stuck - length)

@@ -1,4 +1,4 @@
-ghost use Rattle.std.specs.Prelude.{◌≡◌, ◌<◌, ◌^◌, IfOk, length};
+ghost use Rattle.std.specs.Prelude.{◌≡◌, ◌≤◌, ◌<◌, ◌^◌, IfOk, length};
 ghost use Rattle.dt_lists.specs.Lists.{AllIn, Distinct};
 ghost use Rattle.dt_queue.specs.Queues.{HasDistinctSlots, IsQueued};
 ghost use Rattle.dt_waits.specs.Among.{IsAmong};
@@ -79,6 +79,7 @@ pub fn gather(
     requires once { Distinct list.now }
     requires few { length list.now < 2 ^ 32 }
     requires slots { HaveSlots queues.now vertices.now.vertices list.now }
+    requires kept { AllIn (λ v. vertices.now.first ≤ v) list.now }
     ensures { IfOk result (λ among. IsAmong queues.now list.now among.graph among.blocked.items) }
 {
     let group = Group::of(alloc, list)?;

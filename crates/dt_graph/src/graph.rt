@@ -37,7 +37,7 @@ impl Model for Graph {
 
     ghost view = { λ g. kept_of g.names.ids g.waits g.classes.items };
 
-    ghost invariant = { λ g. IsFitted g.names.ids g.waits };
+    ghost invariant = { λ g. IsFitted g.names.ids g.waits g.classes.items };
 }
 
 /// A member of a class, which is compared as it runs: by rank, then by id.
@@ -60,8 +60,19 @@ impl Graph {
         }
     }
 
-    /// Puts in a part; after `NoMemory` all is as before.
+    /// Puts in a part; after `NoMemory` all is as before. What has left at the front is forgotten first.
     pub fn insert(&mut self, alloc: Global, part: &Part) -> Result<(), NoMemory>
+        requires { (view : View) × (resolved : List (List TxnId)) × (done : List TxnId) × IsOrderly view resolved done × CanInsert view part.now × KeepsGraph view resolved done self.old }
+        ensures inserted { OnOk result (InsertsPart part.now self.old self.new) }
+        ensures same { OnErr result (self.new ≡ self.old) }
+        ensures ascending { AreAscendingHomes part.now.homes }
+    {
+        self.waits.forget(self.classes.as_slice());
+        self.put_in(alloc, part)
+    }
+
+    /// Puts in a part, and forgets nothing; after `NoMemory` all is as before.
+    fn put_in(&mut self, alloc: Global, part: &Part) -> Result<(), NoMemory>
         requires { (view : View) × (resolved : List (List TxnId)) × (done : List TxnId) × IsOrderly view resolved done × CanInsert view part.now × KeepsGraph view resolved done self.old }
         ensures inserted { OnOk result (InsertsPart part.now self.old self.new) }
         ensures same { OnErr result (self.new ≡ self.old) }
@@ -175,10 +186,11 @@ impl Graph {
         Ok(Ids::from_vec(ids))
     }
 
-    /// The vertices of transactions, the soonest first.
+    /// The vertices of transactions, all of them stuck, the soonest first.
     fn in_order(&self, alloc: Global, ids: &[TxnId]) -> Result<Listed<u32>, NoMemory>
         requires there { AllIn (Has self.now.ids) ids.now }
         requires once { Distinct ids.now }
+        requires stuck { AllAreStuck self.now ids.now }
         ensures { IfOk result (RunInOrder self.now ids.now) }
     {
         let mut members = Vec::with_capacity(alloc, ids.len())?;

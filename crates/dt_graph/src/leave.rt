@@ -5,6 +5,7 @@ ghost use Rattle.dt_queue.specs.Queues.{HasDistinctSlots, IsQueued};
 ghost use Rattle.dt_waits.specs.Graph.{vertex_at};
 ghost use Rattle.dt_waits.specs.Steps.{AreEntriesBelow, HaveSlots};
 ghost use Rattle.dt_graph.specs.SmallStepsInner.{AreLowered, IsFollowedAt, Wakes, falls};
+ghost use Rattle.dt_graph.specs.VerticesInner.{IsVertexKept};
 ghost use Rattle.dt_waits.specs.Waits.{IsFollowed, is_leaving, lowered, lowered_by};
 
 use crate::vertices::Vertices;
@@ -12,7 +13,7 @@ use dt_queue::Queues;
 
 /// Takes one from the degree of a follower of an entry of a vertex, unless it follows itself.
 fn lower(vertices: &mut Vertices, follower: u32, vertex: u32)
-    requires within { follower < length vertices.old.vertices }
+    requires within { IsVertexKept vertices.old follower }
     requires sizes { length vertices.old.degrees ≡ length vertices.old.vertices }
     requires enough { follower ≢ vertex → 1 ≤ get_or vertices.old.degrees follower 0 }
     ensures lowered { AreLowered (falls vertex follower) vertices.old.degrees vertices.new.degrees }
@@ -25,10 +26,11 @@ fn lower(vertices: &mut Vertices, follower: u32, vertex: u32)
 
 /// A vertex is ready, if it is stuck and has come to degree 0.
 fn wake(vertices: &mut Vertices, vertex: u32)
-    requires { vertex < length vertices.old.vertices }
+    requires { IsVertexKept vertices.old vertex }
     ensures woken { Wakes (λ v. vertex ≡ v) vertices.old.degrees vertices.old.stuck vertices.old.ready vertices.new.stuck vertices.new.ready }
     ensures vertices { vertices.new.vertices ≡ vertices.old.vertices }
     ensures degrees { vertices.new.degrees ≡ vertices.old.degrees }
+    ensures first { vertices.new.first ≡ vertices.old.first }
 {
     if vertices.degree(vertex) == 0 && vertices.is_stuck(vertex) {
         vertices.take_stuck(vertex);
@@ -42,11 +44,13 @@ fn free_followers(queues: &Queues, slot: usize, vertex: u32, vertices: &mut Vert
     requires waits { IsQueued queues.now slot }
     requires distinct { HasDistinctSlots queues.now }
     requires below { AreEntriesBelow (length vertices.old.degrees) queues.now }
+    requires kept { AllIn (λ w. vertices.old.first ≤ w.vertex) queues.now }
     requires sizes { length vertices.old.degrees ≡ length vertices.old.vertices }
     requires enough { (v : ℕ) → v < length vertices.old.degrees → lowered queues.now slot vertex v ≤ get_or vertices.old.degrees v 0 }
     ensures lowered { AreLowered (lowered queues.now slot vertex) vertices.old.degrees vertices.new.degrees }
     ensures woken { Wakes (IsFollowedAt queues.now slot) vertices.new.degrees vertices.old.stuck vertices.old.ready vertices.new.stuck vertices.new.ready }
     ensures same { vertices.new.vertices ≡ vertices.old.vertices }
+    ensures first { vertices.new.first ≡ vertices.old.first }
 {
     let mut place = slot;
     while let Some(follower) = queues.follower_after(slot, place) {
@@ -59,10 +63,11 @@ fn free_followers(queues: &Queues, slot: usize, vertex: u32, vertices: &mut Vert
 /// Lowers the degrees of the followers of the entries of a vertex, but not its own; those that are stuck and come to degree 0 are
 /// ready.
 fn free_slots(queues: &Queues, vertex: u32, vertices: &mut Vertices)
-    requires within { vertex < length vertices.old.vertices }
+    requires within { IsVertexKept vertices.old vertex }
     requires wait { AllIn (IsQueued queues.now) (vertex_at vertices.old.vertices vertex).slots }
     requires distinct { HasDistinctSlots queues.now }
     requires below { AreEntriesBelow (length vertices.old.degrees) queues.now }
+    requires kept { AllIn (λ w. vertices.old.first ≤ w.vertex) queues.now }
     requires sizes { length vertices.old.degrees ≡ length vertices.old.vertices }
     requires enough { (v : ℕ) → v < length vertices.old.degrees →
         sum_by (λ slot. lowered queues.now slot vertex v) (vertex_at vertices.old.vertices vertex).slots ≤ get_or vertices.old.degrees v 0 }
@@ -70,6 +75,7 @@ fn free_slots(queues: &Queues, vertex: u32, vertices: &mut Vertices)
     ensures woken { Wakes (λ v. AnyIn (λ slot. IsFollowedAt queues.now slot v) (vertex_at vertices.old.vertices vertex).slots)
         vertices.new.degrees vertices.old.stuck vertices.old.ready vertices.new.stuck vertices.new.ready }
     ensures same { vertices.new.vertices ≡ vertices.old.vertices }
+    ensures first { vertices.new.first ≡ vertices.old.first }
 {
     for place in 0..vertices.get(vertex).slots.len() {
         let slot = vertices.get(vertex).slots.as_slice()[place];
@@ -81,12 +87,15 @@ fn free_slots(queues: &Queues, vertex: u32, vertices: &mut Vertices)
 fn free_all(queues: &Queues, vertices: &mut Vertices, leaving: &[u32])
     requires distinct { HasDistinctSlots queues.now }
     requires slots { HaveSlots queues.now vertices.old.vertices leaving.now }
+    requires left { AllIn (λ u. vertices.old.first ≤ u) leaving.now }
     requires below { AreEntriesBelow (length vertices.old.degrees) queues.now }
+    requires kept { AllIn (λ w. vertices.old.first ≤ w.vertex) queues.now }
     requires sizes { length vertices.old.degrees ≡ length vertices.old.vertices }
     requires enough { (v : ℕ) → v < length vertices.old.degrees → lowered_by queues.now leaving.now v ≤ get_or vertices.old.degrees v 0 }
     ensures lowered { AreLowered (lowered_by queues.now leaving.now) vertices.old.degrees vertices.new.degrees }
     ensures woken { Wakes (IsFollowed queues.now leaving.now) vertices.new.degrees vertices.old.stuck vertices.old.ready vertices.new.stuck vertices.new.ready }
     ensures same { vertices.new.vertices ≡ vertices.old.vertices }
+    ensures first { vertices.new.first ≡ vertices.old.first }
 {
     for vertex in leaving {
         free_slots(queues, *vertex, vertices);
@@ -109,6 +118,7 @@ fn remove_all(queues: &mut Queues, vertices: &Vertices, leaving: &[u32])
     requires distinct { HasDistinctSlots queues.old }
     requires once { Distinct leaving.now }
     requires slots { HaveSlots queues.old vertices.now.vertices leaving.now }
+    requires left { AllIn (λ u. vertices.now.first ≤ u) leaving.now }
     ensures { queues.new ≡ filter (λ w. not (is_leaving leaving.now w.vertex)) queues.old }
 {
     for vertex in leaving {
@@ -122,12 +132,15 @@ pub fn leave(queues: &mut Queues, vertices: &mut Vertices, leaving: &[u32])
     requires distinct { HasDistinctSlots queues.old }
     requires once { Distinct leaving.now }
     requires slots { HaveSlots queues.old vertices.old.vertices leaving.now }
+    requires left { AllIn (λ u. vertices.old.first ≤ u) leaving.now }
     requires below { AreEntriesBelow (length vertices.old.degrees) queues.old }
+    requires kept { AllIn (λ w. vertices.old.first ≤ w.vertex) queues.old }
     requires sizes { length vertices.old.degrees ≡ length vertices.old.vertices }
     requires enough { (v : ℕ) → v < length vertices.old.degrees → lowered_by queues.old leaving.now v ≤ get_or vertices.old.degrees v 0 }
     ensures lowered { AreLowered (lowered_by queues.old leaving.now) vertices.old.degrees vertices.new.degrees }
     ensures woken { Wakes (IsFollowed queues.old leaving.now) vertices.new.degrees vertices.old.stuck vertices.old.ready vertices.new.stuck vertices.new.ready }
     ensures same { vertices.new.vertices ≡ vertices.old.vertices }
+    ensures first { vertices.new.first ≡ vertices.old.first }
     ensures removed { queues.new ≡ filter (λ w. not (is_leaving leaving.now w.vertex)) queues.old }
 {
     free_all(queues, vertices, leaving);

@@ -11,17 +11,22 @@
 //!   stuck ones alone (the crate dt_class);
 //! - of a resolved class the soonest member that is not done is ready.
 //!
+//! Once all before it have left too, the record of a transaction that has left is forgotten.
+//!
 //! Read next: dt_waits for what is kept and why it is enough, `sched.rt` for the calls, `specs/SmallStepsInner.antt` for what happens
 //! within one.
 #![tactic(auto)]
 
 mod class;
 mod enter;
+mod gone;
 mod graph;
 mod group;
+mod kept;
 mod leave;
 mod names;
 mod numbers;
+mod records;
 mod room;
 mod sched;
 mod seen;

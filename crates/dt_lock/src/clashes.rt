@@ -3,7 +3,7 @@ ghost use Rattle.std.specs.List.{list_any};
 ghost use Rattle.dt_access.specs.Clash.{clash, granules_clash, rows_clash, uses_clash};
 ghost use Rattle.dt_txn.specs.Transaction.{used_of};
 
-use dt_access::{Access, unit_bytes};
+use dt_access::{Access, granule_bytes};
 
 /// Whether two access lists clash.
 pub fn clash(left: &[Access], right: &[Access]) -> bool
@@ -40,9 +40,6 @@ fn rows_clash(left: &Access, right: &Access) -> bool
 fn granules_clash(left: &Access, right: &Access) -> bool
     ensures { result ≡ granules_clash (used_of left.now) (used_of right.now) }
 {
-    unit_bytes(GRANULES, &left.key) == unit_bytes(GRANULES, &right.key)
+    granule_bytes(left.key.bytes()) == granule_bytes(right.key.bytes())
         && (left.mode.is_whole() || right.mode.is_whole())
 }
-
-// The version of a cluster in which the unit of a key is its granule.
-const GRANULES: u8 = 2;

@@ -8,6 +8,7 @@
 
 mod cell;
 mod follower;
+mod hints;
 mod kept;
 mod lane;
 mod lanes;

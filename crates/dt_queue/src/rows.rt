@@ -1,8 +1,9 @@
-ghost use Rattle.std.specs.Prelude.{◌≡◌, ◌<◌, [], length, slice_get, Some, IfOk};
+ghost use Rattle.std.specs.Prelude.{◌≡◌, ◌<◌, [], length, slice_get, Some, IfOk, IfSome};
 ghost use Rattle.dt_lists.specs.Lists.{Has};
 ghost use Rattle.dt_queue.specs.LanesInner.{SameLanes};
 ghost use Rattle.dt_queue.specs.TableInner.{lanes_read, lanes_written};
 
+use crate::hints::Hints;
 use crate::row::Row;
 use crate::used::Used;
 use dt_access::granule;
@@ -11,12 +12,14 @@ use indexmap::IndexSet;
 use std::alloc::Global;
 
 /// The rows that were ever waited for, each a key at a home, and their granules. A row and a granule have the number of their
-/// first use, from 0; so what is kept of a row lies in a table, and names are looked up once at each push.
+/// first use, from 0; so what is kept of a row lies in a table, and names are looked up once at each push: mostly where the key's
+/// hint leads, and else by their hash.
 #[derive(Drop)]
 pub struct Rows {
     pub names: IndexSet<(u8, Key)>,
     pub granules: IndexSet<(u8, Key)>,
     pub table: Vec<Row>,
+    pub hints: Hints,
 }
 
 impl Rows {
@@ -32,11 +35,42 @@ impl Rows {
             names: IndexSet::new(alloc),
             granules: IndexSet::new(alloc),
             table: Vec::new(alloc),
+            hints: Hints::new(alloc),
         }
     }
 
     /// The row of a key at a home, which is added where it is new. All other rows stay, also after `NoMemory`.
     pub fn row(&mut self, alloc: Global, home: u8, key: &Key) -> Result<usize, NoMemory>
+        requires { AreRowsLinked (links self.old) }
+        ensures linked { AreRowsLinked (links self.new) }
+        ensures kept { KeepsRows (links self.old) (links self.new) }
+        ensures reads { SameLanes (lanes_read self.old.table.items) (lanes_read self.new.table.items) }
+        ensures writes { SameLanes (lanes_written self.old.table.items) (lanes_written self.new.table.items) }
+        ensures found { IfOk result (λ row. slice_get self.new.names.keys row ≡ Some (home, key.now)) }
+    {
+        if let Some(row) = self.hinted(home, key) {
+            return Ok(row);
+        }
+        let row = self.look_up(alloc, home, key)?;
+        self.hints.note(key.hint(), row)?;
+        Ok(row)
+    }
+
+    /// The row to which the hint of a key leads, if it is that of the key at this home.
+    fn hinted(&self, home: u8, key: &Key) -> Option<usize>
+        ensures { IfSome result (λ row. slice_get self.now.names.keys row ≡ Some (home, key.now)) }
+    {
+        let row = self.hints.get(key.hint())?;
+        let name = self.names.get_index(row)?;
+        if name.0 == home && name.1 == *key {
+            Some(row)
+        } else {
+            None
+        }
+    }
+
+    /// The same row, found by the hash of its name.
+    fn look_up(&mut self, alloc: Global, home: u8, key: &Key) -> Result<usize, NoMemory>
         requires { AreRowsLinked (links self.old) }
         ensures linked { AreRowsLinked (links self.new) }
         ensures kept { KeepsRows (links self.old) (links self.new) }

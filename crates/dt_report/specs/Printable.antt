@@ -2,12 +2,11 @@
 -- at most, and its events are such as a line can have. Every report that the program makes is so, by the types of its
 -- parts. One needs it to read a report's text: a session with a line end in its name could write what it likes. Read
 -- next Laws.antt.
-use Rattle.std.specs.Prelude.{ℕ, ◌<◌, ◌≤◌, ◌^◌, length, Option, MatchOption, FitsSigned}
-use Rattle.std.specs.Int.{w64}
+use Rattle.std.specs.Prelude.{ℕ, ◌<◌, ◌≤◌, ◌^◌, length, Option, MatchOption}
 use Rattle.dt_lists.specs.Lists.{AllIn}
 use Rattle.dt_text.specs.Texts.{IsKey, IsName, IsStr}
+use Rattle.dt_text.specs.Values.{IsRowValue}
 use Rattle.dt_text.specs.declared.Value.{Value}
-use Rattle.dt_text.specs.declared.Value.TheVariants.{Int, Text}
 use Rattle.dt_access.specs.declared.TxnId.{TxnId}
 use Rattle.dt_events.specs.Events.{IsWritten}
 use Rattle.dt_events.specs.declared.Event.{Event}
@@ -29,14 +28,9 @@ IsNumber n = n < 2 ^ 64
 abbrev pub IsPrintableId : TxnId → Type 0
 IsPrintableId id = IsNumber id.seq × IsNumber id.region
 
--- a number of 64 bits with a sign, or a text
-abbrev pub IsPrintableValue : Value → Type 0
-IsPrintableValue (Int number) = FitsSigned w64 number
-IsPrintableValue (Text text) = IsStr text
-
--- there is no value, or a printable one
+-- there is no value, or one that a row may have
 abbrev pub MayBePrinted : Option Value → Type 0
-MayBePrinted value = MatchOption value (Unit {0}) IsPrintableValue
+MayBePrinted value = MatchOption value (Unit {0}) IsRowValue
 
 -- the word of a procedure that aborted is a text
 abbrev pub IsPrintableCause : Cause → Type 0

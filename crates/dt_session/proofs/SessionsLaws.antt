@@ -27,7 +27,7 @@ use Rattle.dt_access.specs.Orders.{HasAscendingKeys, KeyBefore}
 use Rattle.dt_access.specs.declared.TxnId.{TxnId}
 use Rattle.dt_access.proofs.Callers.{same_key_after, same_key_self}
 use Rattle.dt_txn.specs.declared.Outcome.{Outcome}
-use Rattle.dt_workload.specs.Valid.{calls_in, session_names}
+use Rattle.dt_workload.specs.Valid.{calls_in, session_count_at, session_names}
 use Rattle.dt_workload.specs.declared.Ranked.{Ranked}
 use Rattle.dt_workload.specs.declared.Session.{Session}
 use Rattle.dt_session.specs.declared.sessions.Seat.{Seat}
@@ -72,6 +72,26 @@ map_all (s ∷ sessions) a = (record { few = omega (arith, a.0); within = omega 
 
 pub idle_sound : (region : ℕ) (sessions : List Session) → calls_in sessions ≤ 20000 → AllIn (λ p. IsSoundSeat p.1) (map idle_seat (sessions_at region sessions))
 idle_sound region sessions few = map_all (sessions_at region sessions) (sessions_at_all (λ s. length s.calls ≤ 20000) region sessions (short_calls sessions 20000 few))
+
+-- as many sessions are seated at a region as the workload has there
+
+length_with : (s : Session) (sessions : List Session) → length (with_session s sessions) ≡ suc (length sessions)
+length_with s [] = refl
+length_with s (t ∷ sessions) = go (is_lt (slice_cmp nat_cmp s.name t.name)) (length_with s sessions)
+  where
+    go : (b : Bool) → length (with_session s sessions) ≡ suc (length sessions) → length (cond b (s ∷ t ∷ sessions) (t ∷ with_session s sessions)) ≡ suc (suc (length sessions))
+    go true e = refl
+    go false e = ap suc e
+
+pub length_at : (region : ℕ) (sessions : List Session) → length (sessions_at region sessions) ≡ session_count_at region sessions
+length_at region [] = refl
+length_at region (s ∷ sessions) =
+    go (s.region == region) (length_at region sessions) ∙ sym (sum_by-cons (λ (t : Session). cond (t.region == region) 1 0) s sessions)
+  where
+    go : (b : Bool) → length (sessions_at region sessions) ≡ session_count_at region sessions
+        → length (cond b (with_session s (sessions_at region sessions)) (sessions_at region sessions)) ≡ cond b 1 0 + session_count_at region sessions
+    go true e = omega (arith, length_with s (sessions_at region sessions), e)
+    go false e = omega (arith, e)
 
 -- one session more is put among those of a region
 

@@ -3,7 +3,7 @@ ghost use Rattle.std.specs.Option.{option_copied};
 ghost use Rattle.dt_lists.specs.Lists.{Distinct};
 ghost use Rattle.dt_access.specs.Clash.{Bytes};
 ghost use Rattle.dt_access.specs.Orders.{HasAscendingKeys};
-ghost use Rattle.dt_workload.specs.Valid.{calls_in, session_names};
+ghost use Rattle.dt_workload.specs.Valid.{calls_in, session_count_at, session_names};
 ghost use Rattle.dt_session.specs.Sessions.{AreAllAnswered, AreSoundSeats, EachNameIsAnswered, IsNext, IsSoundSeat, MayBeAnswered, MayGo, MaySeatEnd, MaySeatTry, StandsAt};
 ghost use Rattle.dt_session.specs.Sessions.{after_answer, after_wait, all_idle, answered_seat, numbers_next, seat_of, waiting, waits_of, wanted_of};
 ghost use Rattle.dt_session.specs.Tries.{IsLast, IsStale, body_of, ranked_body};
@@ -61,9 +61,11 @@ impl Model for Sessions {
 
 impl Sessions {
     /// The sessions of a workload that are at this region, before their first calls. A call may be tried `tries` times. No two
-    /// sessions of the workload have one name, and it has at most 20,000 calls, as each workload of a cluster.
+    /// sessions of the workload have one name, at most 64 of them are at this region, and it has at most 20,000 calls, as each
+    /// workload of a cluster.
     pub fn new(alloc: Global, workload: &Workload, region: u8, tries: u32) -> Result<Self, NoMemory>
         requires names { Distinct (session_names workload.now.sessions) }
+        requires sessions { session_count_at region workload.now.sessions ≤ 64 }
         requires few { calls_in workload.now.sessions ≤ 20000 }
         ensures { IfOk result (λ sessions. sessions ≡ all_idle tries region workload.now) }
     {
@@ -194,14 +196,10 @@ impl Sessions {
     }
 }
 
-/// The sessions of a map, in the order of their names. There is no memory for more of them than 32 bits can count.
+/// The sessions of a map, in the order of their names.
 fn listed(alloc: Global, seats: BTreeMap<Name, Seat>) -> Result<IndexMap<Name, Seat>, NoMemory>
-    ensures entries { IfOk result (λ listed. listed.entries ≡ seats.entries) }
-    ensures few { IfOk result (λ listed. length listed.entries < 2 ^ 32) }
+    ensures { IfOk result (λ listed. listed.entries ≡ seats.entries) }
 {
-    if seats.len() > u32::MAX as usize {
-        return Err(NoMemory);
-    }
     let mut listed = IndexMap::with_capacity(alloc, seats.len())?;
     for (name, seat) in seats {
         listed.insert(name, seat)?;

@@ -3,8 +3,10 @@ pub mod Entries
 pub mod ByBytes
 pub mod MoveHistories
 pub mod StoredUnits
+pub mod NotedUnits
 pub mod OpeningTable
 pub mod SortedEntries
 pub mod ShownKeys
+pub mod RowsNow
 pub mod Layers
 pub mod TableLaws

@@ -13,6 +13,7 @@ use Rattle.dt_access.specs.Clash.{Bytes}
 use Rattle.dt_access.specs.declared.TxnId.{TxnId}
 use Rattle.dt_text.specs.Texts.{IsKey}
 use Rattle.dt_table.specs.Table.{Moved, TableView, opening_home, home_after}
+use Rattle.dt_table.specs.MovedUnitsInner.{IsNoted}
 use Rattle.dt_table.specs.StoredUnitInner.{by_bytes}
 use Rattle.dt_table.specs.declared.stored.StoredMove.{StoredMove}
 use Rattle.dt_table.specs.declared.stored.StoredUnit.{StoredUnit}
@@ -78,8 +79,9 @@ table_view a = record {
   spare = min a.values.spare (min (spare a.units) (vec_capacity a.moves - vec_len a.moves));
 }
 
--- what every table keeps: there is a region, the moves are linked, and each unit fits them
+-- what every table keeps: there is a region, the moves are linked, and each unit fits them and is noted
 pub record IsSoundTable (a : Inside) : Type 0 where
   pub regions : 0 < a.regions
   pub linked : AreLinked 0 a.moves.items
   pub units : AllIn (FitsMoves a.version a.regions a.homes a.moves.items) (by_bytes a.units.entries)
+  pub noted : AllIn (λ e. IsNoted a.noted e.0) (by_bytes a.units.entries)

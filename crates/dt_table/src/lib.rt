@@ -7,6 +7,8 @@
 
 mod effect;
 mod homes;
+mod moved;
+mod opened;
 mod opening;
 mod rows;
 mod shown;

@@ -1,6 +1,5 @@
-//! The values of keys: those of the opening, which the tables of several regions share, and beside them what has changed
-//! since in this one.
-ghost use Rattle.std.specs.Prelude.{◌≡◌, ◌+◌, ◌<◌, ◌≤◌, ◌++◌, IsOk, IfOk, OnOk, None, unwrap_or, is_some};
+//! The values of keys: those of the opening, and beside them those of all other keys that were ever given one.
+ghost use Rattle.std.specs.Prelude.{◌≡◌, ◌+◌, ◌<◌, ◌≤◌, ◌++◌, IsOk, IfOk, OnOk, None, unwrap_or};
 ghost use Rattle.std.specs.Option.{option_copied};
 ghost use Rattle.std.specs.Ordering.{nat_cmp};
 ghost use Rattle.std.specs.Cmp.Lexicographic.{slice_cmp};
@@ -9,9 +8,10 @@ ghost use Rattle.std.specs.List.{IsDistinct};
 ghost use Rattle.std.specs.Map.{keys_of, lookup};
 ghost use Rattle.dt_access.specs.Clash.{same_key};
 ghost use Rattle.dt_access.specs.Orders.{HasDistinctKeys};
-ghost use Rattle.dt_table.specs.RowsInner.{first_values, unchanged_keys};
+ghost use Rattle.dt_table.specs.RowsInner.{first_values};
 ghost use Rattle.dt_table.specs.StoredUnitInner.{has_value, keys_with_value};
 
+use crate::opened::OpenedRows;
 use dt_text::{Key, NoMemory, Value};
 use indexmap::IndexMap;
 use std::alloc::Global;
@@ -24,12 +24,15 @@ use std::sync::Arc;
 /// there is room.
 #[derive(Drop)]
 pub struct Rows {
-    opening: Arc<IndexMap<Key, Value>>,
-    changed: IndexMap<Key, Option<Value>>,
+    opened: OpenedRows,
+    /// What keys have that are not in the opening.
+    others: IndexMap<Key, Option<Value>>,
 }
 
 impl Model for Rows {
-    ghost use Rattle.dt_table.specs.RowsInner.{RowsView};
+    ghost use Rattle.std.specs.Prelude.{◌++◌};
+    ghost use Rattle.std.specs.Map.{keys_of};
+    ghost use Rattle.dt_table.specs.RowsInner.{RowsView, AreOthers};
     ghost use Rattle.dt_table.specs.TableCode.{rows_view_code};
 
     ghost Value = { RowsView };
@@ -37,9 +40,10 @@ impl Model for Rows {
     ghost coded = { rows_view_code };
 
     ghost use Rattle.indexmap.specs.IndexMap.{spare};
-    ghost use Rattle.dt_table.specs.RowsInner.{layered};
 
-    ghost view = { λ r. record { entries = layered r.changed.entries r.opening.value.entries; spare = spare r.changed } };
+    ghost view = { λ r. record { entries = r.opened ++ r.others.entries; spare = spare r.others } };
+
+    ghost invariant = { λ r. AreOthers (keys_of r.opened) r.others.entries };
 }
 
 impl Rows {
@@ -48,8 +52,8 @@ impl Rows {
         ensures { IfOk result (λ made. made.entries ≡ first_values rows.now.value.entries) }
     {
         Ok(Rows {
-            opening: Arc::try_clone(rows)?,
-            changed: IndexMap::new(alloc),
+            opened: OpenedRows::of(alloc, rows)?,
+            others: IndexMap::new(alloc),
         })
     }
 
@@ -57,10 +61,17 @@ impl Rows {
     pub fn get(&self, key: &Key) -> Option<&Value>
         ensures { option_copied result ≡ unwrap_or (lookup (same_key key.now) self.now.entries) None }
     {
-        match self.changed.get(key) {
-            Some(value) => value.as_ref(),
-            None => self.opening.get(key),
+        match self.opened.place_of(key) {
+            Some(place) => self.opened.row_at(place).1,
+            None => self.others.get(key)?.as_ref(),
         }
+    }
+
+    /// The same key, with a hint by which its row is found soon.
+    pub fn hinted(&self, key: Key) -> Key
+        ensures { result ≡ key }
+    {
+        self.opened.hinted(key)
     }
 
     /// Whether a key has a value.
@@ -77,7 +88,7 @@ impl Rows {
         ensures spare { self.old.spare ≤ self.new.spare }
         ensures succeeds { places ≤ self.old.spare → IsOk result }
     {
-        self.changed.reserve(places)?;
+        self.others.reserve(places)?;
         Ok(())
     }
 
@@ -87,7 +98,11 @@ impl Rows {
         ensures entries { from_entries {R = slice_cmp nat_cmp} self.new.entries ≡ insert (from_entries self.old.entries) key value }
         ensures room { self.old.spare ≤ self.new.spare + 1 }
     {
-        match self.changed.insert(key, value) {
+        if let Some(place) = self.opened.place_of(&key) {
+            self.opened.change(place, value);
+            return;
+        }
+        match self.others.insert(key, value) {
             Ok(_) => (),
             Err(_) => unreachable!(),
         }
@@ -98,8 +113,8 @@ impl Rows {
         ensures keys { IfOk result (λ keys. keys.items ≡ keys_with_value self.now.entries) }
         ensures once { OnOk result (IsDistinct same_key (keys_of self.now.entries)) }
     {
-        let mut keys = changed_keys(alloc, &self.changed)?;
-        add_unchanged(alloc, &mut keys, &self.opening, &self.changed)?;
+        let mut keys = self.opened.keys_with_value(alloc)?;
+        add_keys(alloc, &mut keys, &self.others)?;
         Ok(keys)
     }
 }
@@ -119,41 +134,19 @@ pub fn opening_values(
     Ok(opened)
 }
 
-/// The keys that have a value of those that changed.
-fn changed_keys(alloc: Global, changed: &IndexMap<Key, Option<Value>>) -> Result<Vec<Key>, NoMemory>
-    ensures keys { IfOk result (λ keys. keys.items ≡ keys_with_value changed.now.entries) }
-    ensures once { OnOk result (IsDistinct same_key (keys_of changed.now.entries)) }
+/// Adds the keys that have a value among these.
+fn add_keys(
+    alloc: Global,
+    keys: &mut Vec<Key>,
+    values: &IndexMap<Key, Option<Value>>,
+) -> Result<(), NoMemory>
+    ensures keys { OnOk result (keys.new.items ≡ keys.old.items ++ keys_with_value values.now.entries) }
+    ensures once { OnOk result (IsDistinct same_key (keys_of values.now.entries)) }
 {
-    let mut keys = Vec::new(alloc);
-    for (key, value) in changed {
+    for (key, value) in values {
         if value.is_some() {
             keys.push(key.copy(alloc)?)?;
         }
     }
-    Ok(keys)
-}
-
-/// Adds the keys of the opening that have not changed.
-fn add_unchanged(
-    alloc: Global,
-    keys: &mut Vec<Key>,
-    opening: &IndexMap<Key, Value>,
-    changed: &IndexMap<Key, Option<Value>>,
-) -> Result<(), NoMemory>
-    ensures keys { OnOk result (keys.new.items ≡ keys.old.items ++ unchanged_keys changed.now.entries opening.now.entries) }
-    ensures once { OnOk result (IsDistinct same_key (keys_of opening.now.entries)) }
-{
-    for (key, _) in opening {
-        if !has_changed(changed, key) {
-            keys.push(key.copy(alloc)?)?;
-        }
-    }
     Ok(())
-}
-
-/// Whether a key has changed.
-fn has_changed(changed: &IndexMap<Key, Option<Value>>, key: &Key) -> bool
-    ensures { result ≡ is_some (lookup (same_key key.now) changed.now.entries) }
-{
-    changed.get(key).is_some()
 }

@@ -7,6 +7,7 @@ ghost use Rattle.dt_table.specs.Table.{value_of, home_of, counter_of, next_mover
 
 use crate::effect::{Effect, UnitName};
 use crate::homes::Homes;
+use crate::moved::MovedUnits;
 use crate::opening::Opening;
 use crate::rows::Rows;
 use crate::shown::{Shown, ShownList, add_moved_units};
@@ -48,6 +49,8 @@ pub struct Table {
     homes: Homes,
     values: Rows,
     units: IndexMap<Vec<u8>, StoredUnit>,
+    /// The stored units are noted here.
+    noted: MovedUnits,
     moves: Vec<StoredMove>,
 }
 
@@ -97,6 +100,7 @@ impl Table {
             homes: first.homes.share()?,
             values: Rows::of(alloc, &first.rows)?,
             units: IndexMap::new(alloc),
+            noted: MovedUnits::none(),
             moves: Vec::new(alloc),
         })
     }
@@ -115,13 +119,20 @@ impl Table {
         self.values.get(key)
     }
 
+    /// The same key, with a hint by which what tables of the same opening keep of it is found soon. Contracts do not see hints.
+    pub fn hinted(&self, key: Key) -> Key
+        ensures { result ≡ key }
+    {
+        self.values.hinted(key)
+    }
+
     /// The present home of a key, and how often its unit was moved.
     pub fn mastership(&self, key: &Key) -> Mastership
         ensures home { result.home ≡ home_of self.now.state key.now }
         ensures counter { result.counter ≡ counter_of self.now.state key.now }
     {
         let unit = unit_bytes(self.version, key);
-        match stored_unit(&self.units, unit) {
+        match stored_unit(&self.units, &self.noted, unit) {
             Some(stored) => Mastership {
                 home: stored.home,
                 counter: stored.counter,
@@ -139,7 +150,7 @@ impl Table {
         ensures some { IsSome result ↔ ((0 < number) × (number ≤ counter_of self.now.state key.now)) }
         ensures few { counter_of self.now.state key.now < 2 ^ 32 }
     {
-        let stored = stored_unit(&self.units, unit_bytes(self.version, key))?;
+        let stored = stored_unit(&self.units, &self.noted, unit_bytes(self.version, key))?;
         mover_of(&self.moves, stored, number)
     }
 
@@ -150,7 +161,7 @@ impl Table {
         ensures mover { result.mover ≡ next_mover self.now.state key.now had }
     {
         let value = self.get(key);
-        match stored_unit(&self.units, unit_bytes(self.version, key)) {
+        match stored_unit(&self.units, &self.noted, unit_bytes(self.version, key)) {
             Some(stored) => TableRow {
                 value,
                 counter: stored.counter,
@@ -255,12 +266,13 @@ impl Table {
         ensures spare { self.old.spare ≤ self.new.spare + 1 }
     {
         let bytes = unit.into_bytes();
-        let before = stored_or_fresh(&self.units, bytes.as_slice(), target);
+        let before = stored_or_fresh(&self.units, &self.noted, bytes.as_slice(), target);
         let stored = StoredUnit {
             home: target,
             counter: before.counter + 1,
             last: Some(self.moves.len()),
         };
+        self.noted.note(bytes.as_slice());
         put_unit(&mut self.units, bytes, stored);
         let added = StoredMove {
             target,

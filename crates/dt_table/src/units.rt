@@ -5,9 +5,12 @@ ghost use Rattle.std.specs.Map.{lookup};
 ghost use Rattle.indexmap.specs.IndexMap.{insert_entry, spare};
 ghost use Rattle.dt_access.specs.Clash.{same_key};
 ghost use Rattle.dt_access.specs.Orders.{HasDistinctKeys};
+ghost use Rattle.dt_lists.specs.Lists.{AllIn};
+ghost use Rattle.dt_table.specs.MovedUnitsInner.{IsNoted};
 ghost use Rattle.dt_table.specs.Table.{opening_home as opening_home_of};
 ghost use Rattle.dt_table.specs.StoredUnitInner.{by_bytes, stored_of};
 
+use crate::moved::MovedUnits;
 use crate::stored::StoredUnit;
 use dt_text::{Key, NoMemory};
 use indexmap::IndexMap;
@@ -48,25 +51,36 @@ fn listed_home<'a>(homes: &'a IndexMap<Vec<u8>, u8>, unit: &[u8]) -> Option<&'a 
     homes.get(unit)
 }
 
-/// The stored unit of these bytes, if it is stored. Where no unit is, the bytes are not hashed.
+/// The stored unit of these bytes, if it is stored. Where none is that shares its bit, the bytes are not hashed.
 #[tactic(auto, using(crate::proofs::ByBytes::none_of_none))]
 pub fn stored_unit<'a>(
     units: &'a IndexMap<Vec<u8>, StoredUnit>,
+    moved: &MovedUnits,
     unit: &[u8],
 ) -> Option<&'a StoredUnit>
+    requires { AllIn (λ e. IsNoted moved.now e.0) (by_bytes units.now.entries) }
     ensures { option_copied result ≡ lookup (same_key unit.now) (by_bytes units.now.entries) }
 {
     if units.is_empty() {
+        return None;
+    }
+    if !moved.may_have(unit) {
         return None;
     }
     units.get(unit)
 }
 
 /// The stored unit of these bytes, or else a fresh one with this home.
-pub fn stored_or_fresh(units: &IndexMap<Vec<u8>, StoredUnit>, unit: &[u8], home: u8) -> StoredUnit
+pub fn stored_or_fresh(
+    units: &IndexMap<Vec<u8>, StoredUnit>,
+    moved: &MovedUnits,
+    unit: &[u8],
+    home: u8,
+) -> StoredUnit
+    requires { AllIn (λ e. IsNoted moved.now e.0) (by_bytes units.now.entries) }
     ensures { result ≡ stored_of (by_bytes units.now.entries) unit.now home }
 {
-    match stored_unit(units, unit) {
+    match stored_unit(units, moved, unit) {
         Some(stored) => *stored,
         None => StoredUnit {
             home,

@@ -3,5 +3,7 @@ pub mod Numbers
 pub mod Printed
 pub mod Reading
 pub mod ReadingInner
+pub mod SpellingInner
 pub mod Texts
+pub mod Values
 pub mod Words

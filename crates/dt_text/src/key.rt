@@ -1,4 +1,9 @@
-ghost use Rattle.std.specs.Prelude.{◌≡◌, ◌↔◌, ◌<◌, ◌≤◌, ◌^◌, ℕ, [], List, length, IfOk, IsTrue, Some};
+ghost use Rattle.std.specs.Prelude.{◌≡◌, ◌↔◌, ◌<◌, ◌≤◌, ◌^◌, ℕ, [], List, length, refl, nat_eq, IfOk, IsTrue, Some};
+ghost use Rattle.std.specs.Ordering.{nat_cmp};
+ghost use Rattle.std.specs.Cmp.{partial_equiv_from_equiv};
+ghost use Rattle.std.specs.Cmp.Lexicographic.{pointwise, slice_cmp, nat_list_eq_equiv, nat_list_cmp_total, texts_ties, texts_po, bytes_decides};
+ghost use Rattle.std.specs.Hash as fed;
+ghost use Rattle.std.proofs.Common.{ap};
 ghost use Rattle.dt_text.specs.Texts.{IsKey, is_key_byte, first_outside};
 
 use crate::bytes::is_key_byte;
@@ -6,22 +11,26 @@ use crate::errors::KeyError;
 use crate::no_memory::NoMemory;
 use crate::spelling::Spelling;
 use std::alloc::Global;
+use std::cmp::Ordering;
+use std::hash::{Hash, Hasher};
 use std::marker::Model;
 
 /// The name of a row: 1 to 128 bytes out of `a-z`, `0-9`, `/`, `_`, `.` and `-`.
 ///
 /// Contracts see its bytes. Keys are ordered by their bytes, a proper prefix being less.
-#[derive(Debug, PartialEq, Eq, PartialOrd, Ord, Hash, Drop)]
+///
+/// A key may carry a hint: a number, at which whoever keeps things of keys may look first. It is no part of the key: equal keys
+/// may have different hints, and what is found by a hint has to be compared with the key.
+#[derive(Debug, Drop)]
 pub struct Key {
     spelling: Spelling,
+    hint: u32,
 }
 
 impl Model for Key {
     ghost Value = { List ℕ };
 
     ghost view = { λ k. k.spelling };
-
-    ghost inverse = { λ bytes. record { spelling = bytes } };
 
     ghost invariant = { λ k. IsKey k.spelling };
 }
@@ -54,6 +63,7 @@ impl Key {
             Some(place) => Err(KeyError::BadByte(place as u32)),
             None => Ok(Key {
                 spelling: Spelling::of(alloc, bytes)?,
+                hint: 0,
             }),
         }
     }
@@ -73,6 +83,7 @@ impl Key {
     {
         Ok(Key {
             spelling: Spelling::of(alloc, bytes)?,
+            hint: 0,
         })
     }
 
@@ -84,14 +95,76 @@ impl Key {
         self.spelling.bytes()
     }
 
-    /// A key with the same bytes.
-    pub fn copy(&self, alloc: Global) -> Result<Self, NoMemory>
+    /// Its hint; 0, unless it was given one.
+    pub fn hint(&self) -> u32 {
+        self.hint
+    }
+
+    /// The same key with this hint.
+    pub fn with_hint(self, hint: u32) -> Self
+        ensures { result ≡ self }
+    {
+        let Key { spelling, .. } = self;
+        Key { spelling, hint }
+    }
+
+    /// A key with the same bytes and the same hint. Takes no memory.
+    pub fn copy(&self, _alloc: Global) -> Result<Self, NoMemory>
         ensures same { IfOk result (λ key. key ≡ self.now) }
         ensures key { IsKey self.now }
     {
         Ok(Key {
-            spelling: self.spelling.copy(alloc)?,
+            spelling: self.spelling.copy()?,
+            hint: self.hint,
         })
+    }
+}
+
+impl PartialEq for Key {
+    ghost eq = { pointwise nat_eq };
+
+    ghost laws = { partial_equiv_from_equiv nat_list_eq_equiv };
+
+    fn eq(&self, other: &Self) -> bool {
+        self.spelling == other.spelling
+    }
+}
+
+impl Eq for Key {
+    ghost laws = { nat_list_eq_equiv };
+}
+
+impl PartialOrd for Key {
+    ghost partial_cmp = { λ a b. Some (slice_cmp nat_cmp a b) };
+
+    ghost laws = { texts_po };
+
+    fn partial_cmp(&self, other: &Self) -> Option<Ordering> {
+        Some(self.cmp(other))
+    }
+}
+
+impl Ord for Key {
+    ghost cmp = { slice_cmp nat_cmp };
+
+    ghost total = { nat_list_cmp_total };
+
+    ghost matches_partial_cmp = { λ a b. refl };
+
+    ghost matches_eq = { texts_ties };
+
+    fn cmp(&self, other: &Self) -> Ordering {
+        self.spelling.cmp(&other.spelling)
+    }
+}
+
+impl Hash for Key {
+    ghost hash_input = { fed.str };
+
+    ghost respects_eq = { λ a b e. ap fed.str ((bytes_decides a b).0 e) };
+
+    fn hash<H: Hasher>(&self, state: &mut H) {
+        self.spelling.hash(state);
     }
 }
 

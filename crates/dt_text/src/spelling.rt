@@ -1,4 +1,4 @@
-ghost use Rattle.std.specs.Prelude.{◌≡◌, ℕ, List, refl, nat_eq, IfOk, OnOk, OnErr, Some, [], ◌∷◌, ◌++◌};
+ghost use Rattle.std.specs.Prelude.{◌≡◌, ℕ, List, refl, nat_eq, IfOk, Some, length, ◌≤◌};
 ghost use Rattle.std.specs.Ordering.{nat_cmp};
 ghost use Rattle.std.specs.Cmp.{partial_equiv_from_equiv};
 ghost use Rattle.std.specs.Cmp.Lexicographic.{pointwise, slice_cmp, nat_list_eq_equiv, nat_list_cmp_total, texts_ties, texts_po, bytes_decides};
@@ -6,68 +6,91 @@ ghost use Rattle.std.specs.Hash as fed;
 ghost use Rattle.std.proofs.Common.{ap};
 
 use crate::bytes::are_same;
+use crate::common::Common;
 use crate::no_memory::NoMemory;
-use smallvec::SmallVec;
 use std::alloc::Global;
 use std::cmp::Ordering;
 use std::hash::{Hash, Hasher};
 use std::marker::Model;
 
+/// How many bytes fit into a spelling itself.
+const SHORT: usize = 14;
+
 /// The bytes of a key, a name or a text. Contracts see these bytes.
 ///
 /// Spellings are ordered by their bytes, a proper prefix being less, and hashed as their bytes with one more at the end.
-/// Up to 16 bytes lie in the spelling itself, so that most spellings are made and copied without taking memory.
+/// Up to 14 bytes lie in the spelling itself, so most spellings are made without taking memory; more lie in common with its
+/// copies. A spelling has the size of 16 bytes, and a copy of it takes no memory.
 #[derive(Debug, Drop)]
 pub(crate) struct Spelling {
-    bytes: SmallVec<u8, 16>,
+    form: Form,
+}
+
+/// Where the bytes lie.
+#[derive(Debug, Drop)]
+enum Form {
+    /// The first so many of these bytes.
+    Short(u8, [u8; 14]),
+    /// Elsewhere.
+    Long(Common<Vec<u8>>),
 }
 
 impl Model for Spelling {
+    ghost use Rattle.std.specs.Prelude.{List, ℕ};
+    ghost use Rattle.dt_text.specs.SpellingInner.{bytes_of, FitsForm};
+
     ghost Value = { List ℕ };
 
-    ghost view = { λ s. s.bytes.items };
+    ghost view = { λ s. bytes_of s.form };
+
+    ghost invariant = { λ s. FitsForm s.form };
 }
 
 impl Spelling {
-    /// The spelling of no bytes. Takes no memory.
-    pub(crate) fn empty(alloc: Global) -> Self
-        ensures { result ≡ [] }
-    {
-        Spelling {
-            bytes: SmallVec::new(alloc),
-        }
-    }
-
     /// The spelling that has these bytes.
     pub(crate) fn of(alloc: Global, bytes: &[u8]) -> Result<Self, NoMemory>
         ensures { IfOk result (λ spelling. spelling ≡ bytes.now) }
     {
+        if bytes.len() <= SHORT {
+            return Ok(Spelling::short(bytes));
+        }
+        let long = Vec::from_slice(alloc, bytes)?;
         Ok(Spelling {
-            bytes: SmallVec::from_slice(alloc, bytes)?,
+            form: Form::Long(Common::new(alloc, long)?),
         })
+    }
+
+    /// The spelling of few bytes. Takes no memory.
+    fn short(bytes: &[u8]) -> Self
+        requires { length bytes.now ≤ 14 }
+        ensures { result ≡ bytes.now }
+    {
+        let mut kept = [0; 14];
+        kept[..bytes.len()].copy_from_slice(bytes);
+        Spelling {
+            form: Form::Short(bytes.len() as u8, kept),
+        }
     }
 
     /// The bytes. Takes no memory.
     pub(crate) fn bytes(&self) -> &[u8]
         ensures { result.now ≡ self.now }
     {
-        self.bytes.as_slice()
+        match &self.form {
+            Form::Short(count, bytes) => &bytes[..*count as usize],
+            Form::Long(bytes) => bytes.get().as_slice(),
+        }
     }
 
-    /// Adds a byte at the back; after `NoMemory` the spelling is as before.
-    pub(crate) fn push(&mut self, byte: u8) -> Result<(), NoMemory>
-        ensures added { OnOk result (self.new ≡ self.old ++ byte ∷ []) }
-        ensures same { OnErr result (self.new ≡ self.old) }
-    {
-        self.bytes.push(byte)?;
-        Ok(())
-    }
-
-    /// An equal spelling.
-    pub(crate) fn copy(&self, alloc: Global) -> Result<Self, NoMemory>
+    /// An equal spelling. Takes no memory.
+    pub(crate) fn copy(&self) -> Result<Self, NoMemory>
         ensures { IfOk result (λ spelling. spelling ≡ self.now) }
     {
-        Spelling::of(alloc, self.bytes())
+        let form = match &self.form {
+            Form::Short(count, bytes) => Form::Short(*count, *bytes),
+            Form::Long(bytes) => Form::Long(bytes.copy()?),
+        };
+        Ok(Spelling { form })
     }
 }
 
@@ -77,7 +100,7 @@ impl PartialEq for Spelling {
     ghost laws = { partial_equiv_from_equiv nat_list_eq_equiv };
 
     fn eq(&self, other: &Self) -> bool {
-        are_same(self.bytes.as_slice(), other.bytes.as_slice())
+        are_same(self.bytes(), other.bytes())
     }
 }
 
@@ -105,7 +128,7 @@ impl Ord for Spelling {
     ghost matches_eq = { texts_ties };
 
     fn cmp(&self, other: &Self) -> Ordering {
-        self.bytes.as_slice().cmp(other.bytes.as_slice())
+        self.bytes().cmp(other.bytes())
     }
 }
 
@@ -115,7 +138,7 @@ impl Hash for Spelling {
     ghost respects_eq = { λ a b e. ap fed.str ((bytes_decides a b).0 e) };
 
     fn hash<H: Hasher>(&self, state: &mut H) {
-        state.write(self.bytes.as_slice());
+        state.write(self.bytes());
         state.write_u8(0xff);
     }
 }

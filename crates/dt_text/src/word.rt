@@ -9,6 +9,7 @@ use crate::listed::Listed;
 use crate::no_memory::NoMemory;
 use crate::spelling::Spelling;
 use crate::text::Str;
+use smallvec::SmallVec;
 use std::alloc::Global;
 
 /// A word of a line.
@@ -115,13 +116,16 @@ pub fn is_visible(byte: u8) -> bool
     matches!(byte, b'!'..=b'~')
 }
 
+/// The bytes of a text that is being read. Those of a short one take no memory.
+type TextBytes = SmallVec<u8, 32>;
+
 /// Reads the text word that begins with the `"` at `at`, with the place after it.
 fn read_text(alloc: Global, line: &[u8], at: usize) -> Result<Option<(Word, usize)>, NoMemory>
     requires inside { at < length line.now }
     requires quote { slice_index line.now at ≡ 34 }
     ensures { IfOk result (WordAt line.now at) }
 {
-    let mut text = Spelling::empty(alloc);
+    let mut text = TextBytes::new(alloc);
     let mut end = at + 1;
     while end < line.len() {
         if line[end] == b'"' {
@@ -130,7 +134,7 @@ fn read_text(alloc: Global, line: &[u8], at: usize) -> Result<Option<(Word, usiz
         let Some((byte, next)) = read_item(line, end) else {
             return Ok(None);
         };
-        if text.bytes().len() >= Str::LONGEST {
+        if text.len() >= Str::LONGEST {
             return Ok(None);
         }
         text.push(byte)?;
@@ -143,16 +147,17 @@ fn read_text(alloc: Global, line: &[u8], at: usize) -> Result<Option<(Word, usiz
 fn ended_text(
     alloc: Global,
     line: &[u8],
-    text: Spelling,
+    text: TextBytes,
     end: usize,
 ) -> Result<Option<(Word, usize)>, NoMemory>
-    requires text { IsStr text }
+    requires text { IsStr text.items }
     requires inside { end ≤ length line.now }
-    ensures { IfOk result (TextEndsAt line.now text end) }
+    ensures { IfOk result (TextEndsAt line.now text.items end) }
 {
     if !may_end(line, end) {
         return Ok(None);
     }
+    let text = Spelling::of(alloc, text.as_slice())?;
     Ok(Some((Word::Text(Str::spelled(alloc, text)?), end)))
 }
 

@@ -46,9 +46,10 @@ fn annotated(alloc: Global, body: &Body, procs: &Procs, table: &Table) -> Result
     let uses = uses(alloc, body, procs, table.version())?;
     let mut access = Vec::with_capacity(alloc, uses.as_slice().len())?;
     for (key, mode) in uses.as_slice() {
-        let mastership = table.mastership(key);
+        let key = table.hinted(key.copy(alloc)?);
+        let mastership = table.mastership(&key);
         access.push(Access {
-            key: key.copy(alloc)?,
+            key,
             mode: *mode,
             home: mastership.home,
             counter: mastership.counter,

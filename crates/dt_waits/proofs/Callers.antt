@@ -13,3 +13,4 @@ pub use Rattle.dt_waits.proofs.InsertStep.{counted_before, missing_before}
 pub use Rattle.dt_waits.proofs.FinishStep.{distinct_members, member_of, next_is, take_all}
 pub use Rattle.dt_waits.proofs.LeavingDegrees.{may_leave}
 pub use Rattle.dt_waits.proofs.KeepsGraph.{at_named, keeping_finish, keeping_first, keeping_pushed, keeping_resolve, next_ready_told, ready_executable}
+pub use Rattle.dt_waits.proofs.PastVertices.{past_entries, past_left}

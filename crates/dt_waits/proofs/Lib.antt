@@ -19,4 +19,5 @@ pub mod Classes
 pub mod LeavingDegrees
 pub mod KeepsGraph
 pub mod Bounds
+pub mod PastVertices
 pub mod Callers

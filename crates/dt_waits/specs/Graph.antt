@@ -113,3 +113,13 @@ pub record AreVerticesOf (g : GraphView) (ids : List TxnId) (vertices : List ℕ
 pub record IsKeeping (s : Sched) (g : GraphView) : Type 0 where
   pub orderly : IsOrderly s.logs s.resolved s.done
   pub graph : KeepsGraph s.logs s.resolved s.done g
+
+-- the resolved class at the place is done, if there is one
+abbrev pub IsClassDone : List Open → Option ℕ → Type 0
+IsClassDone classes None = Unit {0}
+IsClassDone classes (Some place) = (kept : Open) × (slice_get classes place ≡ Some kept) × (length kept.members ≤ kept.next)
+
+-- the vertex is of a transaction that is complete and in no class that isn't done; if it is neither ready nor stuck, it has left
+pub record IsPast (classes : List Open) (x : Vertex) : Type 0 where
+  pub complete : x.missing ≡ 0
+  pub class : IsClassDone classes x.class

@@ -1,8 +1,8 @@
 use crate::place::Place;
 use crate::slots::Slots;
 
-/// A transaction, as a vertex of the graph. One is kept for each, also when it is done; so its fields are narrow, and the widest
-/// stands first.
+/// A transaction, as a vertex of the graph. One is kept for each until it and all before it have left; so its fields are narrow,
+/// and the widest stands first.
 #[derive(Drop)]
 pub struct Vertex {
     /// Where its entries wait.

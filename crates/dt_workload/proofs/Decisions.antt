@@ -7,12 +7,13 @@ use Rattle.dt_lists.specs.Lists.{AllIn, Either}
 use Rattle.dt_lists.proofs.Callers.{either_and, either_or, either_same, either_all, either_nat, either_le, same_head, same_tail, same_rest}
 use Rattle.dt_text.specs.Texts.{IsStr}
 use Rattle.dt_text.specs.Numbers.{ReadsSignedNumber}
+use Rattle.dt_text.specs.Values.{IsRowValue}
 use Rattle.dt_text.proofs.Callers.{SpellsBelow, either_bytes, either_lt, either_spelled, either_str, minus_none, minus_some, plain_none, plain_some}
 use Rattle.dt_text.specs.declared.Value.{Value}
 use Rattle.dt_text.specs.declared.Value.TheVariants.{Int, Text}
 use Rattle.dt_text.specs.Texts.{Bytes}
 use Rattle.dt_workload.proofs.OneForm.{same_bare, same_quoted}
-use Rattle.dt_workload.specs.Lines.{Said, bare, quoted, Form, session_line, call_line, move_line, argument_word, IsRanked, other_words, SpellForm, IsArgument, IsForm}
+use Rattle.dt_workload.specs.Lines.{Said, bare, quoted, Form, session_line, call_line, move_line, argument_word, IsRanked, other_words, SpellForm, IsForm}
 
 -- ---- numbers
 
@@ -75,7 +76,7 @@ either_bare (bare bs) = inl (bs, refl)
 either_bare (quoted bs) = inr (λ (a, e). cc)
 
 abbrev SaysArgument : Said → Type 0
-SaysArgument s = (v : Value) × IsArgument v × (s ≡ argument_word v)
+SaysArgument s = (v : Value) × IsRowValue v × (s ≡ argument_word v)
 
 either_says_argument : (s : Said) → Either (SaysArgument s)
 either_says_argument (bare bs) = either_same (SpellsSigned bs) (SaysArgument (bare bs)) (λ (z, fits, is). (Int z, fits, ap bare is)) back (either_signed bs)
@@ -90,7 +91,7 @@ either_says_argument (quoted t) = either_same (IsStr t) (SaysArgument (quoted t)
     back (Text u, fits, is) = subst IsStr (sym (same_quoted is)) fits
 
 abbrev SayArguments : List Said → Type 0
-SayArguments saids = (args : List Value) × AllIn IsArgument args × (saids ≡ map argument_word args)
+SayArguments saids = (args : List Value) × AllIn IsRowValue args × (saids ≡ map argument_word args)
 
 arguments_of : (saids : List Said) → AllIn SaysArgument saids → SayArguments saids
 arguments_of [] all = ([], tt, refl)
@@ -98,7 +99,7 @@ arguments_of (s ∷ saids) all =
     let rest = arguments_of saids all.1 in
     (all.0.0 ∷ rest.0, (all.0.1, rest.1), ap₂ (λ x xs. x ∷ xs) all.0.2 rest.2)
 
-arguments_say : (saids : List Said) (args : List Value) → AllIn IsArgument args → saids ≡ map argument_word args → AllIn SaysArgument saids
+arguments_say : (saids : List Said) (args : List Value) → AllIn IsRowValue args → saids ≡ map argument_word args → AllIn SaysArgument saids
 arguments_say [] args all is = tt
 arguments_say (s ∷ saids) [] all is = absurd cc
 arguments_say (s ∷ saids) (v ∷ args) all is = ((v, all.0, same_head is), arguments_say saids args all.1 (same_tail is))
@@ -182,7 +183,7 @@ either_region fixed (b ∷ c ∷ d ∷ []) =
 
 -- the words after the first one of a line of a call
 abbrev SayCall : List Said → Type 0
-SayCall saids = (proc : Bytes) × (args : List Value) × AllIn IsArgument args × (saids ≡ bare proc ∷ map argument_word args)
+SayCall saids = (proc : Bytes) × (args : List Value) × AllIn IsRowValue args × (saids ≡ bare proc ∷ map argument_word args)
 
 either_call : (saids : List Said) → Either (SayCall saids)
 either_call [] = inr (λ (p, args, all, e). cc)

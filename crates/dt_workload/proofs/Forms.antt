@@ -12,11 +12,12 @@ use Rattle.std.proofs.lemmas.Option.{same_Some}
 use Rattle.dt_lists.specs.Lists.{AllIn, Has}
 use Rattle.dt_text.specs.Texts.{IsName}
 use Rattle.dt_text.specs.Reading.{words_of}
+use Rattle.dt_text.specs.Values.{IsRowValue}
 use Rattle.dt_text.specs.declared.Word.{Word}
 use Rattle.dt_text.specs.declared.Value.{Value}
 use Rattle.dt_text.proofs.Callers.{exact}
 use Rattle.dt_text.specs.Texts.{Bytes}
-use Rattle.dt_workload.specs.Lines.{Said, bare, said, Form, session_line, call_line, move_line, IsForm, IsRanked, IsFirstWord, SpellForm, HasForm, IsArgument, argument_word}
+use Rattle.dt_workload.specs.Lines.{Said, bare, said, Form, session_line, call_line, move_line, IsForm, IsRanked, IsFirstWord, SpellForm, HasForm, argument_word}
 use Rattle.dt_workload.proofs.OneForm.{session_or_call, session_or_move, call_or_move, same_bare}
 use Rattle.std.specs.Prelude.{codes}
 use Rattle.dt_workload.specs.ReaderInner.{IsNoBeginning, ReadsForm, ReadsRank, ReadsRegion, Refuses, form_of}
@@ -30,8 +31,8 @@ use Rattle.dt_workload.specs.declared.form.Form.{Form as Said_form}
 
 -- words of which one is no argument are no arguments
 pub no_arguments : (line : Bytes) (words : List Word) (i : ℕ) (d : Word) → i < length words
-    → ((arg : Value) → IsArgument arg → said line (get_or words i d) ≢ argument_word arg)
-    → (args : List Value) → AllIn IsArgument args → map (said line) words ≢ map argument_word args
+    → ((arg : Value) → IsRowValue arg → said line (get_or words i d) ≢ argument_word arg)
+    → (args : List Value) → AllIn IsRowValue args → map (said line) words ≢ map argument_word args
 no_arguments line [] i d within none args are same = absurd (omega arith)
 no_arguments line (w ∷ ws) i d within none [] are same = cc
 no_arguments line (w ∷ ws) zero d within none (arg ∷ args) are same = none arg are.0 (same_head same)
@@ -135,7 +136,7 @@ no_session_form subject rest none (move_line rank key region) fits (head, is, e)
 
 -- a call's line has a form only where arguments are said
 pub no_call_form : (word subject : Bytes) (rest : List Said) (rank : ℕ) → IsRanked (codes "call") rank (bare word)
-    → ((args : List Value) → AllIn IsArgument args → rest ≢ map argument_word args) → (f : Form) → IsForm f → ¬ SpellForm f (bare word ∷ bare subject ∷ rest)
+    → ((args : List Value) → AllIn IsRowValue args → rest ≢ map argument_word args) → (f : Form) → IsForm f → ¬ SpellForm f (bare word ∷ bare subject ∷ rest)
 no_call_form word subject rest rank ranked none (session_line name region) fits (head, is, e) = session_or_call rank (bare word) (same_head e ∙ is) ranked
 no_call_form word subject rest rank ranked none (call_line q proc args) fits (head, is, e) = none args fits.1 (same_tail (same_tail e))
 no_call_form word subject rest rank ranked none (move_line q key region) fits (head, is, e) =

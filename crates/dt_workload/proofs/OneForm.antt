@@ -7,11 +7,12 @@ use Rattle.std.proofs.lemmas.Fmt.{signed_decimal_injective}
 use Rattle.dt_lists.proofs.Callers.{same_head, same_tail, same_rest}
 use Rattle.std.proofs.lemmas.Option.{same_Some}
 use Rattle.dt_lists.specs.Lists.{AllIn}
+use Rattle.dt_text.specs.Values.{IsRowValue}
 use Rattle.dt_text.specs.declared.Value.{Value}
 use Rattle.dt_text.specs.declared.Value.TheVariants.{Int, Text}
 use Rattle.dt_text.proofs.Callers.{exact, same_number}
 use Rattle.dt_text.specs.Texts.{Bytes}
-use Rattle.dt_workload.specs.Lines.{bare, quoted, said, Form, session_line, call_line, move_line, argument_word, Said, IsRanked, IsFirstWord, other_words, SpellForm, IsArgument, IsForm, HasForm}
+use Rattle.dt_workload.specs.Lines.{bare, quoted, said, Form, session_line, call_line, move_line, argument_word, Said, IsRanked, IsFirstWord, other_words, SpellForm, IsForm, HasForm}
 
 -- the bytes of a word that is bare, and of one in quotes
 pub same_bare : {a b : Bytes} → bare a ≡ bare b → a ≡ b
@@ -23,13 +24,13 @@ same_quoted e = cc
 not_both : {a b : Bytes} → bare a ≡ quoted b → ⊥
 not_both e = cc
 
-same_argument : (v w : Value) → IsArgument v → IsArgument w → argument_word v ≡ argument_word w → v ≡ w
+same_argument : (v w : Value) → IsRowValue v → IsRowValue w → argument_word v ≡ argument_word w → v ≡ w
 same_argument (Int y) (Int z) fits_v fits_w e = ap Int (signed_decimal_injective y z fits_v.sfits fits_w.sfits (same_bare e))
 same_argument (Int y) (Text t) fits_v fits_w e = absurd (not_both e)
 same_argument (Text t) (Int z) fits_v fits_w e = absurd (not_both (sym e))
 same_argument (Text t) (Text u) fits_v fits_w e = ap Text (same_quoted e)
 
-same_arguments : (vs ws : List Value) → AllIn IsArgument vs → AllIn IsArgument ws → map argument_word vs ≡ map argument_word ws → vs ≡ ws
+same_arguments : (vs ws : List Value) → AllIn IsRowValue vs → AllIn IsRowValue ws → map argument_word vs ≡ map argument_word ws → vs ≡ ws
 same_arguments [] [] fit_vs fit_ws e = refl
 same_arguments [] (w ∷ ws) fit_vs fit_ws e = cc
 same_arguments (v ∷ vs) [] fit_vs fit_ws e = cc

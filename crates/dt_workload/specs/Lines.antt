@@ -2,12 +2,12 @@
 -- The first word of a call or a move gives its rank, as in `call/2`; `call` alone is of rank 5, and so is `call/5`. So the
 -- words of a form are a relation: a form may be spelled in two ways, but a line has one form at most. Read next: `Valid`,
 -- for what the words have to name, and `File`, for what lines make together.
-use Rattle.std.specs.Prelude.{◌≡◌, ◌⊎◌, ℕ, ◌<◌, ◌^◌, List, [], ◌∷◌, ◌++◌, map, codes, FitsSigned}
-use Rattle.std.specs.Int.{w64}
+use Rattle.std.specs.Prelude.{◌≡◌, ◌⊎◌, ℕ, ◌<◌, ◌^◌, List, [], ◌∷◌, ◌++◌, map, codes}
 use Rattle.std.specs.List.{slice_range}
 use Rattle.std.specs.Fmt.{decimal, signed_decimal}
 use Rattle.dt_lists.specs.Lists.{AllIn}
-use Rattle.dt_text.specs.Texts.{Bytes, IsStr}
+use Rattle.dt_text.specs.Texts.{Bytes}
+use Rattle.dt_text.specs.Values.{IsRowValue}
 use Rattle.dt_text.specs.Words.{AreWords}
 use Rattle.dt_text.specs.declared.Word.{Word}
 use Rattle.dt_text.specs.declared.Word.TheVariants as word
@@ -55,15 +55,10 @@ other_words (move_line rank key region) = bare key ∷ bare (codes "to") ∷ bar
 abbrev pub SpellForm : Form → List Said → Type 0
 SpellForm form words = (head : Said) × IsFirstWord form head × (words ≡ head ∷ other_words form)
 
--- an argument can be written: a number of 64 bits with a sign, or a text
-abbrev pub IsArgument : Value → Type 0
-IsArgument (Int z) = FitsSigned w64 z
-IsArgument (Text t) = IsStr t
-
 -- a form that can be written: its number of a region has 32 bits, its rank is one digit, and its arguments are such
 abbrev pub IsForm : Form → Type 0
 IsForm (session_line name region) = region < 2 ^ 32
-IsForm (call_line rank proc args) = (rank < 10) × AllIn IsArgument args
+IsForm (call_line rank proc args) = (rank < 10) × AllIn IsRowValue args
 IsForm (move_line rank key region) = (rank < 10) × (region < 2 ^ 32)
 
 -- a line has the form: it is made of words that spell it

@@ -1,7 +1,8 @@
 ghost use Rattle.std.specs.Prelude.{◌≡◌, ◌≢◌, ◌<◌, ◌≤◌, ◌^◌, ◌∷◌, ◌++◌, List, length, map, codes, IfOk, MatchOption, All};
 ghost use Rattle.dt_lists.specs.Lists.{AllIn};
 ghost use Rattle.dt_text.specs.Reading.{IsWordIn};
-ghost use Rattle.dt_workload.specs.Lines.{HasForm, IsArgument, IsRanked, argument_word, bare, said};
+ghost use Rattle.dt_text.specs.Values.{IsRowValue};
+ghost use Rattle.dt_workload.specs.Lines.{HasForm, IsRanked, argument_word, bare, said};
 ghost use Rattle.dt_text.specs.Texts.{Bytes};
 ghost use Rattle.dt_workload.specs.Lines as lines;
 ghost use Rattle.dt_workload.specs.ReaderInner.{form_of, ReadsForm, ReadsRank, ReadsRegion};
@@ -183,8 +184,8 @@ fn arguments(alloc: Global, line: &[u8], rest: &[Word]) -> Result<Option<Args>, 
     requires short { length line.now < 2 ^ 32 }
     requires inside { All (IsWordIn line.now) rest.now }
     ensures { IfOk result (λ found. MatchOption found
-        ((args : List AnyValue) → AllIn IsArgument args → map (said line.now) rest.now ≢ map argument_word args)
-        (λ args. AllIn IsArgument args × (map (said line.now) rest.now ≡ map argument_word args))) }
+        ((args : List AnyValue) → AllIn IsRowValue args → map (said line.now) rest.now ≢ map argument_word args)
+        (λ args. AllIn IsRowValue args × (map (said line.now) rest.now ≡ map argument_word args))) }
 {
     let mut args = Args::new(alloc);
     for word in rest {
@@ -201,8 +202,8 @@ fn argument(alloc: Global, line: &[u8], word: &Word) -> Result<Option<Value>, No
     requires short { length line.now < 2 ^ 32 }
     requires inside { IsWordIn line.now word.now }
     ensures { IfOk result (λ found. MatchOption found
-        ((arg : AnyValue) → IsArgument arg → said line.now word.now ≢ argument_word arg)
-        (λ arg. IsArgument arg × (said line.now word.now ≡ argument_word arg))) }
+        ((arg : AnyValue) → IsRowValue arg → said line.now word.now ≢ argument_word arg)
+        (λ arg. IsRowValue arg × (said line.now word.now ≡ argument_word arg))) }
 {
     match word {
         Word::Bare(from, to) => {

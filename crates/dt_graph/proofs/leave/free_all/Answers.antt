@@ -32,4 +32,5 @@ loop-vertex-preserved c =
           _ _ fallen _ _ _ _ _ _ c.loop-vertex.invariant.wakes
           (subst (λ l. Wakes (λ v. AnyIn (λ slot. IsFollowedAt q slot v) l) next.degrees now.stuck now.ready next.stuck next.ready) slots c.free_slots.ensures.woken);
       same = c.free_slots.ensures.same ∙ c.loop-vertex.invariant.same;
+      first = c.free_slots.ensures.first ∙ c.loop-vertex.invariant.first;
     }

@@ -9,4 +9,5 @@ invariant-loop-vertex l = record {
   lowering : IsLoweringBy (taken_by l.queues) l.leaving (drop l.vertex-index l.leaving) l.initial.vertices.degrees l.vertices.degrees;
   wakes : Wakes (IsFollowed l.queues (take l.vertex-index l.leaving)) l.vertices.degrees l.initial.vertices.stuck l.initial.vertices.ready l.vertices.stuck l.vertices.ready;
   same : l.vertices.vertices ≡ l.initial.vertices.vertices;
+  first : l.vertices.first ≡ l.initial.vertices.first;
 }

@@ -24,6 +24,7 @@ loop-place-preserved c =
       wakes = wakes_next (λ slot v. IsFollowedAt q slot v) (followed_at_decided q) (λ slot v. lowered q slot u v) (λ slot v. slot_spares q slot u v) slots p lt
           _ _ fallen _ _ _ _ _ _ c.loop-place.invariant.wakes (subst (λ l. Wakes (IsFollowedAt q (get_or l p 0)) next.degrees now.stuck now.ready next.stuck next.ready) told c.free_followers.ensures.woken);
       same = c.free_followers.ensures.same ∙ c.loop-place.invariant.same;
+      first = c.free_followers.ensures.first ∙ c.loop-place.invariant.first;
     }
 
 pub returns-clause-woken : goal.returns-clause-woken

@@ -13,4 +13,5 @@ invariant-loop-place l =
       lowering : IsLoweringBy (λ slot v. lowered l.queues slot l.vertex v) slots (drop l.place slots) l.initial.vertices.degrees l.vertices.degrees;
       wakes : Wakes (λ v. AnyIn (λ slot. IsFollowedAt l.queues slot v) (take l.place slots)) l.vertices.degrees l.initial.vertices.stuck l.initial.vertices.ready l.vertices.stuck l.vertices.ready;
       same : l.vertices.vertices ≡ l.initial.vertices.vertices;
+      first : l.vertices.first ≡ l.initial.vertices.first;
     }

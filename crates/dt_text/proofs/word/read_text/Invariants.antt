@@ -8,8 +8,8 @@ abbrev pub invariant-loop-end : goal.invariant-loop-end
 invariant-loop-end l = record {
   after : l.at < l.end;
   inside : l.end ≤ length l.line;
-  allowed : IsStr l.text;
-  same : words_from l.at (drop l.at l.line) ≡ text_from l.text l.end (drop l.end l.line);
+  allowed : IsStr l.text.items;
+  same : words_from l.at (drop l.at l.line) ≡ text_from l.text.items l.end (drop l.end l.line);
 }
 
 abbrev pub decreases-loop-end : goal.decreases-loop-end

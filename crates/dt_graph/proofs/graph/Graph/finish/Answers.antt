@@ -1,13 +1,38 @@
 use Rattle.std.proofs.Common.{◌≡◌, ◌≤◌, ◌<◌, ◌∙◌, ◌∷◌, [], None, Some, get_or, length, sym, ap, subst}
-use Rattle.dt_lists.proofs.Callers.{all_get}
+use Rattle.dt_lists.specs.Lists.{AllIn}
 use Rattle.dt_waits.specs.Graph.{GraphView, vertex_at}
 use Rattle.dt_waits.specs.Steps.{AreEntriesBelow, HaveSlots, Leaves, alone}
 use Rattle.dt_waits.specs.Waits.{lowered_by}
 use Rattle.dt_graph.specs.HeldInner.{kept_of}
+use Rattle.dt_graph.specs.VerticesInner.{IsVertexKept, VerticesView}
 use Rattle.dt_graph.specs.SmallStepsInner.{FinishesIn, MayFinishIn}
-use Rattle.dt_graph.proofs.FinishCall.{MayFinish, finishes_in, may_finish, may_finish_without, may_leave_one, number_there}
-use Rattle.dt_graph.proofs.Bounds.{fitted_left, fitted_ready, with_room}
+use Rattle.dt_graph.proofs.FinishCall.{MayFinish, finishes_in, is_ready, may_finish, may_finish_without, may_leave_one, number_there}
+use Rattle.dt_graph.proofs.Bounds.{fitted_left, fitted_ready, ready_is_kept, ready_there, with_room}
 use Rattle.dt_graph.proofs.graph.Graph.finish.Goals as goal
+
+pub take_ready-requires : goal.take_ready-requires
+take_ready-requires c =
+    let g : GraphView = kept_of c.self.inside.names.ids c.self.inside.waits c.self.inside.classes.items in
+    let r : MayFinish g c.args.id = subst (λ g. MayFinish g c.args.id) (sym c.self.view_is) c.requires in
+    ready_is_kept c.self.inside.names.ids c.self.inside.waits c.self.inside.classes.items c.self.invariant c.in-Some.vertex (is_ready g c.args.id r c.in-Some.vertex c.in-Some.ensures.number)
+
+pub get-requires : goal.get-requires
+get-requires c =
+    let g : GraphView = kept_of c.self.inside.names.ids c.self.inside.waits c.self.inside.classes.items in
+    let r : MayFinish g c.args.id = subst (λ g. MayFinish g c.args.id) (sym c.self.view_is) c.requires in
+    subst (λ (x : VerticesView). IsVertexKept x c.in-Some.vertex) (sym c.take_ready.ensures.same)
+    (ready_is_kept c.self.inside.names.ids c.self.inside.waits c.self.inside.classes.items c.self.invariant c.in-Some.vertex (is_ready g c.args.id r c.in-Some.vertex c.in-Some.ensures.number))
+
+pub leave-requires-clause-left : goal.leave-requires-clause-left
+leave-requires-clause-left c =
+    let g : GraphView = kept_of c.self.inside.names.ids c.self.inside.waits c.self.inside.classes.items in
+    let r : MayFinish g c.args.id = subst (λ g. MayFinish g c.args.id) (sym c.self.view_is) c.requires in
+    let kept : IsVertexKept c.self.inside.waits.vertices c.in-Some.vertex =
+    ready_is_kept c.self.inside.names.ids c.self.inside.waits c.self.inside.classes.items c.self.invariant c.in-Some.vertex (is_ready g c.args.id r c.in-Some.vertex c.in-Some.ensures.number) in
+    subst (λ (x : VerticesView). AllIn (λ u. x.first ≤ u) (c.in-Some.vertex ∷ [])) (sym c.take_ready.ensures.same) (kept.0, tt)
+
+pub leave-requires-clause-kept : goal.leave-requires-clause-kept
+leave-requires-clause-kept c = subst (λ (x : VerticesView). AllIn (λ q. x.first ≤ q.vertex) c.self.inside.waits.queues) (sym c.take_ready.ensures.same) c.self.invariant.queues_kept
 
 pub leave-requires-clause-slots : goal.leave-requires-clause-slots
 leave-requires-clause-slots c =
@@ -29,15 +54,15 @@ leave-requires-clause-enough c =
 
 pub invariant_of-self : goal.invariant_of-self
 invariant_of-self c =
-    fitted_left c.self.inside.names.ids (record c.self.inside.waits { vertices = c.take_ready.new.self })
-    (fitted_ready c.self.inside.names.ids c.self.inside.waits c.self.invariant c.take_ready.new.self (with_room c.self.inside.waits.vertices c.take_ready.new.self c.take_ready.ensures.same)
-    (λ v h. all_get _ c.self.inside.waits.vertices.ready c.self.invariant.ready_within v ((c.take_ready.ensures.removed v).0 h).0))
-    (c.in-Some.vertex ∷ []) c.leave.new.self c.self.inside.classes.items (c.leave.ensures.left c.self.inside.names.ids c.self.inside.classes.items)
+    fitted_left c.self.inside.names.ids (record c.self.inside.waits { vertices = c.take_ready.new.self }) c.self.inside.classes.items
+    (fitted_ready c.self.inside.names.ids c.self.inside.waits c.self.inside.classes.items c.self.invariant c.take_ready.new.self (with_room c.self.inside.waits.vertices c.take_ready.new.self c.take_ready.ensures.same)
+    (λ v h. ready_there c.self.inside.names.ids c.self.inside.waits c.self.inside.classes.items c.self.invariant v ((c.take_ready.ensures.removed v).0 h).0))
+    (c.in-Some.vertex ∷ []) c.leave.new.self c.self.inside.classes.items (c.leave.ensures.left c.self.inside.names.ids c.self.inside.classes.items) c.leave.ensures.first
 
 pub invariant_of-self-in-Some-get : goal.invariant_of-self-in-Some-get
 invariant_of-self-in-Some-get c =
-    fitted_ready c.self.inside.names.ids c.self.inside.waits c.self.invariant c.take_ready.new.self (with_room c.self.inside.waits.vertices c.take_ready.new.self c.take_ready.ensures.same)
-    (λ v h. all_get _ c.self.inside.waits.vertices.ready c.self.invariant.ready_within v ((c.take_ready.ensures.removed v).0 h).0)
+    fitted_ready c.self.inside.names.ids c.self.inside.waits c.self.inside.classes.items c.self.invariant c.take_ready.new.self (with_room c.self.inside.waits.vertices c.take_ready.new.self c.take_ready.ensures.same)
+    (λ v h. ready_there c.self.inside.names.ids c.self.inside.waits c.self.inside.classes.items c.self.invariant v ((c.take_ready.ensures.removed v).0 h).0)
 
 pub finish_in-requires : goal.finish_in-requires
 finish_in-requires c =

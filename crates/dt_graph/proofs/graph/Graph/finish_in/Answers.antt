@@ -1,14 +1,14 @@
 use Rattle.std.proofs.Common.{◌≡◌, ◌∙◌, ◌<◌, ◌≤◌, ◌+◌, Some, length, get_or, slice_get, sym, ap, subst, inl, inr, arith}
 use Rattle.std.proofs.lemmas.Option.{slice_get-get_or}
-use Rattle.dt_lists.specs.Lists.{Distinct}
+use Rattle.dt_lists.specs.Lists.{AllIn, Distinct}
 use Rattle.dt_lists.proofs.Callers.{all_get}
 use Rattle.dt_waits.specs.Graph.{GraphView}
 use Rattle.dt_graph.specs.HeldInner.{kept_of}
 use Rattle.dt_waits.specs.Steps.{HaveSlots}
 use Rattle.dt_graph.specs.SmallStepsInner.{FinishesIn, MayFinishIn}
 use Rattle.dt_waits.specs.Waits.{lowered_by}
-use Rattle.dt_graph.proofs.FinishCall.{counted_on, finishes_all, finishes_one, open_is, open_not_stuck, within_open}
-use Rattle.dt_graph.proofs.Bounds.{fitted_left, fitted_ready}
+use Rattle.dt_graph.proofs.FinishCall.{counted_on, finishes_all, finishes_one, open_has, open_is, open_not_stuck, within_open}
+use Rattle.dt_graph.proofs.Bounds.{fitted_further, fitted_left, fitted_ready, open_kept, ready_there}
 use Rattle.dt_graph.proofs.graph.Graph.finish_in.Goals as goal
 
 pub overflow_add-kept : goal.overflow_add-kept
@@ -25,7 +25,10 @@ add_ready-requires-clause-within c =
     let at : slice_get c.index_mut-kept.result.now.members (c.index_mut-kept.result.now.next + 1) ≡ Some c.in-Some.vertex.now =
     rw c.as_slice.ensures at (slice_get-get_or c.as_slice.result.now (c.index_mut-kept.result.now.next + 1) c.in-Some.vertex.now c.in-Some.ensures.lookup.3.0 ∙ ap Some (sym c.in-Some.ensures.lookup.1)) in
     let lt : c.in-Some.vertex.now < length g.ids = within_open c.args.class g m c.index_mut-kept.result.now c.index_mut-kept.ensures.value c.in-Some.vertex.now at in
-    omega (arith, lt, c.self.invariant.vertices)
+    let first : c.self.inside.waits.vertices.first ≤ c.in-Some.vertex.now = all_get _ m.kept.members
+    (open_kept c.self.inside.names.ids c.self.inside.waits c.self.inside.classes.items c.self.invariant c.args.class m.kept m.at_place m.waits m.kept.members m.of_class)
+    c.in-Some.vertex.now (open_has c.args.class g m c.index_mut-kept.result.now c.index_mut-kept.ensures.value c.in-Some.vertex.now at) in
+    (first, omega (arith, lt, c.self.invariant.vertices))
 
 pub add_ready-requires-clause-apart : goal.add_ready-requires-clause-apart
 add_ready-requires-clause-apart c =
@@ -42,8 +45,28 @@ invariant_of-self c =
     let at : slice_get c.index_mut-kept.result.now.members (c.index_mut-kept.result.now.next + 1) ≡ Some c.in-Some.vertex.now =
     rw c.as_slice.ensures at (slice_get-get_or c.as_slice.result.now (c.index_mut-kept.result.now.next + 1) c.in-Some.vertex.now c.in-Some.ensures.lookup.3.0 ∙ ap Some (sym c.in-Some.ensures.lookup.1)) in
     let lt : c.in-Some.vertex.now < length g.ids = within_open c.args.class g m c.index_mut-kept.result.now c.index_mut-kept.ensures.value c.in-Some.vertex.now at in
-    fitted_ready c.self.inside.names.ids c.self.inside.waits c.self.invariant c.add_ready.new.self c.add_ready.ensures.same
-    (λ v h. elim ((c.add_ready.ensures.put v).0 h) [ inl o ↦ all_get _ c.self.inside.waits.vertices.ready c.self.invariant.ready_within v o | inr e ↦ subst (λ u. u < length g.ids) (sym e) lt ])
+    let first : c.self.inside.waits.vertices.first ≤ c.in-Some.vertex.now = all_get _ m.kept.members
+    (open_kept c.self.inside.names.ids c.self.inside.waits c.self.inside.classes.items c.self.invariant c.args.class m.kept m.at_place m.waits m.kept.members m.of_class)
+    c.in-Some.vertex.now (open_has c.args.class g m c.index_mut-kept.result.now c.index_mut-kept.ensures.value c.in-Some.vertex.now at) in
+    let o = c.index_mut-kept.result.now in
+    let le : o.next ≤ o.next + 1 = omega arith in
+    fitted_further c.self.inside.names.ids (record c.self.inside.waits { vertices = c.add_ready.new.self }) c.self.inside.classes.items
+    (fitted_ready c.self.inside.names.ids c.self.inside.waits c.self.inside.classes.items c.self.invariant c.add_ready.new.self c.add_ready.ensures.same
+    (λ v h. elim ((c.add_ready.ensures.put v).0 h) [
+      | inl o ↦ ready_there c.self.inside.names.ids c.self.inside.waits c.self.inside.classes.items c.self.invariant v o
+      | inr e ↦ subst (λ u. (c.self.inside.waits.vertices.first ≤ u) × (u < length g.ids)) (sym e) (first, lt)
+    ])) c.args.class o (o.next + 1) c.index_mut-kept.ensures.value le
+
+pub leave-requires-clause-left : goal.leave-requires-clause-left
+leave-requires-clause-left c =
+    let g : GraphView = kept_of c.self.inside.names.ids c.self.inside.waits c.self.inside.classes.items in
+    let m : MayFinishIn c.args.class g = subst (MayFinishIn c.args.class) (sym c.self.view_is) c.requires in
+    rw c.as_slice-in-None.ensures
+    (subst (λ o. AllIn (λ u. c.self.inside.waits.vertices.first ≤ u) o.members) (sym (open_is c.args.class g m c.index_mut-kept.result.now c.index_mut-kept.ensures.value))
+    (open_kept c.self.inside.names.ids c.self.inside.waits c.self.inside.classes.items c.self.invariant c.args.class m.kept m.at_place m.waits m.kept.members m.of_class))
+
+pub leave-requires-clause-kept : goal.leave-requires-clause-kept
+leave-requires-clause-kept c = c.self.invariant.queues_kept
 
 pub leave-requires-clause-once : goal.leave-requires-clause-once
 leave-requires-clause-once c =
@@ -66,8 +89,11 @@ leave-requires-clause-enough c =
 
 pub invariant_of-self-in-None : goal.invariant_of-self-in-None
 invariant_of-self-in-None c =
-    fitted_left c.self.inside.names.ids c.self.inside.waits c.self.invariant c.as_slice-in-None.result.now c.leave.new.self c.self.inside.classes.items
-    (c.leave.ensures.left c.self.inside.names.ids c.self.inside.classes.items)
+    let o = c.index_mut-kept.result.now in
+    let le : o.next ≤ o.next + 1 = omega arith in
+    fitted_further c.self.inside.names.ids c.leave.new.self c.self.inside.classes.items
+    (fitted_left c.self.inside.names.ids c.self.inside.waits c.self.inside.classes.items c.self.invariant c.as_slice-in-None.result.now c.leave.new.self c.self.inside.classes.items
+    (c.leave.ensures.left c.self.inside.names.ids c.self.inside.classes.items) c.leave.ensures.first) c.args.class o (o.next + 1) c.index_mut-kept.ensures.value le
 
 pub returns-in-Some : goal.returns-in-Some
 returns-in-Some c =

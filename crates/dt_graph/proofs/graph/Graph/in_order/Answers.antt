@@ -1,11 +1,22 @@
-use Rattle.std.proofs.Common.{◌≡◌, length, sym, ap, subst, arith}
+use Rattle.std.proofs.Common.{◌≡◌, ◌<◌, length, refl, sym, ap, subst, arith}
 use Rattle.std.specs.Vec.Iter.{into_iter_items}
+use Rattle.std.proofs.lemmas.List.{get_or_read}
+use Rattle.std.proofs.lemmas.Option.{slice_get_within}
 use Rattle.dt_lists.specs.Lists.{AllIn, Has}
-use Rattle.dt_waits.specs.Graph.{GraphView}
+use Rattle.dt_waits.specs.Graph.{AllAreStuck, GraphView}
 use Rattle.dt_graph.specs.HeldInner.{kept_of}
+use Rattle.dt_graph.proofs.Bounds.{stuck_is_kept}
+use Rattle.dt_graph.proofs.QuestionAnswers.{named_stuck}
 use Rattle.dt_graph.proofs.RunOrder.{all_came, all_numbered, gathered, members_more, run_in_order}
 use Rattle.dt_graph.proofs.graph.Graph.in_order.Goals as goal
 use Rattle.dt_graph.proofs.graph.Graph.in_order.Goals.{in-Some+in_ok-push, in_default}
+
+pub get-requires : goal.get-requires
+get-requires c =
+    let g : GraphView = kept_of c.self.inside.names.ids c.self.inside.waits c.self.inside.classes.items in
+    stuck_is_kept c.self.inside.names.ids c.self.inside.waits c.self.inside.classes.items c.self.invariant c.in-Some.vertex
+    (named_stuck g c.args.ids.now c.loop-id.id-index _ c.self.invariant.stuck_within c.loop-id-test.true refl c.in-Some.vertex c.in-Some.ensures.once c.in-Some.ensures.number
+    (subst (λ g. AllAreStuck g c.args.ids.now) (sym c.self.view_is) c.requires.stuck))
 
 pub loop-id-preserved : goal.loop-id-preserved
 loop-id-preserved c =

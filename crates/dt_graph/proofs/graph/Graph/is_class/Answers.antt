@@ -1,9 +1,11 @@
 use Rattle.std.proofs.Common.{◌≡◌, ◌<◌, ◌^◌, ◌==◌, ap, length, subst, sym, arith}
 use Rattle.std.proofs.lemmas.List.{nil_from_length}
-use Rattle.dt_lists.specs.Lists.{AllIn}
+use Rattle.dt_lists.specs.Lists.{AllIn, Has}
+use Rattle.dt_lists.proofs.Callers.{all_map}
 use Rattle.dt_waits.specs.Among.{IsAmong}
 use Rattle.dt_waits.specs.Graph.{AreVerticesOf, GraphView}
 use Rattle.dt_waits.specs.Steps.{HaveSlots}
+use Rattle.dt_graph.proofs.Bounds.{stuck_there}
 use Rattle.dt_graph.proofs.ClassAnswers.{blocked_not_resolvable, class_told, empty_told, filled_told, stuck_slots, unstuck_not_resolvable, vertices_few, vertices_once}
 use Rattle.dt_graph.proofs.graph.Graph.is_class.Goals as goal
 
@@ -29,6 +31,13 @@ gather-requires-clause-slots c =
     let are : AreVerticesOf c.args.self.now c.args.ids.now c.in-Some.vertices.items = rw c.in-Some.is at c.in_ok-vertices.ensures in
     rw c.as_slice.ensures.value
     (subst (λ (g : GraphView). HaveSlots g.waiting g.vertices c.in-Some.vertices.items) (sym c.self.view_is) (stuck_slots c.args.self.now c.requires.known c.in-Some.vertices.items are.stuck))
+
+pub gather-requires-clause-kept : goal.gather-requires-clause-kept
+gather-requires-clause-kept c =
+    let are : AreVerticesOf c.args.self.now c.args.ids.now c.in-Some.vertices.items = rw c.in-Some.is at c.in_ok-vertices.ensures in
+    rw c.as_slice.ensures.value
+    (all_map _ _ c.in-Some.vertices.items (λ v h. (stuck_there c.self.inside.names.ids c.self.inside.waits c.self.inside.classes.items c.self.invariant v h).0)
+    (subst (λ (g : GraphView). AllIn (Has g.stuck) c.in-Some.vertices.items) (sym c.self.view_is) are.stuck))
 
 pub returns-then-not-is_empty : goal.returns-then-not-is_empty
 returns-then-not-is_empty c view resolved done k is =

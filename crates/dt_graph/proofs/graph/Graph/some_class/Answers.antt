@@ -30,6 +30,9 @@ gather-requires-clause-slots c =
     rw c.stuck-stuck.ensures.items
     (subst (λ (g : GraphView). HaveSlots g.waiting g.vertices g.stuck) (sym c.self.view_is) (stuck_slots c.args.self.now c.requires c.args.self.now.stuck (all_put _ c.args.self.now.stuck (λ v h. h))))
 
+pub gather-requires-clause-kept : goal.gather-requires-clause-kept
+gather-requires-clause-kept c = rw c.stuck-stuck.ensures.items c.self.invariant.stuck_kept
+
 pub source_class-requires : goal.source_class-requires
 source_class-requires c = rw c.as_slice.ensures.value (blocked_within _ _ _ _ c.in_ok-among.ensures)
 

@@ -1,16 +1,18 @@
-use Rattle.std.proofs.Common.{◌≡◌, ◌<◌, ◌+◌, ◌^◌, length, vec_capacity, sym, ap, subst, true≢false, arith, ◌∙◌}
-use Rattle.dt_lists.specs.Lists.{Has}
-use Rattle.dt_graph.specs.VerticesInner.{AreVerticesKept}
-use Rattle.dt_graph.specs.declared.vertices.State.TheVariants.{Ready}
-use Rattle.dt_graph.proofs.KeptVertices.{below_states, fits_place, has_room, put_in, puts, ready_laws}
+use Rattle.std.proofs.Common.{◌≡◌, ◌≤◌, ◌<◌, ◌+◌, ◌^◌, ◌++◌, [], ◌∷◌, length, set, vec_capacity, sym, ap, subst, true≢false, arith, ◌∙◌}
+use Rattle.std.proofs.lemmas.List.{length-set}
+use Rattle.dt_lists.specs.Lists.{AllIn, Has}
+use Rattle.dt_lists.proofs.Callers.{all_append}
+use Rattle.dt_graph.specs.VerticesInner.{IsVertexKept}
+use Rattle.dt_graph.specs.declared.kept.State.TheVariants.{Ready}
+use Rattle.dt_graph.proofs.KeptVertices.{fits_place, has_room, put_in, puts, ready_laws}
 use Rattle.dt_graph.proofs.vertices.Vertices.add_ready.Goals as goal
 
 pub overflow_cast-place : goal.overflow_cast-place
 overflow_cast-place c =
     let s = c.self.inside in
-    let kept = s.kept.items in
-    let lt = subst (λ v. c.args.number < length v.vertices) (sym c.self.view_is) c.requires.within in
-    let below = below_states kept c.args.number lt in
+    let states = s.records.states in
+    let kept = subst (λ v. IsVertexKept v c.args.number) (sym c.self.view_is) c.requires.within in
+    let below : c.args.number < length states = omega (arith, kept.1, c.self.invariant.sizes) in
     let absent : ¬ (Has s.ready.items c.args.number) = λ h. true≢false (sym (c.is_ready.ensures.1 (subst (λ v. Has v.ready c.args.number) c.self.view_is h)) ∙ c.if-not-is_ready.true) in
     let few : length s.ready.items + 1 < 2 ^ 32 = fits_place ready_laws _ _ _ _ _ c.self.invariant.are_ready c.self.invariant.are_stuck c.args.number below absent in
     omega (arith, few, c.len-place.ensures, s.ready.ok.0)
@@ -18,9 +20,9 @@ overflow_cast-place c =
 pub push_reserved-requires : goal.push_reserved-requires
 push_reserved-requires c =
     let s = c.self.inside in
-    let kept = s.kept.items in
-    let lt = subst (λ v. c.args.number < length v.vertices) (sym c.self.view_is) c.requires.within in
-    let below = below_states kept c.args.number lt in
+    let states = s.records.states in
+    let kept = subst (λ v. IsVertexKept v c.args.number) (sym c.self.view_is) c.requires.within in
+    let below : c.args.number < length states = omega (arith, kept.1, c.self.invariant.sizes) in
     let absent : ¬ (Has s.ready.items c.args.number) = λ h. true≢false (sym (c.is_ready.ensures.1 (subst (λ v. Has v.ready c.args.number) c.self.view_is h)) ∙ c.if-not-is_ready.true) in
     let room : length s.ready.items < vec_capacity s.ready = has_room ready_laws _ _ _ _ _ c.self.invariant.are_ready c.self.invariant.are_stuck c.args.number below absent in
     omega (arith, room, s.ready.ok.0)
@@ -28,22 +30,29 @@ push_reserved-requires c =
 pub invariant_of-self : goal.invariant_of-self
 invariant_of-self c =
     let s = c.self.inside in
-    let kept = s.kept.items in
-    let lt = subst (λ v. c.args.number < length v.vertices) (sym c.self.view_is) c.requires.within in
-    let below = below_states kept c.args.number lt in
+    let states = s.records.states in
+    let kept = subst (λ v. IsVertexKept v c.args.number) (sym c.self.view_is) c.requires.within in
+    let below : c.args.number < length states = omega (arith, kept.1, c.self.invariant.sizes) in
     let absent : ¬ (Has s.ready.items c.args.number) = λ h. true≢false (sym (c.is_ready.ensures.1 (subst (λ v. Has v.ready c.args.number) c.self.view_is h)) ∙ c.if-not-is_ready.true) in
     let place : c.len-place.result ≡ length s.ready.items = omega (arith, c.len-place.ensures, s.ready.ok.0) in
+    let e = c.set_state.ensures in
     let both = put_in ready_laws _ _ _ _ _ c.self.invariant.are_ready c.self.invariant.are_stuck c.args.number below absent c.ranges.number.fits
     (λ h. c.requires.apart (subst (λ v. Has v.stuck c.args.number) c.self.view_is h)) _ c.push_reserved.ensures.room _
-    (c.set_state.ensures.states ∙ ap (λ p. Rattle.std.proofs.Common.set (Rattle.dt_graph.specs.VerticesInner.states_of kept) c.args.number (Ready p)) place) in
-    rw c.push_reserved.ensures.added (record { are_ready = both.0; are_stuck = both.1 })
+    (ap (λ x. x.states) e ∙ ap (λ p. set states c.args.number (Ready p)) place) in
+    rw c.push_reserved.ensures.added (record {
+      are_ready = both.0;
+      are_stuck = both.1;
+      sizes = ap (λ x. length x.states) e ∙ length-set states c.args.number (Ready c.len-place.result) ∙ c.self.invariant.sizes ∙ sym (ap (λ x. length x.vertices) e);
+      ready_kept = subst (λ x. AllIn (λ n. x.first ≤ n) (s.ready.items ++ c.args.number ∷ [])) (sym e) (all_append _ s.ready.items (c.args.number ∷ []) c.self.invariant.ready_kept (kept.0, tt));
+      stuck_kept = subst (λ x. AllIn (λ n. x.first ≤ n) s.stuck.items) (sym e) c.self.invariant.stuck_kept;
+    })
 
 pub returns-then-not-is_ready-clause-put : goal.returns-then-not-is_ready-clause-put
 returns-then-not-is_ready-clause-put c =
     let s = c.self.inside in
-    let kept = s.kept.items in
-    let lt = subst (λ v. c.args.number < length v.vertices) (sym c.self.view_is) c.requires.within in
-    let below = below_states kept c.args.number lt in
+    let states = s.records.states in
+    let kept = subst (λ v. IsVertexKept v c.args.number) (sym c.self.view_is) c.requires.within in
+    let below : c.args.number < length states = omega (arith, kept.1, c.self.invariant.sizes) in
     let absent : ¬ (Has s.ready.items c.args.number) = λ h. true≢false (sym (c.is_ready.ensures.1 (subst (λ v. Has v.ready c.args.number) c.self.view_is h)) ∙ c.if-not-is_ready.true) in
     rw (← c.self.view_is, c.push_reserved.ensures.added)
     (puts ready_laws _ _ _ _ _ c.self.invariant.are_ready c.self.invariant.are_stuck c.args.number below absent)

@@ -1,17 +1,38 @@
-use Rattle.std.proofs.Common.{arith}
+use Rattle.std.proofs.Common.{◌≤◌, ℕ, length, ap, arith}
 use Rattle.std.proofs.lemmas.List.{length-map}
 use Rattle.dt_lists.proofs.Callers.{few_below}
-use Rattle.dt_graph.specs.VerticesInner.{ready_place, states_of, stuck_place}
+use Rattle.dt_graph.specs.VerticesInner.{ready_place, stuck_place}
+use Rattle.dt_graph.proofs.KeptVertices.{kept_same}
 use Rattle.dt_graph.proofs.vertices.Vertices.reserve.Goals as goal
 
-pub overflow_sub-kept : goal.overflow_sub-kept
-overflow_sub-kept c =
+self_le : (n : ℕ) → n ≤ n
+self_le n = omega arith
+
+pub overflow_sub-records : goal.overflow_sub-records
+overflow_sub-records c =
     let s = c.self.inside in
     let few = few_below _ s.ready.items c.self.invariant.are_ready.once c.self.invariant.are_ready.within in
-    omega (arith, few, length-map (states_of s.kept.items) ready_place, length-map s.kept.items (λ k. k.state), c.len.ensures, c.len-kept.ensures, s.ready.ok.0, s.kept.ok.0)
+    omega (arith, few, length-map s.records.states ready_place, c.self.invariant.sizes, c.len.ensures, c.len-records.ensures, s.ready.ok.0)
 
-pub overflow_sub-kept-2 : goal.overflow_sub-kept-2
-overflow_sub-kept-2 c =
+pub overflow_sub-records-2 : goal.overflow_sub-records-2
+overflow_sub-records-2 c =
     let s = c.self.inside in
     let few = few_below _ s.stuck.items c.self.invariant.are_stuck.once c.self.invariant.are_stuck.within in
-    omega (arith, few, length-map (states_of s.kept.items) stuck_place, length-map s.kept.items (λ k. k.state), c.len-2.ensures, c.len-kept.ensures, s.stuck.ok.0, s.kept.ok.0)
+    omega (arith, few, length-map s.records.states stuck_place, c.self.invariant.sizes, c.len-2.ensures, c.len-records.ensures, s.stuck.ok.0)
+
+pub invariant_of-self-in_err-reserve-2 : goal.invariant_of-self-in_err-reserve-2
+invariant_of-self-in_err-reserve-2 c =
+    let e = c.reserve.ensures.same in
+    rw c.reserve-2.ensures.items (kept_same c.self.inside.records c.reserve.new.self _ _ _ _ _ _ c.self.invariant (ap (λ x. x.states) e) (ap (λ x. length x.vertices) e) (ap (λ x. x.first) e) c.reserve-2.ensures.capacity (self_le _))
+
+pub invariant_of-self-in_err-reserve-3 : goal.invariant_of-self-in_err-reserve-3
+invariant_of-self-in_err-reserve-3 c =
+    let e = c.reserve.ensures.same in
+    rw (c.reserve-2.ensures.items, c.reserve-3.ensures.items)
+    (kept_same c.self.inside.records c.reserve.new.self _ _ _ _ _ _ c.self.invariant (ap (λ x. x.states) e) (ap (λ x. length x.vertices) e) (ap (λ x. x.first) e) c.reserve-2.ensures.capacity (c.reserve-3.ensures.capacity))
+
+pub invariant_of-self-2 : goal.invariant_of-self-2
+invariant_of-self-2 c =
+    let e = c.reserve.ensures.same in
+    rw (c.reserve-2.ensures.items, c.reserve-3.ensures.items)
+    (kept_same c.self.inside.records c.reserve.new.self _ _ _ _ _ _ c.self.invariant (ap (λ x. x.states) e) (ap (λ x. length x.vertices) e) (ap (λ x. x.first) e) c.reserve-2.ensures.capacity (c.reserve-3.ensures.capacity))

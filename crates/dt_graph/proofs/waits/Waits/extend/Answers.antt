@@ -1,4 +1,4 @@
-use Rattle.std.proofs.Common.{◌∙◌, ◌<◌, sym, ap, subst}
+use Rattle.std.proofs.Common.{◌≡◌, ◌∙◌, ◌<◌, sym, ap, subst}
 use Rattle.dt_waits.specs.Graph.{vertex_at}
 use Rattle.dt_graph.specs.SmallStepsInner.{Enters, Sorts}
 use Rattle.dt_graph.proofs.PartsOfVertices.{added_again}
@@ -20,5 +20,5 @@ returns-clause-extended c ids classes size once named =
     (subst (λ l. Sorts v grown.vertices l old.vertices.ready old.vertices.stuck new.vertices.ready new.vertices.stuck) (sym c.sort.ensures.degrees)
     (subst (λ r. Sorts v grown.vertices grown.degrees r old.vertices.stuck new.vertices.ready new.vertices.stuck) (ap (λ w. w.ready) c.grow.ensures)
     (subst (λ s. Sorts v grown.vertices grown.degrees grown.ready s new.vertices.ready new.vertices.stuck) (ap (λ w. w.stuck) c.grow.ensures) c.sort.ensures.sorted))) in
-    added_again part ids classes old new once (sym size) (c.requires.sizes ∙ sym size) slots count v (subst (λ n. v < n) (sym size) c.requires.vertex) named c.requires.missing entered
+    added_again part ids classes old new once (sym size) (c.requires.sizes ∙ sym size) slots count v (subst (λ n. v < n) (sym size) c.requires.vertex.1) named c.requires.missing entered
     (c.sort.ensures.vertices ∙ ap (λ w. w.vertices) c.grow.ensures) (c.sort.ensures.degrees ∙ ap (λ w. w.degrees) c.grow.ensures) sorted

@@ -3,6 +3,7 @@ use Rattle.dt_graph.proofs.waits.Waits.leave.Goals as goal
 
 pub returns : goal.returns
 returns c = record {
+  first = c.leave.ensures.first;
   left = λ ids classes. record {
     ids = refl;
     vertices = c.leave.ensures.same;

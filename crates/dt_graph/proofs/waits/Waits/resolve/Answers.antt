@@ -10,19 +10,18 @@ use Rattle.dt_graph.proofs.waits.Waits.resolve.Goals as goal
 pub put_in_class-requires-clause-within : goal.put_in_class-requires-clause-within
 put_in_class-requires-clause-within c =
     let below = all_get _ _ c.requires.within _ (has_at {A = ℕ} _ _ 0 c.loop-vertex-test.true) in
-    omega (arith, below, c.loop-vertex.invariant.put.size)
+    let kept = all_get _ _ c.requires.kept _ (has_at {A = ℕ} _ _ 0 c.loop-vertex-test.true) in
+    (omega (arith, kept, c.loop-vertex.invariant.first), omega (arith, below, c.loop-vertex.invariant.put.size))
 
 pub take_stuck-requires : goal.take_stuck-requires
 take_stuck-requires c =
-    let below = all_get _ _ c.requires.within _ (has_at {A = ℕ} _ _ 0 c.loop-vertex-test.true) in
     let v = get_or c.args.members.now c.loop-vertex.vertex-index 0 in
-    omega (
-      arith,
-      below,
-      c.loop-vertex.invariant.put.size,
-      ap (λ x. length x.vertices) c.put_in_class.ensures,
-      Rattle.std.proofs.lemmas.List.length-set c.loop-vertex.self.vertices.vertices v
-          (record (vertex_at c.loop-vertex.self.vertices.vertices v) { class = Some c.args.class }),
+    let now = c.loop-vertex.self.vertices in
+    let below = all_get _ _ c.requires.within _ (has_at {A = ℕ} _ _ 0 c.loop-vertex-test.true) in
+    let kept = all_get _ _ c.requires.kept _ (has_at {A = ℕ} _ _ 0 c.loop-vertex-test.true) in
+    let size = Rattle.std.proofs.lemmas.List.length-set now.vertices v (record (vertex_at now.vertices v) { class = Some c.args.class }) in (
+      omega (arith, kept, c.loop-vertex.invariant.first, ap (λ x. x.first) c.put_in_class.ensures),
+      omega (arith, below, c.loop-vertex.invariant.put.size, ap (λ x. length x.vertices) c.put_in_class.ensures, size),
     )
 
 pub loop-vertex-preserved : goal.loop-vertex-preserved
@@ -40,13 +39,16 @@ loop-vertex-preserved c =
           (putting_on _ _ _ c.loop-vertex-test.true _ _ _ _ _ k.put within (record (vertex_at now.vertices v) { class = Some c.args.class }) (record { rank = refl; missing = refl; class = refl; slots = refl }) gone);
       degrees = ap (λ x. x.degrees) c.take_stuck.ensures.same ∙ ap (λ x. x.degrees) c.put_in_class.ensures ∙ k.degrees;
       queues = k.queues;
+      first = ap (λ x. x.first) c.take_stuck.ensures.same ∙ ap (λ x. x.first) c.put_in_class.ensures ∙ k.first;
       ready = ap (λ x. x.ready) c.take_stuck.ensures.same ∙ ap (λ x. x.ready) c.put_in_class.ensures ∙ k.ready;
     }
 
 pub add_ready-requires-clause-within : goal.add_ready-requires-clause-within
 add_ready-requires-clause-within c =
-    let below = all_get _ _ c.requires.within _ (has_place c.args.members.now 0 c.in-Some.first.now (sym c.in-Some.ensures.value)) in
-    omega (arith, below, c.loop-vertex.invariant.put.size)
+    let there = has_place c.args.members.now 0 c.in-Some.first.now (sym c.in-Some.ensures.value) in
+    let below = all_get _ _ c.requires.within _ there in
+    let kept = all_get _ _ c.requires.kept _ there in
+    (omega (arith, kept, c.loop-vertex.invariant.first), omega (arith, below, c.loop-vertex.invariant.put.size))
 
 pub add_ready-requires-clause-apart : goal.add_ready-requires-clause-apart
 add_ready-requires-clause-apart c h =
@@ -66,6 +68,7 @@ returns-in-Some c =
     subst (λ l. IsPutting c.args.class c.args.members.now old.vertices l old.stuck new.stuck) (sym (ap (λ x. x.vertices) same))
     (subst (λ l. IsPutting c.args.class c.args.members.now old.vertices now.vertices old.stuck l) (sym (ap (λ x. x.stuck) same)) put) in
     record {
+      first = ap (λ x. x.first) same ∙ k.first;
       resolved = λ ids classes. resolves_held _ _ ids _ _ _ _ _ _ _ _ _ _ classes held (ap (λ x. x.degrees) same ∙ k.degrees) k.queues
           (first_readied c.args.members.now c.in-Some.first.now old.ready new.ready (sym c.in-Some.ensures.value) (subst (λ r. PutsIn c.in-Some.first.now r new.ready) k.ready c.add_ready.ensures.put));
     }
@@ -76,6 +79,7 @@ returns-in_default c =
     let old = c.args.self.now.vertices in let now = c.loop-vertex.self.vertices in
     let put = subst (λ l. IsPutting c.args.class l old.vertices now.vertices old.stuck now.stuck) (take_all _ _ c.loop-vertex-test.false) k.put in
     record {
+      first = k.first;
       resolved = λ ids classes. resolves_held _ _ ids _ _ _ _ _ _ _ _ _ _ classes put k.degrees k.queues
           (subst (λ r. (v : ℕ) → Has r v ↔ Has old.ready v ⊎ (slice_get c.args.members.now 0 ≡ Some v)) (sym k.ready)
           (none_readied c.args.members.now old.ready (sym c.in_default.ensures.value)));

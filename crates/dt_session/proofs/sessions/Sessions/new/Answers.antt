@@ -1,13 +1,13 @@
 use Rattle.std.proofs.Common.{◌≡◌, ◌-◌, ◌∙◌, List, length, drop, map, sym, ap, subst, arith}
 use Rattle.std.proofs.lemmas.Iterator.Adapters.{YieldsList-from_rev_slice}
 use Rattle.std.proofs.lemmas.Iterator.Consumers.{YieldsList-end, YieldsList-turn}
-use Rattle.std.proofs.lemmas.List.{length-reverse}
+use Rattle.std.proofs.lemmas.List.{length-map, length-reverse}
 use Rattle.dt_lists.specs.Lists.{AllIn}
 use Rattle.dt_access.specs.Orders.{HasAscendingKeys}
 use Rattle.dt_workload.specs.declared.Session.{Session}
 use Rattle.dt_session.specs.Eager.{sessions_at}
 use Rattle.dt_session.specs.Sessions.{IsSoundSeat, idle_seat}
-use Rattle.dt_session.proofs.SessionsLaws.{ascends, idle_sound, passed_over, put_among}
+use Rattle.dt_session.proofs.SessionsLaws.{ascends, idle_sound, length_at, passed_over, put_among}
 use Rattle.dt_session.proofs.sessions.Sessions.new.Goals as goal
 
 pub loop-session-preserved : goal.loop-session-preserved
@@ -42,6 +42,12 @@ invariant_of-result c =
     let sessions : List Session = c.args.workload.now.sessions in
     let all = YieldsList-end (YieldsList-from_rev_slice {s = c.into_iter-session-iterator.result} sessions cc) c.loop-session.yielded c.loop-session.session-iterator c.loop-session.yielded_by _ _ c.in-None.is c.next.ensures.steps in
     let whole : length sessions - length c.loop-session.yielded ≡ 0 = omega (arith, all.1, length-reverse sessions) in
-    let listed : c.in_ok-listed.field-0.entries ≡ c.loop-session.seats.entries = c.in_ok-listed.ensures.entries in
-    let each = subst (AllIn (λ p. IsSoundSeat p.1)) (sym (listed ∙ c.loop-session.invariant.0 ∙ ap (λ k. map idle_seat (sessions_at c.args.region (drop k sessions))) whole)) (idle_sound c.args.region sessions c.requires.few) in
-    record { few = c.in_ok-listed.ensures.few; ascending = subst HasAscendingKeys (sym listed) c.loop-session.invariant.1; each = each }
+    let listed : c.in_ok-listed.field-0.entries ≡ c.loop-session.seats.entries = c.in_ok-listed.ensures in
+    let seats : c.in_ok-listed.field-0.entries ≡ map idle_seat (sessions_at c.args.region sessions) =
+    listed ∙ c.loop-session.invariant.0 ∙ ap (λ k. map idle_seat (sessions_at c.args.region (drop k sessions))) whole in
+    let count = ap length seats ∙ length-map (sessions_at c.args.region sessions) idle_seat ∙ length_at c.args.region sessions in
+    record {
+      few = omega (arith, count, c.requires.sessions);
+      ascending = subst HasAscendingKeys (sym listed) c.loop-session.invariant.1;
+      each = subst (AllIn (λ p. IsSoundSeat p.1)) (sym seats) (idle_sound c.args.region sessions c.requires.few);
+    }

@@ -1,28 +1,15 @@
-use Rattle.std.proofs.Common.{List, ◌++◌, ap, subst, ◌∙◌}
-use Rattle.std.specs.List.{IsDistinct}
-use Rattle.std.specs.Map.{keys_of}
-use Rattle.dt_access.specs.Clash.{Bytes, same_key}
-use Rattle.dt_text.specs.declared.Value.{Value}
-use Rattle.dt_table.specs.RowsInner.{unchanged_keys}
-use Rattle.dt_table.proofs.Layers.{distinct-layered, keys_with_value-layered}
+use Rattle.std.proofs.Common.{◌++◌, ap, sym, ◌∙◌}
+use Rattle.dt_table.specs.StoredUnitInner.{keys_with_value}
+use Rattle.dt_table.proofs.Layers.{distinct-others, keys_with_value-append}
 use Rattle.dt_table.proofs.rows.Rows.keys_with_value.Goals as goal
 
 pub returns-clause-keys : goal.returns-clause-keys
 returns-clause-keys c =
-    let changed = c.self.inside.changed.entries in
-    let rows = c.self.inside.opening.value.entries in
-    let lent = ap (λ m. m.entries) c.deref.ensures in
-    rw (← c.self.view_is) (
-    c.in_ok-add_unchanged.ensures.keys
-    ∙ ap (λ (m : List (Bytes × Value)). c.in_ok-keys.keys.items ++ unchanged_keys changed m) lent
-    ∙ ap (λ l. l ++ unchanged_keys changed rows) c.in_ok-keys.ensures.keys
-    ∙ keys_with_value-layered changed rows
-    )
+    let a = c.self.inside in
+    rw (← c.self.view_is) (c.in_ok-add_keys.ensures.keys ∙ ap (λ l. l ++ keys_with_value a.others.entries) c.in_ok-keys.ensures.keys
+    ∙ sym (keys_with_value-append a.opened a.others.entries))
 
 pub returns-clause-once : goal.returns-clause-once
 returns-clause-once c =
-    let changed = c.self.inside.changed.entries in
-    let rows = c.self.inside.opening.value.entries in
-    let lent = ap (λ m. m.entries) c.deref.ensures in
-    let once = subst (λ (m : List (Bytes × Value)). IsDistinct same_key (keys_of m)) lent c.in_ok-add_unchanged.ensures.once in
-    rw (← c.self.view_is) (distinct-layered changed rows c.in_ok-keys.ensures.once once)
+    let a = c.self.inside in
+    rw (← c.self.view_is) (distinct-others a.opened a.others.entries c.self.invariant c.in_ok-keys.ensures.once c.in_ok-add_keys.ensures.once)

@@ -1,0 +1,80 @@
+-- `nothing` picks no record. Assumes `Logic`.
+use Rattle.std.proofs.Common.{◌<◌, ◌^◌, ℕ, List, [], ◌∷◌, refl, sym, subst}
+use seplogic.Ra.Ura.{Ura}
+use mir.Syntax.{Fn, w8}
+use mir.Val.{Val, vint}
+use base.Logic.{SProp, ent, via, fst∗, snd∗}
+use prog.Memory.{Memory}
+use prog.Routine.{Routine}
+use prog.Wp.{Calls, Loops, WpFn, Tables}
+use contract.Monad.{Fun, fact_use}
+use contract.Running.{tables, tables_of}
+use sound.WpLaws.{WpFn-mono}
+use types.Logic.{Logic, sem}
+use types.Kit.{‵, raw, ◌⊛◌, ◌$◌, ◌∵◌, !, qed, move, keep, drop, split, fjoin, suffices, done}
+use types.Part.{agg}
+use types.Run.{enter, returns, no_more}
+use types.ByLocal.{alloc_all, pass_all, free_all, look_at, sets}
+use denote.Exit.{yes}
+use denote.RattleType.{RattleType, owns}
+use denote.Builtin.{u8}
+use denote.Laws.{Are, Ises, owns_show, showss}
+use denote.Signature.{plain, types_at}
+use denote.Steps.{nothing}
+use denote.Triple.Clauses.{Clauses, Ended, closing}
+use denote.Triple.Entry.{alive, on_entry}
+use denote.Triple.Spec.{Meets, triple_of}
+use denote.Triple.Table.{entered}
+use denote.Triple.Walked.{says, Stays, stay_dropped, walk_of, ends_at, walk_Meets, Goes-dropped}
+use Rattle.dt_graph.proofs.NoFields.{none, none_made}
+use Rattle.dt_graph.specs.contracts.gone.Gone as Gone
+use Rattle.dt_graph.specs.contracts.gone.Gone.nothing as F
+use Rattle.dt_graph.specs.contracts.gone.Gone.nothing.Key.{name as #self}
+use Rattle.dt_graph.proofs.gone.Gone.nothing.Statement as stated
+use Rattle.dt_graph.proofs.gone.Gone.nothing.Code as code
+
+abbrev function : Fn
+function = code.function
+
+abbrev ended : Ended
+ended = F.ended
+
+abbrev stayed : Stays ended.signature.params ended.kept
+stayed = tt
+
+module _ {M : Type 1} {𝓤 : Ura M} (𝓛 : Logic 𝓤) (at_mem : Memory → SProp 𝓤) (run : Routine → Fun 𝓤) where
+  open 𝓛 use {H}
+
+  abbrev held : Clauses 𝓤 ended
+  held = F.clauses 𝓛 at_mem run
+
+  module _ (C : Calls 𝓤 H) (Λ : Loops 𝓤 H) (z : (walk_of 𝓛 ended stayed held).Ghost) where
+    abbrev Post : Val → SProp 𝓤
+    Post = (walk_of 𝓛 ended stayed held).post z
+
+    abbrev toks : SProp 𝓤
+    toks = alive 𝓛 ended.signature z.0.0 z.0.1
+
+    walks : ent 𝓤 ((walk_of 𝓛 ended stayed held).pre z) (WpFn 𝓤 H C Λ function ((walk_of 𝓛 ended stayed held).args z) Post)
+    walks =
+        let a = z.0.3 in
+        let vss = z.0.4 in
+        let gone : (Gone.the_row).Denot = record { records = [] } in
+        qed 𝓛 ((raw toks ⊛ ‵ (owns (types_at ended.signature.params z.0.0) a vss)) ∷ raw ((held z.0.0 a).requires z.1) ∷ []) ∵
+        keep ! (0 ∷ []) $ split ! $ keep ! (0 ∷ []) $
+        enter ! C Λ function [] Post $ alloc_all ! (λ l. pass_all ! refl tt $
+        sets ! (agg ! (no_more !)) refl (tt, tt) $
+        nothing ! $ none_made ! $ fjoin ! $
+        returns ! (look_at ! 0 refl) $ free_all ! refl $
+        suffices ! _ (ends_at 𝓛 ended stayed held z none gone tt tt) $ says ! refl $
+        nothing ! $ move ! (2 ∷ 0 ∷ 1 ∷ []) $ done !)
+
+  meets : (𝓣 : Tables 𝓤 H) → Meets 𝓛 ended.signature (WpFn 𝓤 H 𝓣.C 𝓣.Λ function) (closing 𝓛 ended held)
+  meets 𝓣 = walk_Meets 𝓛 ended stayed tt held (WpFn 𝓤 H 𝓣.C 𝓣.Λ function) (WpFn-mono 𝓤 H 𝓛.laws 𝓣 function) (walks 𝓣.C 𝓣.Λ)
+
+pub nothing_spec : {M : Type 1} → stated.statement M
+unfolding tables_of
+nothing_spec 𝓤 𝓛 𝓜 𝓡 wired =
+    let 𝓣 : Tables 𝓤 𝓛.H = tables_of 𝓤 𝓛.H 𝓜 (tables 𝓤 𝓛.H 𝓜 𝓡 𝓡.env) in
+    entered 𝓤 𝓛.H (triple_of 𝓛 ended.signature (closing 𝓛 ended (held 𝓛 𝓜.mem 𝓡.returns))) 𝓣.C 𝓣.Λ #self function
+    (code.unfolded 𝓤 𝓛.H 𝓜 𝓡 wired) (meets 𝓛 𝓜.mem 𝓡.returns 𝓣)

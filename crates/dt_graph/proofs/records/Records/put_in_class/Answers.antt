@@ -1,0 +1,24 @@
+use Rattle.std.proofs.Common.{◌++◌, ◌-◌, Some, set, refl, sym, ap, subst, ◌∙◌}
+use Rattle.std.proofs.lemmas.List.{map-set}
+use Rattle.std.specs.VecDeque.{deque_capacity, deque_len}
+use Rattle.dt_graph.specs.declared.kept.Kept.{Kept}
+use Rattle.dt_graph.specs.VerticesInner.{IsIn, degrees_of, states_of, vertices_of}
+use Rattle.dt_graph.proofs.KeptRecords.{read_at, set_at}
+use Rattle.dt_graph.proofs.KeptVertices.{degrees_beside, states_beside, vertex_read}
+use Rattle.dt_graph.proofs.records.Records.put_in_class.Goals as goal
+
+pub returns : goal.returns
+returns c =
+    let s = c.self.inside in
+    let items = s.gone.records ++ s.kept.items in
+    let n = c.args.number in
+    let k = c.index_mut.result.now in
+    let r = subst (λ v. IsIn v n) (sym c.self.view_is) c.requires.within in
+    let is = read_at s.gone.records s.kept.items s.first n c.self.invariant.after r.0 r.1 k c.index_mut.ensures.value in
+    let now : Kept = record k { vertex = record k.vertex { class = c.at.result } } in
+    let at = set_at s.gone.records s.kept.items s.first n c.self.invariant.after r.0 r.1 now in
+    let vertices = ap vertices_of at ∙ map-set (λ x. x.vertex) items n now ∙ ap (λ p. set (vertices_of items) n (record k.vertex { class = p })) c.at.ensures
+    ∙ ap (λ x. set (vertices_of items) n (record x { class = Some c.args.class })) (vertex_read items n r.1 k is) in
+    let degrees = ap degrees_of at ∙ degrees_beside items n r.1 k is now refl in
+    let states = ap states_of at ∙ states_beside items n r.1 k is now refl in
+    rw (← c.self.view_is) (λ i. record { vertices = vertices i; degrees = degrees i; states = states i; first = s.first; room = deque_capacity s.kept - deque_len s.kept })
