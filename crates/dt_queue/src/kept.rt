@@ -8,7 +8,7 @@ ghost use Rattle.dt_queue.specs.NextInner.{IsFirstAfter, IsKnownNext};
 use crate::cell::Cell;
 use crate::lane::Lane;
 use crate::lanes::{first_between, last_between, push_mark, remove_mark};
-use crate::listed::Listed;
+use crate::listed::ListedRows;
 use crate::mark::{Mark, Marks};
 use crate::nearest::{near_row, near_rows, near_write, number_or, only};
 use crate::next::Next;
@@ -25,7 +25,7 @@ use std::alloc::Global;
 pub struct Kept {
     pub cells: Slab<Cell>,
     pub rows: Rows,
-    pub listed: Listed,
+    pub listed: ListedRows,
     pub wholes: Vec<Lane>,
     pub next_number: u64,
 }
@@ -44,7 +44,7 @@ impl Kept {
         Kept {
             cells: Slab::new(alloc),
             rows: Rows::new(alloc),
-            listed: Listed::new(alloc),
+            listed: ListedRows::new(alloc),
             wholes: Vec::new(alloc),
             next_number: 1,
         }

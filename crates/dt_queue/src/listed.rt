@@ -12,12 +12,12 @@ use std::marker::Model;
 /// stays listed when nothing waits in it any more, until something comes that takes its granule whole. So most pushes find the row
 /// listed, as its flag tells, and a removal changes nothing here.
 #[derive(Drop)]
-pub struct Listed {
+pub struct ListedRows {
     rows: Vec<Vec<usize>>,
     flags: Vec<bool>,
 }
 
-impl Model for Listed {
+impl Model for ListedRows {
     ghost use Rattle.std.specs.Prelude.{List, ℕ, map};
     ghost use Rattle.dt_queue.specs.ListedInner.{AreFlagged};
 
@@ -28,14 +28,14 @@ impl Model for Listed {
     ghost invariant = { λ l. AreFlagged (map (λ r. r.items) l.rows.items) l.flags.items };
 }
 
-impl Listed {
+impl ListedRows {
     ghost use Rattle.dt_queue.specs.ListedInner.{IsInGranule, IsListed, ListsRow, SameRows, Tidies, rows_at};
 
     /// No row is listed. Takes no memory.
     pub fn new(alloc: Global) -> Self
         ensures { result ≡ [] }
     {
-        Listed {
+        ListedRows {
             rows: Vec::new(alloc),
             flags: Vec::new(alloc),
         }

@@ -3,7 +3,7 @@ use Rattle.std.proofs.lemmas.List.{length-map, map-set}
 use Rattle.dt_lists.specs.Lists.{Has}
 use Rattle.dt_queue.specs.ListedInner.{IsListed, rows_at}
 use Rattle.dt_queue.proofs.RowSets.{flags_kept, flags_put, row_put, told_at, true_no, within_room}
-use Rattle.dt_queue.proofs.listed.Listed.add.Goals as goal
+use Rattle.dt_queue.proofs.listed.ListedRows.add.Goals as goal
 
 pub invariant_of-self : goal.invariant_of-self
 invariant_of-self c = flags_kept (map (λ r. r.items) c.self.inside.rows.items) c.self.inside.flags.items c.self.invariant _ _ c.make_list.ensures.same (λ r. refl)

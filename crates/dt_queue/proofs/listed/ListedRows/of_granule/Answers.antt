@@ -2,7 +2,7 @@ use Rattle.std.proofs.Common.{◌≡◌, ◌<◌, ◌≤◌, [], slice_index_or,
 use Rattle.std.proofs.lemmas.List.{length-map}
 use Rattle.dt_lists.specs.Lists.{Distinct}
 use Rattle.dt_queue.proofs.RowSets.{past, told_at}
-use Rattle.dt_queue.proofs.listed.Listed.of_granule.Goals as goal
+use Rattle.dt_queue.proofs.listed.ListedRows.of_granule.Goals as goal
 
 pub returns-in-Some : goal.returns-in-Some
 returns-in-Some c =

@@ -5,7 +5,7 @@ use Rattle.std.specs.List.{filter}
 use Rattle.dt_queue.specs.TableInner.{lanes_read, lanes_written}
 use Rattle.dt_queue.specs.ListedInner.{is_used}
 use Rattle.dt_queue.proofs.RowSets.{flags_tidied, rows_flagged, told_at}
-use Rattle.dt_queue.proofs.listed.Listed.tidy.Goals as goal
+use Rattle.dt_queue.proofs.listed.ListedRows.tidy.Goals as goal
 
 pub flag_used-requires : goal.flag_used-requires
 flag_used-requires c =
