@@ -3,14 +3,13 @@ ghost use Rattle.dt_access.specs.Orders.{HasAscendingKeys};
 
 use crate::access::Mode;
 use crate::copies::{TryCopy, copy_items};
-use crate::shared::Shared;
 use dt_text::{Key, NoMemory};
 use std::alloc::Global;
 use std::marker::Model;
 use std::slice::from_ref;
 
 /// Keys with their modes, in ascending order of the keys' bytes; so no key stands twice. One alone, as most parts have, lies in
-/// the list itself; more are shared with its copies. A copy takes no memory.
+/// the list itself, and takes no memory.
 #[derive(Debug, Drop)]
 pub struct Keys {
     alloc: Global,
@@ -23,7 +22,7 @@ enum Form {
     /// One alone.
     One((Key, Mode)),
     /// Any number of them, elsewhere.
-    Many(Shared<(Key, Mode)>),
+    Many(Vec<(Key, Mode)>),
 }
 
 impl Model for Keys {
@@ -46,7 +45,7 @@ impl Keys {
     {
         Keys {
             alloc,
-            form: Form::Many(Shared::new(alloc)),
+            form: Form::Many(Vec::new(alloc)),
         }
     }
 
@@ -60,20 +59,14 @@ impl Keys {
         }
     }
 
-    /// The keys of a vector, which stand in order there.
-    pub fn from_vec(alloc: Global, mut items: Vec<(Key, Mode)>) -> Result<Self, NoMemory>
+    /// The keys of a vector, which stand in order there. Takes no memory.
+    pub fn from_vec(alloc: Global, items: Vec<(Key, Mode)>) -> Self
         requires { HasAscendingKeys items.items }
-        ensures { IfOk result (λ keys. keys ≡ items.items) }
+        ensures { result ≡ items.items }
     {
-        if items.len() > 1 {
-            return Ok(Keys {
-                alloc,
-                form: Form::Many(Shared::from_vec(alloc, items)?),
-            });
-        }
-        match items.pop() {
-            Some(item) => Ok(Keys::one(alloc, item)),
-            None => Ok(Keys::new(alloc)),
+        Keys {
+            alloc,
+            form: Form::Many(items),
         }
     }
 
@@ -83,16 +76,14 @@ impl Keys {
         ensures added { OnOk result (self.new ≡ self.old ++ item ∷ []) }
         ensures same { OnErr result (self.new ≡ self.old) }
     {
-        if self.as_slice().is_empty() {
-            self.form = Form::One(item);
-            return Ok(());
+        match &mut self.form {
+            Form::One(first) => {
+                let both = pair(self.alloc, first, item)?;
+                self.form = Form::Many(both);
+            }
+            Form::Many(items) if items.is_empty() => self.form = Form::One(item),
+            Form::Many(items) => items.push(item)?,
         }
-        if let Form::Many(items) = &mut self.form {
-            return items.push(item);
-        }
-        let mut items = copy_items(self.alloc, self.as_slice())?;
-        items.push(item)?;
-        self.form = Form::Many(Shared::from_vec(self.alloc, items)?);
         Ok(())
     }
 
@@ -107,17 +98,31 @@ impl Keys {
         }
     }
 
-    /// An equal list. Takes no memory.
+    /// An equal list. That of one key takes no memory.
     pub fn copy(&self, alloc: Global) -> Result<Self, NoMemory>
         ensures { IfOk result (λ copied. copied ≡ self.now) }
     {
         let form = match &self.form {
             Form::One(item) => Form::One(item.copy(alloc)?),
-            Form::Many(items) => Form::Many(items.copy(alloc)?),
+            Form::Many(items) => Form::Many(copy_items(alloc, items.as_slice())?),
         };
         Ok(Keys {
             alloc: self.alloc,
             form,
         })
     }
+}
+
+/// A copy of one key with its mode, and another.
+fn pair(
+    alloc: Global,
+    first: &(Key, Mode),
+    second: (Key, Mode),
+) -> Result<Vec<(Key, Mode)>, NoMemory>
+    ensures { IfOk result (λ both. both.items ≡ first.now ∷ second ∷ []) }
+{
+    let mut both = Vec::with_capacity(alloc, 2)?;
+    both.push(first.copy(alloc)?)?;
+    both.push(second)?;
+    Ok(both)
 }

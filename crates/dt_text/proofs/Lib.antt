@@ -7,4 +7,5 @@ pub mod ReadingLaws
 pub mod ReadingSteps
 pub mod LineLengths
 pub mod JoinedWords
+pub mod SameWords
 pub mod Callers
