@@ -6,6 +6,7 @@ use Rattle.std.specs.List.{filter}
 use Rattle.slab.specs.Slab.{Slab, Updates, get}
 use Rattle.dt_lists.specs.Lists.{AllIn, Has}
 use Rattle.dt_lists.proofs.Callers.{all_put, any_append, any_append_left, any_append_right, either_nat, filter_each, front_refl, has_filter, has_of_filtered, front_length}
+use Rattle.dt_access.specs.Clash.{Bytes}
 use Rattle.dt_access.specs.declared.access.Mode.{Mode}
 use Rattle.dt_access.specs.declared.access.Mode.TheVariants.{Read, Write, Whole}
 use Rattle.dt_queue.specs.declared.cell.Cell.{Cell}
@@ -14,7 +15,7 @@ use Rattle.dt_queue.specs.declared.kept.Kept.{Kept}
 use Rattle.dt_queue.specs.declared.rows.Rows.{Rows}
 use Rattle.dt_queue.specs.KeptInner.{AreRowsListed, ChangesLaneOf, IsInLane, AreQueuesKept, IsLane, KeepsLanes, lane, mark_of, place_at}
 use Rattle.dt_queue.specs.LanesInner.{ChangesLane, SameLanes}
-use Rattle.dt_queue.specs.TableInner.{granules_of, lanes_read, lanes_written}
+use Rattle.dt_queue.specs.TableInner.{heads_of, lanes_read, lanes_written}
 use Rattle.dt_queue.specs.RowsInner.{AreRowsLinked, KeepsRows, RowLinks, granule_at, links}
 use Rattle.dt_queue.proofs.Marks.{numbered_more}
 use Rattle.dt_queue.proofs.InOrder.{AreAlone}
@@ -285,8 +286,8 @@ all_before k kept m p = all_put _ (lane k m p) (λ x h. let r = ((kept.lanes m p
     omega (arith, v, (kept.counted x.slot r.0 r.1).1))
 
 -- rows have their names and granules as before
-pub links_same : (r : Rows) (g : List ℕ) → g ≡ granules_of r.table.items → record { names = r.names.keys; granules = r.granules.keys; granule_of = g } ≡ links r
-links_same r g e = ap (λ (x : List ℕ). record { names = r.names.keys; granules = r.granules.keys; granule_of = x }) e
+pub links_same : (r : Rows) (h : List (ℕ × Bytes) × List ℕ) → h ≡ heads_of r.table.items → record { names = r.names.keys; granules = r.granules.keys; name_of = h.0; granule_of = h.1 } ≡ links r
+links_same r h e = ap (λ (x : List (ℕ × Bytes) × List ℕ). record { names = r.names.keys; granules = r.granules.keys; name_of = x.0; granule_of = x.1 }) e
 
 -- one lane was changed
 pub changed_read : (old new : Kept) (f : List Mark → List Mark) (mode : Mode) (row : ℕ) → mode ≡ Read → ChangesLane (lanes_read old.rows.table.items) row (f (get_or (lanes_read old.rows.table.items) row []))

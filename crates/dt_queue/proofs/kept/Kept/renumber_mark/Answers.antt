@@ -14,11 +14,11 @@ renumber_mark-requires-clause-gap c = rw c.granule_of.ensures (rw c.in-Whole.is 
 
 pub returns-in-Read : goal.returns-in-Read
 returns-in-Read c = changed_read c.args.self.now _ (map (renumbered c.args.number c.args.new)) c.args.mode c.args.row c.in-Read.is c.renumber_read.ensures.reads
-    (links_same c.args.self.now.rows _ c.renumber_read.ensures.granules) refl refl refl c.renumber_read.ensures.writes refl
+    (links_same c.args.self.now.rows _ c.renumber_read.ensures.heads) refl refl refl c.renumber_read.ensures.writes refl
 
 pub returns-in-Write : goal.returns-in-Write
 returns-in-Write c = changed_write c.args.self.now _ (map (renumbered c.args.number c.args.new)) c.args.mode c.args.row c.in-Write.is c.renumber_write.ensures.writes
-    (links_same c.args.self.now.rows _ c.renumber_write.ensures.granules) refl refl refl c.renumber_write.ensures.reads refl
+    (links_same c.args.self.now.rows _ c.renumber_write.ensures.heads) refl refl refl c.renumber_write.ensures.reads refl
 
 pub returns-in-Whole : goal.returns-in-Whole
 returns-in-Whole c =
