@@ -9,8 +9,8 @@ push_read-requires-clause-last c = rw c.in-Read.is at c.requires.last
 pub push_write-requires-clause-last : goal.push_write-requires-clause-last
 push_write-requires-clause-last c = rw c.in-Write.is at c.requires.last
 
-pub push_mark-requires-clause-last : goal.push_mark-requires-clause-last
-push_mark-requires-clause-last c = rw c.granule_of.ensures (rw c.in-Whole.is at c.requires.last)
+pub push-requires-clause-last : goal.push-requires-clause-last
+push-requires-clause-last c = rw c.granule_of.ensures (rw c.in-Whole.is at c.requires.last)
 
 pub returns-in-Read : goal.returns-in-Read
 returns-in-Read c = record {
@@ -28,7 +28,7 @@ returns-in-Write c = record {
 
 pub returns-in-Whole : goal.returns-in-Whole
 returns-in-Whole c = record {
-  added = on_ok_weaker c.push_mark.result (λ change. changed_whole c.args.self.now _
-      (λ l. l ++ c.args.mark ∷ []) c.args.mode c.args.row c.granule_of.result c.in-Whole.is c.granule_of.ensures change refl refl refl refl refl) c.push_mark.ensures.added;
-  same = on_err_weaker c.push_mark.result (λ same. keeps_lanes c.args.self.now _ (same_self _) (same_self _) same refl refl refl refl) c.push_mark.ensures.same;
+  added = on_ok_weaker c.push.result (λ change. changed_whole c.args.self.now _
+      (λ l. l ++ c.args.mark ∷ []) c.args.mode c.args.row c.granule_of.result c.in-Whole.is c.granule_of.ensures change refl refl refl refl refl) c.push.ensures.added;
+  same = on_err_weaker c.push.result (λ same. keeps_lanes c.args.self.now _ (same_self _) (same_self _) same refl refl refl refl) c.push.ensures.same;
 }

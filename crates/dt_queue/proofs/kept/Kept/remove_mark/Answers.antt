@@ -14,4 +14,4 @@ returns-in-Write c = changed_write c.args.self.now _ (filter (λ (m : Mark). not
 
 pub returns-in-Whole : goal.returns-in-Whole
 returns-in-Whole c =
-    changed_whole c.args.self.now _ (filter (λ (m : Mark). not (m.number == c.args.number))) c.args.mode c.args.row c.granule_of.result c.in-Whole.is c.granule_of.ensures c.remove_mark.ensures refl refl refl refl refl
+    changed_whole c.args.self.now _ (filter (λ (m : Mark). not (m.number == c.args.number))) c.args.mode c.args.row c.granule_of.result c.in-Whole.is c.granule_of.ensures c.remove.ensures refl refl refl refl refl

@@ -9,8 +9,8 @@ renumber_read-requires-clause-gap c = rw c.in-Read.is at c.requires.gap
 pub renumber_write-requires-clause-gap : goal.renumber_write-requires-clause-gap
 renumber_write-requires-clause-gap c = rw c.in-Write.is at c.requires.gap
 
-pub renumber_mark-requires-clause-gap : goal.renumber_mark-requires-clause-gap
-renumber_mark-requires-clause-gap c = rw c.granule_of.ensures (rw c.in-Whole.is at c.requires.gap)
+pub renumber-requires-clause-gap : goal.renumber-requires-clause-gap
+renumber-requires-clause-gap c = rw c.granule_of.ensures (rw c.in-Whole.is at c.requires.gap)
 
 pub returns-in-Read : goal.returns-in-Read
 returns-in-Read c = changed_read c.args.self.now _ (map (renumbered c.args.number c.args.new)) c.args.mode c.args.row c.in-Read.is c.renumber_read.ensures.reads
@@ -22,4 +22,4 @@ returns-in-Write c = changed_write c.args.self.now _ (map (renumbered c.args.num
 
 pub returns-in-Whole : goal.returns-in-Whole
 returns-in-Whole c =
-    changed_whole c.args.self.now _ (map (renumbered c.args.number c.args.new)) c.args.mode c.args.row c.granule_of.result c.in-Whole.is c.granule_of.ensures c.renumber_mark.ensures refl refl refl refl refl
+    changed_whole c.args.self.now _ (map (renumbered c.args.number c.args.new)) c.args.mode c.args.row c.granule_of.result c.in-Whole.is c.granule_of.ensures c.renumber.ensures refl refl refl refl refl
