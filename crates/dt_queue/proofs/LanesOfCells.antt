@@ -6,6 +6,7 @@ use Rattle.std.specs.List.{filter}
 use Rattle.slab.specs.Slab.{Slab, Updates, get}
 use Rattle.dt_lists.specs.Lists.{AllIn, Has}
 use Rattle.dt_lists.proofs.Callers.{all_put, any_append, any_append_left, any_append_right, either_nat, filter_each, front_refl, has_filter, has_of_filtered, front_length}
+use Rattle.dt_access.specs.Clash.{Bytes}
 use Rattle.dt_access.specs.declared.access.Mode.{Mode}
 use Rattle.dt_access.specs.declared.access.Mode.TheVariants.{Read, Write, Whole}
 use Rattle.dt_queue.specs.declared.cell.Cell.{Cell}
@@ -14,7 +15,7 @@ use Rattle.dt_queue.specs.declared.kept.Kept.{Kept}
 use Rattle.dt_queue.specs.declared.rows.Rows.{Rows}
 use Rattle.dt_queue.specs.KeptInner.{AreRowsListed, ChangesLaneOf, IsInLane, AreQueuesKept, IsLane, KeepsLanes, lane, mark_of, place_at}
 use Rattle.dt_queue.specs.LanesInner.{ChangesLane, SameLanes}
-use Rattle.dt_queue.specs.TableInner.{granules_of, lanes_read, lanes_written}
+use Rattle.dt_queue.specs.TableInner.{heads_of, lanes_read, lanes_written}
 use Rattle.dt_queue.specs.RowsInner.{AreRowsLinked, KeepsRows, RowLinks, granule_at, links}
 use Rattle.dt_queue.proofs.Marks.{numbered_more}
 use Rattle.dt_queue.proofs.InOrder.{AreAlone}
@@ -135,7 +136,7 @@ pub same_lanes : (a b : Kept) → SameLanes (lanes_read b.rows.table.items) (lan
     → (m : Mode) (p : ℕ) → lane a m p ≡ lane b m p
 same_lanes a b r w t Read p = r p
 same_lanes a b r w t Write p = w p
-same_lanes a b r w t Whole p = ap (λ l. get_or l.items p []) t
+same_lanes a b r w t Whole p = ap (λ l. get_or l p []) t
 
 pub place_same : (old new : RowLinks) → KeepsRows old new → (m : Mode) (row : ℕ) → row < length old.names → place_at new m row ≡ place_at old m row
 place_same old new k Read row lt = refl
@@ -254,7 +255,7 @@ kept_removed k n slot c kept rows there up next changed others used = record {
 
 -- ---- steps of the code
 
-pub none_kept : (k : Kept) → AreRowsLinked (links k.rows) → k.cells.slots ≡ [] → k.rows.table.items ≡ [] → k.wholes.items ≡ []
+pub none_kept : (k : Kept) → AreRowsLinked (links k.rows) → k.cells.slots ≡ [] → k.rows.table.items ≡ [] → k.wholes ≡ []
     → k.listed ≡ [] → 0 < k.next_number → k.next_number < 2 ^ 64 → AreQueuesKept k
 none_kept k linked slots table wholes used first last = record {
   linked = linked;
@@ -285,8 +286,8 @@ all_before k kept m p = all_put _ (lane k m p) (λ x h. let r = ((kept.lanes m p
     omega (arith, v, (kept.counted x.slot r.0 r.1).1))
 
 -- rows have their names and granules as before
-pub links_same : (r : Rows) (g : List ℕ) → g ≡ granules_of r.table.items → record { names = r.names.keys; granules = r.granules.keys; granule_of = g } ≡ links r
-links_same r g e = ap (λ (x : List ℕ). record { names = r.names.keys; granules = r.granules.keys; granule_of = x }) e
+pub links_same : (r : Rows) (h : List (ℕ × Bytes) × List ℕ) → h ≡ heads_of r.table.items → record { names = r.names.keys; granules = r.granules.keys; name_of = h.0; granule_of = h.1 } ≡ links r
+links_same r h e = ap (λ (x : List (ℕ × Bytes) × List ℕ). record { names = r.names.keys; granules = r.granules.keys; name_of = x.0; granule_of = x.1 }) e
 
 -- one lane was changed
 pub changed_read : (old new : Kept) (f : List Mark → List Mark) (mode : Mode) (row : ℕ) → mode ≡ Read → ChangesLane (lanes_read old.rows.table.items) row (f (get_or (lanes_read old.rows.table.items) row []))
@@ -301,7 +302,7 @@ changed_read old new f mode row is change rows used cells number writes wholes =
     other : (m : Mode) (p : ℕ) → ¬ ((m ≡ Read) × (p ≡ row)) → lane new m p ≡ lane old m p
     other Read p ne = change.others p (λ e. ne (refl, e))
     other Write p ne = writes p
-    other Whole p ne = ap (λ l. get_or l.items p []) wholes
+    other Whole p ne = ap (λ l. get_or l p []) wholes
 
 pub changed_write : (old new : Kept) (f : List Mark → List Mark) (mode : Mode) (row : ℕ) → mode ≡ Write → ChangesLane (lanes_written old.rows.table.items) row (f (get_or (lanes_written old.rows.table.items) row []))
     (lanes_written new.rows.table.items)
@@ -315,18 +316,18 @@ changed_write old new f mode row is change rows used cells number reads wholes =
     other : (m : Mode) (p : ℕ) → ¬ ((m ≡ Write) × (p ≡ row)) → lane new m p ≡ lane old m p
     other Read p ne = reads p
     other Write p ne = change.others p (λ e. ne (refl, e))
-    other Whole p ne = ap (λ l. get_or l.items p []) wholes
+    other Whole p ne = ap (λ l. get_or l p []) wholes
 
-pub changed_whole : (old new : Kept) (f : List Mark → List Mark) (mode : Mode) (row g : ℕ) → mode ≡ Whole → g ≡ granule_at (links old.rows) row → ChangesLane old.wholes.items g
-    (f (get_or old.wholes.items g [])) new.wholes.items
+pub changed_whole : (old new : Kept) (f : List Mark → List Mark) (mode : Mode) (row g : ℕ) → mode ≡ Whole → g ≡ granule_at (links old.rows) row → ChangesLane old.wholes g
+    (f (get_or old.wholes g [])) new.wholes
     → (links new.rows) ≡ (links old.rows) → new.listed ≡ old.listed → new.cells ≡ old.cells → new.next_number ≡ old.next_number → new.rows.table ≡ old.rows.table
     → ChangesLaneOf old mode (place_at (links old.rows) mode row) (f (lane old mode (place_at (links old.rows) mode row))) new
 changed_whole old new f mode row g is same change rows used cells number table =
     subst (λ m. ChangesLaneOf old m (place_at (links old.rows) m row) (f (lane old m (place_at (links old.rows) m row))) new) (sym is)
     (record { changed = moved.changed; others = λ m p ne. other m p ne; rows = rows; listed = used; cells = cells; number = number })
   where
-    moved : ChangesLane old.wholes.items (granule_at (links old.rows) row) (f (get_or old.wholes.items (granule_at (links old.rows) row) [])) new.wholes.items
-    moved = subst (λ i. ChangesLane old.wholes.items i (f (get_or old.wholes.items i [])) new.wholes.items) same change
+    moved : ChangesLane old.wholes (granule_at (links old.rows) row) (f (get_or old.wholes (granule_at (links old.rows) row) [])) new.wholes
+    moved = subst (λ i. ChangesLane old.wholes i (f (get_or old.wholes i [])) new.wholes) same change
 
     other : (m : Mode) (p : ℕ) → ¬ ((m ≡ Whole) × (p ≡ granule_at (links old.rows) row)) → lane new m p ≡ lane old m p
     other Read p ne = ap (λ l. get_or (lanes_read l.items) p []) table
@@ -335,7 +336,7 @@ changed_whole old new f mode row g is same change rows used cells number table =
 
 -- no lane was changed
 pub keeps_lanes : (old new : Kept) → SameLanes (lanes_read old.rows.table.items) (lanes_read new.rows.table.items) → SameLanes (lanes_written old.rows.table.items) (lanes_written new.rows.table.items)
-    → SameLanes old.wholes.items new.wholes.items
+    → SameLanes old.wholes new.wholes
     → (links new.rows) ≡ (links old.rows) → new.listed ≡ old.listed → new.cells ≡ old.cells → new.next_number ≡ old.next_number → KeepsLanes old new
 keeps_lanes old new reads writes wholes rows used cells number = record { lanes = λ m p. same m p; rows = rows; listed = used; cells = cells; number = number }
   where

@@ -1,6 +1,6 @@
 -- How rows and granules stay tied when one of them is added.
-use Rattle.std.proofs.Common.{◌≡◌, ◌⊎◌, ℕ, suc, ◌+◌, ◌<◌, Bool, true, false, cond, ◌&&◌, ◌==◌, List, [], ◌∷◌}
-use Rattle.std.proofs.Common.{◌++◌, length, get_or, slice_get, Some, None, refl, ap, sym, subst, inl, inr, arith, ◌∙◌}
+use Rattle.std.proofs.Common.{◌≡◌, ◌⊎◌, ℕ, zero, suc, ◌+◌, ◌<◌, Bool, true, false, cond, ◌&&◌, ◌==◌, List, [], ◌∷◌}
+use Rattle.std.proofs.Common.{◌++◌, length, get_or, map, slice_get, slice_index_or, Some, None, refl, ap, sym, subst, inl, inr, arith, ◌∙◌}
 use Rattle.std.specs.List.{list_any, position, position_from}
 use Rattle.std.proofs.lemmas.Iterator.Adapters.{position_from-zero}
 use Rattle.std.specs.Cmp.Lexicographic.{bytes_decides}
@@ -14,20 +14,22 @@ use Rattle.dt_access.proofs.Callers.{same_key_self}
 use Rattle.dt_queue.specs.RowsInner.{AreTied, granule_name, name_at}
 
 -- a granule was added
-pub tied_granule : (names granules : List (ℕ × Bytes)) (gof : List ℕ) (name : ℕ × Bytes) → AreTied names granules gof → ¬ (Has granules name) → AreTied names (granules ++ name ∷ []) gof
-tied_granule names granules gof name t fresh = record {
+pub tied_granule : (names granules nof : List (ℕ × Bytes)) (gof : List ℕ) (name : ℕ × Bytes) → AreTied names granules nof gof → ¬ (Has granules name) → AreTied names (granules ++ name ∷ []) nof gof
+tied_granule names granules nof gof name t fresh = record {
   names_once = t.names_once;
   granules_once = distinct_push granules name t.granules_once fresh;
+  named = t.named;
   each_row = t.each_row;
   granule = λ row lt. place_in_longer granules (name ∷ []) _ _ (t.granule row lt);
 }
 
 -- a row was added
-pub tied_row : (names granules : List (ℕ × Bytes)) (gof : List ℕ) (name : ℕ × Bytes) (g : ℕ) → AreTied names granules gof → ¬ (Has names name)
-    → slice_get granules g ≡ Some (granule_name name) → AreTied (names ++ name ∷ []) granules (gof ++ g ∷ [])
-tied_row names granules gof name g t fresh there = record {
+pub tied_row : (names granules nof : List (ℕ × Bytes)) (gof : List ℕ) (name : ℕ × Bytes) (g : ℕ) → AreTied names granules nof gof → ¬ (Has names name)
+    → slice_get granules g ≡ Some (granule_name name) → AreTied (names ++ name ∷ []) granules (nof ++ name ∷ []) (gof ++ g ∷ [])
+tied_row names granules nof gof name g t fresh there = record {
   names_once = distinct_push names name t.names_once fresh;
   granules_once = t.granules_once;
+  named = ap (λ l. l ++ name ∷ []) t.named;
   each_row = length_push gof g ∙ ap (λ n. n + 1) t.each_row ∙ sym (length_push names name);
   granule = λ row lt. granule row (sides row lt);
 }
@@ -47,6 +49,12 @@ tied_row names granules gof name g t fresh there = record {
     granule row (inr e) =
         ap (λ n. slice_get granules (get_or (gof ++ g ∷ []) n 0)) e ∙ ap (slice_get granules) new_granule ∙ there
         ∙ ap (λ n. Some (granule_name n)) (sym (ap (λ n. get_or (names ++ name ∷ []) n (0, [])) e ∙ get_or-append_seam names name [] (0, [])))
+
+-- what is said of an item of a list stands at its place
+pub found_at : {A B : Type 0} (xs : List A) (f : A → B) (i : ℕ) (x : A) → i < length xs → x ≡ slice_index_or xs i x → slice_get (map f xs) i ≡ Some (f x)
+found_at [] f i x lt e = absurd (omega (arith, lt))
+found_at (y ∷ ys) f zero x lt e = ap (λ z. Some (f z)) (sym e)
+found_at (y ∷ ys) f (suc i) x lt e = found_at ys f i x (omega (arith, lt)) e
 
 -- ---- names in a set
 

@@ -1,6 +1,7 @@
 -- Scaffolding: how the queues are kept. Each entry has a cell at its slot, with its row, its mode and the number of its push;
 -- and it has a mark in the lane of its mode, that of its row, or for the mode Whole that of its granule. `waiting_of` is the
--- list of entries that is kept so, and `AreQueuesKept` what all queues keep. Read next: `LanesInner`, then `RowsInner` and `ListedInner`.
+-- list of entries that is kept so, and `AreQueuesKept` what all queues keep. Read next: `LanesInner`, then `RowsInner`, `ListedInner` and
+-- `WholesInner`.
 use Rattle.std.specs.Prelude.{◌≡◌, ℕ, ◌<◌, ◌↔◌, ◌⊎◌, ◌^◌, nat_lt, true, false, List, [], ◌∷◌, map, get_or, length, if◌then◌else◌, None, Some}
 use Rattle.slab.specs.Slab.{Slab, Updates, get, entries}
 use Rattle.dt_lists.specs.Lists.{AnyIn, Has}
@@ -42,7 +43,7 @@ mark_of slot c = record { number = c.number; slot = slot; vertex = c.vertex }
 abbrev pub lane : Kept → Mode → ℕ → List Mark
 lane k Read place = get_or (lanes_read k.rows.table.items) place []
 lane k Write place = get_or (lanes_written k.rows.table.items) place []
-lane k Whole place = get_or k.wholes.items place []
+lane k Whole place = get_or k.wholes place []
 
 -- the place where a row has its lane of a mode
 abbrev pub place_at : RowLinks → Mode → ℕ → ℕ

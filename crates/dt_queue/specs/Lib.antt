@@ -4,5 +4,6 @@ pub mod NextInner
 pub mod RowsInner
 pub mod ListedInner
 pub mod TableInner
+pub mod WholesInner
 pub mod KeptInner
 pub mod NumbersInner

@@ -6,14 +6,13 @@ ghost use Rattle.dt_queue.specs.LanesInner.{AreMarks};
 ghost use Rattle.dt_queue.specs.NextInner.{IsFirstAfter, IsKnownNext};
 
 use crate::cell::Cell;
-use crate::lane::Lane;
-use crate::lanes::{first_between, last_between, push_mark, remove_mark};
 use crate::listed::ListedRows;
 use crate::mark::{Mark, Marks};
 use crate::nearest::{near_row, near_rows, near_write, number_or, only};
 use crate::next::Next;
 use crate::row::{has_no_read, last_write, push_read, push_write, remove_read, remove_write};
 use crate::rows::Rows;
+use crate::wholes::Wholes;
 use dt_access::Mode;
 use dt_text::{Key, NoMemory};
 use slab::Slab;
@@ -26,7 +25,7 @@ pub struct Kept {
     pub cells: Slab<Cell>,
     pub rows: Rows,
     pub listed: ListedRows,
-    pub wholes: Vec<Lane>,
+    pub wholes: Wholes,
     pub next_number: u64,
 }
 
@@ -45,7 +44,7 @@ impl Kept {
             cells: Slab::new(alloc),
             rows: Rows::new(alloc),
             listed: ListedRows::new(alloc),
-            wholes: Vec::new(alloc),
+            wholes: Wholes::new(alloc),
             next_number: 1,
         }
     }
@@ -111,7 +110,7 @@ impl Kept {
         ensures { IfOk result (λ marks. AreMarks (IsNearMark self.now cell.now) marks.items) }
     {
         let granule = self.rows.granule_of(cell.row);
-        let whole = last_between(self.wholes.as_slice(), granule, 0, cell.number);
+        let whole = self.wholes.last_between(granule, 0, cell.number);
         let marks = self.near_in_rows(alloc, cell, number_or(whole, 0))?;
         if marks.is_empty() {
             return only(alloc, whole);
@@ -139,7 +138,7 @@ impl Kept {
         ensures { AreMarks (IsNearMark self.now cell.now) (option_to_list result) }
     {
         let granule = self.rows.granule_of(cell.row);
-        let whole = last_between(self.wholes.as_slice(), granule, 0, cell.number);
+        let whole = self.wholes.last_between(granule, 0, cell.number);
         let low = number_or(whole, 0);
         let write = last_write(self.rows.table.as_slice(), cell.row, low, cell.number);
         write.or(whole)
@@ -152,7 +151,7 @@ impl Kept {
         ensures { IsFirstAfter (IsNextMark self.now cell.now) after result }
     {
         let granule = self.rows.granule_of(cell.row);
-        let whole = first_between(self.wholes.as_slice(), granule, cell.number, u64::MAX);
+        let whole = self.wholes.first_between(granule, cell.number, u64::MAX);
         let next = self.next_in_rows(cell, number_or(whole, u64::MAX), after);
         let any = next.any;
         if any {
@@ -198,7 +197,7 @@ impl Kept {
         match mode {
             Mode::Read => push_read(alloc, &mut self.rows.table, row, mark),
             Mode::Write => push_write(alloc, &mut self.rows.table, row, mark),
-            Mode::Whole => push_mark(alloc, &mut self.wholes, self.rows.granule_of(row), mark),
+            Mode::Whole => self.wholes.push(alloc, self.rows.granule_of(row), mark),
         }
     }
 
@@ -210,7 +209,7 @@ impl Kept {
         match mode {
             Mode::Read => remove_read(&mut self.rows.table, row, number),
             Mode::Write => remove_write(&mut self.rows.table, row, number),
-            Mode::Whole => remove_mark(&mut self.wholes, self.rows.granule_of(row), number),
+            Mode::Whole => self.wholes.remove(self.rows.granule_of(row), number),
         }
     }
 

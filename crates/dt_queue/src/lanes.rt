@@ -1,4 +1,4 @@
-ghost use Rattle.std.specs.Prelude.{◌≡◌, ◌<◌, ◌≤◌, ◌==◌, [], ◌∷◌, ◌++◌, get_or, map, not, OnOk, OnErr};
+ghost use Rattle.std.specs.Prelude.{◌≡◌, ◌<◌, ◌≤◌, ◌==◌, [], ◌∷◌, ◌++◌, get_or, length, map, not, OnOk, OnErr};
 ghost use Rattle.std.specs.List.{filter};
 ghost use Rattle.dt_lists.specs.Lists.{AllIn};
 ghost use Rattle.dt_queue.specs.LanesInner.{ChangesLane, IsFirstBetween, IsLastBetween, SameLanes};
@@ -46,6 +46,16 @@ pub fn renumber_mark(lanes: &mut Vec<Lane>, place: usize, number: u64, new: u64)
 {
     if place < lanes.len() {
         lanes[place].renumber(number, new);
+    }
+}
+
+/// Whether the lane at a place has no mark.
+pub fn has_none(lanes: &[Lane], place: usize) -> bool
+    ensures { result ≡ (length (get_or lanes.now place []) == 0) }
+{
+    match lanes.get(place) {
+        Some(lane) => lane.is_empty(),
+        None => true,
     }
 }
 

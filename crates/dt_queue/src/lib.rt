@@ -7,6 +7,7 @@
 #![tactic(auto)]
 
 mod cell;
+mod flags;
 mod follower;
 mod hints;
 mod kept;
@@ -22,6 +23,7 @@ mod row;
 mod rows;
 mod tail;
 mod used;
+mod wholes;
 
 pub use follower::Follower;
 pub use queues::Queues;

@@ -1,8 +1,9 @@
-ghost use Rattle.std.specs.Prelude.{◌≡◌, ◌<◌, ◌-◌, ◌↔◌, ℕ, [], false, IsTrue, OnErr, OnOk, get_or, length, map, vec_capacity, vec_len};
+ghost use Rattle.std.specs.Prelude.{◌≡◌, ◌<◌, ◌-◌, ◌↔◌, ℕ, [], IsTrue, OnErr, OnOk, get_or, length, map, vec_capacity, vec_len};
 ghost use Rattle.dt_lists.specs.Lists.{AllIn, Distinct};
 ghost use Rattle.dt_queue.specs.TableInner.{lanes_read, lanes_written};
 ghost use Rattle.dt_queue.specs.ListedInner.{FlagsUsed};
 
+use crate::flags::{is_up, make_flag};
 use crate::row::{Row, is_used};
 use dt_text::NoMemory;
 use std::alloc::Global;
@@ -61,10 +62,7 @@ impl ListedRows {
     fn has(&self, row: usize) -> bool
         ensures { IsTrue result ↔ IsListed self.now row }
     {
-        match self.flags.get(row) {
-            Some(flag) => *flag,
-            None => false,
-        }
+        is_up(self.flags.as_slice(), row)
     }
 
     /// Takes those rows of a granule out in which nothing waits to read or write. Takes no memory.
@@ -98,17 +96,6 @@ fn make_list(alloc: Global, rows: &mut Vec<Vec<usize>>, granule: usize) -> Resul
         rows.push(Vec::new(alloc))?;
     }
     rows[granule].reserve(1)?;
-    Ok(())
-}
-
-/// Keeps a flag for a row. All rows have the flags that they had, also after `NoMemory`.
-fn make_flag(flags: &mut Vec<bool>, row: usize) -> Result<(), NoMemory>
-    ensures known { OnOk result (row < length flags.new.items) }
-    ensures same { (r : ℕ) → get_or flags.new.items r false ≡ get_or flags.old.items r false }
-{
-    while flags.len() <= row {
-        flags.push(false)?;
-    }
     Ok(())
 }
 

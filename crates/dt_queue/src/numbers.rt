@@ -3,7 +3,6 @@ ghost use Rattle.dt_lists.specs.Lists.{AllIn};
 ghost use Rattle.dt_queue.specs.NumbersInner.{IsFirstFrom, IsGap, IsNumberAt, Renumbers, ShowsSame, renumbered};
 
 use crate::kept::Kept;
-use crate::lanes::renumber_mark;
 use crate::row::{renumber_read, renumber_write};
 use dt_access::Mode;
 use dt_text::NoMemory;
@@ -96,7 +95,7 @@ impl Kept {
         match mode {
             Mode::Read => renumber_read(&mut self.rows.table, row, number, new),
             Mode::Write => renumber_write(&mut self.rows.table, row, number, new),
-            Mode::Whole => renumber_mark(&mut self.wholes, self.rows.granule_of(row), number, new),
+            Mode::Whole => self.wholes.renumber(self.rows.granule_of(row), number, new),
         }
     }
 }

@@ -2,32 +2,36 @@ ghost use Rattle.std.specs.Prelude.{◌≡◌, ◌<◌, ◌≤◌, ◌==◌, [],
 ghost use Rattle.std.specs.List.{filter};
 ghost use Rattle.dt_lists.specs.Lists.{AllIn};
 ghost use Rattle.dt_queue.specs.LanesInner.{ChangesLane, IsFirstBetween, IsLastBetween, SameLanes, is_between};
-ghost use Rattle.dt_queue.specs.TableInner.{granules_of, lanes_read, lanes_written};
+ghost use Rattle.dt_queue.specs.TableInner.{heads_of, lanes_read, lanes_written};
 ghost use Rattle.dt_queue.specs.ListedInner.{is_used};
 ghost use Rattle.dt_queue.specs.NumbersInner.{IsGap, renumbered};
 
 use crate::lane::Lane;
 use crate::mark::{Mark, Marks};
-use dt_text::NoMemory;
+use dt_text::{Key, NoMemory};
 use std::alloc::Global;
 
-/// What is kept of a row: the number of its granule, and its lanes, of those that wait to read it, and of those that wait to write
-/// it. Mostly all of these are looked at, so they lie side by side.
+/// What is kept of a row: its name, which is a home and a key, the number of its granule, and its lanes, of those that wait to read
+/// it, and of those that wait to write it. Mostly all of these are looked at, so they lie side by side: a push that compares the name
+/// finds the lanes in the lines of memory next to it.
 #[derive(Drop)]
 pub struct Row {
+    pub name: (u8, Key),
     pub granule: usize,
     pub reads: Lane,
     pub writes: Lane,
 }
 
 impl Row {
-    /// A row of this granule, in which nothing waits. Takes no memory.
-    pub fn new(granule: usize) -> Self
+    /// A row of this name and granule, in which nothing waits. Takes no memory.
+    pub fn new(name: (u8, Key), granule: usize) -> Self
+        ensures name { result.name ≡ name }
         ensures granule { result.granule ≡ granule }
         ensures reads { result.reads ≡ [] }
         ensures writes { result.writes ≡ [] }
     {
         Row {
+            name,
             granule,
             reads: Lane::new(),
             writes: Lane::new(),
@@ -48,7 +52,7 @@ pub fn push_read(
     ensures added { OnOk result (ChangesLane (lanes_read table.old.items) row (get_or (lanes_read table.old.items) row [] ++ mark ∷ []) (lanes_read table.new.items)) }
     ensures same { OnErr result (SameLanes (lanes_read table.old.items) (lanes_read table.new.items)) }
     ensures writes { SameLanes (lanes_written table.old.items) (lanes_written table.new.items) }
-    ensures granules { granules_of table.new.items ≡ granules_of table.old.items }
+    ensures heads { heads_of table.new.items ≡ heads_of table.old.items }
 {
     table[row].reads.push(alloc, mark)
 }
@@ -66,7 +70,7 @@ pub fn push_write(
     ensures added { OnOk result (ChangesLane (lanes_written table.old.items) row (get_or (lanes_written table.old.items) row [] ++ mark ∷ []) (lanes_written table.new.items)) }
     ensures same { OnErr result (SameLanes (lanes_written table.old.items) (lanes_written table.new.items)) }
     ensures reads { SameLanes (lanes_read table.old.items) (lanes_read table.new.items) }
-    ensures granules { granules_of table.new.items ≡ granules_of table.old.items }
+    ensures heads { heads_of table.new.items ≡ heads_of table.old.items }
 {
     table[row].writes.push(alloc, mark)
 }
@@ -75,7 +79,7 @@ pub fn push_write(
 pub fn remove_read(table: &mut Vec<Row>, row: usize, number: u64)
     ensures reads { ChangesLane (lanes_read table.old.items) row (filter (λ m. not (m.number == number)) (get_or (lanes_read table.old.items) row [])) (lanes_read table.new.items) }
     ensures writes { SameLanes (lanes_written table.old.items) (lanes_written table.new.items) }
-    ensures granules { granules_of table.new.items ≡ granules_of table.old.items }
+    ensures heads { heads_of table.new.items ≡ heads_of table.old.items }
 {
     if row < table.len() {
         table[row].reads.remove(number);
@@ -86,7 +90,7 @@ pub fn remove_read(table: &mut Vec<Row>, row: usize, number: u64)
 pub fn remove_write(table: &mut Vec<Row>, row: usize, number: u64)
     ensures writes { ChangesLane (lanes_written table.old.items) row (filter (λ m. not (m.number == number)) (get_or (lanes_written table.old.items) row [])) (lanes_written table.new.items) }
     ensures reads { SameLanes (lanes_read table.old.items) (lanes_read table.new.items) }
-    ensures granules { granules_of table.new.items ≡ granules_of table.old.items }
+    ensures heads { heads_of table.new.items ≡ heads_of table.old.items }
 {
     if row < table.len() {
         table[row].writes.remove(number);
@@ -100,7 +104,7 @@ pub fn renumber_read(table: &mut Vec<Row>, row: usize, number: u64, new: u64)
     requires gap { AllIn (IsGap number new) (get_or (lanes_read table.old.items) row []) }
     ensures reads { ChangesLane (lanes_read table.old.items) row (map (renumbered number new) (get_or (lanes_read table.old.items) row [])) (lanes_read table.new.items) }
     ensures writes { SameLanes (lanes_written table.old.items) (lanes_written table.new.items) }
-    ensures granules { granules_of table.new.items ≡ granules_of table.old.items }
+    ensures heads { heads_of table.new.items ≡ heads_of table.old.items }
 {
     if row < table.len() {
         table[row].reads.renumber(number, new);
@@ -114,7 +118,7 @@ pub fn renumber_write(table: &mut Vec<Row>, row: usize, number: u64, new: u64)
     requires gap { AllIn (IsGap number new) (get_or (lanes_written table.old.items) row []) }
     ensures writes { ChangesLane (lanes_written table.old.items) row (map (renumbered number new) (get_or (lanes_written table.old.items) row [])) (lanes_written table.new.items) }
     ensures reads { SameLanes (lanes_read table.old.items) (lanes_read table.new.items) }
-    ensures granules { granules_of table.new.items ≡ granules_of table.old.items }
+    ensures heads { heads_of table.new.items ≡ heads_of table.old.items }
 {
     if row < table.len() {
         table[row].writes.renumber(number, new);

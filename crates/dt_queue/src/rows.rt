@@ -13,7 +13,8 @@ use std::alloc::Global;
 
 /// The rows that were ever waited for, each a key at a home, and their granules. A row and a granule have the number of their
 /// first use, from 0; so what is kept of a row lies in a table, and names are looked up once at each push: mostly where the key's
-/// hint leads, and else by their hash.
+/// hint leads, and else by their hash. A row's name lies in the table too, beside its lanes: so a hint is tried at the place in
+/// memory where a push goes on, and not also at one in the set of names.
 #[derive(Drop)]
 pub struct Rows {
     pub names: IndexSet<(u8, Key)>,
@@ -58,10 +59,11 @@ impl Rows {
 
     /// The row to which the hint of a key leads, if it is that of the key at this home.
     fn hinted(&self, home: u8, key: &Key) -> Option<usize>
+        requires { AreRowsLinked (links self.now) }
         ensures { IfSome result (λ row. slice_get self.now.names.keys row ≡ Some (home, key.now)) }
     {
         let row = self.hints.get(key.hint())?;
-        let name = self.names.get_index(row)?;
+        let name = &self.table.get(row)?.name;
         if name.0 == home && name.1 == *key {
             Some(row)
         } else {
@@ -84,7 +86,7 @@ impl Rows {
         }
     }
 
-    /// Adds a row.
+    /// Adds a row. Its name is copied before anything changes.
     fn add_row(&mut self, alloc: Global, name: (u8, Key)) -> Result<usize, NoMemory>
         requires linked { AreRowsLinked (links self.old) }
         requires absent { ¬ (Has self.old.names.keys name) }
@@ -94,11 +96,12 @@ impl Rows {
         ensures writes { SameLanes (lanes_written self.old.table.items) (lanes_written self.new.table.items) }
         ensures found { IfOk result (λ row. slice_get self.new.names.keys row ≡ Some name) }
     {
+        let copied = (name.0, name.1.copy(alloc)?);
         let granule = self.granule((name.0, granule(alloc, &name.1)?))?;
         let row = self.table.len();
         self.table.reserve(1)?;
         self.names.insert(name)?;
-        self.table.push_reserved(Row::new(granule));
+        self.table.push_reserved(Row::new(copied, granule));
         Ok(row)
     }
 

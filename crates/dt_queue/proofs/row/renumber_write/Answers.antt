@@ -10,7 +10,7 @@ returns-then-row-len-clause-writes c =
     let xs = c.args.table.now.items in
     let r : Row = c.index_mut.result.now in
     let known : c.args.row < length xs = omega (arith, c.if-row-len.true, c.len.ensures, c.args.table.now.ok.0) in
-    lane_set (λ (x : Row). x.writes) xs c.args.row (record { granule = r.granule; writes = c.renumber.new.self; reads = r.reads }) _ known
+    lane_set (λ (x : Row). x.writes) xs c.args.row (record { name = r.name; granule = r.granule; writes = c.renumber.new.self; reads = r.reads }) _ known
     (c.renumber.ensures ∙ ap (map (renumbered c.args.number c.args.new)) (lane_at (λ (x : Row). x.writes) xs c.args.row r known c.index_mut.ensures.value))
 
 pub returns-then-row-len-clause-reads : goal.returns-then-row-len-clause-reads
@@ -18,9 +18,12 @@ returns-then-row-len-clause-reads c =
     let xs = c.args.table.now.items in
     let r : Row = c.index_mut.result.now in
     let known : c.args.row < length xs = omega (arith, c.if-row-len.true, c.len.ensures, c.args.table.now.ok.0) in
-    lane_stays (λ (x : Row). x.reads) xs c.args.row (record { granule = r.granule; writes = c.renumber.new.self; reads = r.reads }) r known c.index_mut.ensures.value refl
+    lane_stays (λ (x : Row). x.reads) xs c.args.row (record { name = r.name; granule = r.granule; writes = c.renumber.new.self; reads = r.reads }) r known c.index_mut.ensures.value refl
 
-pub returns-then-row-len-clause-granules : goal.returns-then-row-len-clause-granules
-returns-then-row-len-clause-granules c =
+pub returns-then-row-len-clause-heads : goal.returns-then-row-len-clause-heads
+returns-then-row-len-clause-heads c =
     let r : Row = c.index_mut.result.now in
-    map-set_same (λ (x : Row). x.granule) c.args.table.now.items c.args.row (record { granule = r.granule; writes = c.renumber.new.self; reads = r.reads }) r (ap (λ (x : Row). x.granule) c.index_mut.ensures.value)
+    let n : Row = record { name = r.name; granule = r.granule; writes = c.renumber.new.self; reads = r.reads } in
+    let names = map-set_same (λ (x : Row). x.name) c.args.table.now.items c.args.row n r (ap (λ (x : Row). x.name) c.index_mut.ensures.value) in
+    let granules = map-set_same (λ (x : Row). x.granule) c.args.table.now.items c.args.row n r (ap (λ (x : Row). x.granule) c.index_mut.ensures.value) in
+    (λ i. (names i, granules i))

@@ -18,7 +18,7 @@ returns-then-is_empty c =
     let k = c.args.self.now in
     let x = c.args.cell.now in
     let o = c.last_between-whole.result in
-    let last : IsLastBetween 0 x.number (lane k Whole (granule_at (links k.rows) x.row)) o = rw (c.as_slice.ensures.value, c.granule_of-granule.ensures) at c.last_between-whole.ensures in
+    let last : IsLastBetween 0 x.number (lane k Whole (granule_at (links k.rows) x.row)) o = rw c.granule_of-granule.ensures at c.last_between-whole.ensures in
     let none = empty_of c.in_ok-marks.marks.items _ c.is_empty.result refl c.is_empty.ensures c.if-is_empty.true in
     let marks = subst (AreMarks (IsNearInMode k x (number_or o 0))) none (rw c.number_or.ensures at c.in_ok-marks.ensures) in
     IfOk-weaker c.only.result _ _ (λ found e. subst (AreMarks (IsNearMark k x)) (sym e) (near_taker k c.requires.kept x o last marks)) c.only.ensures
@@ -28,7 +28,7 @@ returns c =
     let k = c.args.self.now in
     let x = c.args.cell.now in
     let o = c.last_between-whole.result in
-    let last : IsLastBetween 0 x.number (lane k Whole (granule_at (links k.rows) x.row)) o = rw (c.as_slice.ensures.value, c.granule_of-granule.ensures) at c.last_between-whole.ensures in
+    let last : IsLastBetween 0 x.number (lane k Whole (granule_at (links k.rows) x.row)) o = rw c.granule_of-granule.ensures at c.last_between-whole.ensures in
     let some = some_of c.in_ok-marks.marks.items _ c.is_empty.result refl c.is_empty.ensures c.if-is_empty.false in
     let marks : AreMarks (IsNearInMode k x (number_or o 0)) c.in_ok-marks.marks.items = rw c.number_or.ensures at c.in_ok-marks.ensures in
     near_marks k c.requires.kept x o last c.in_ok-marks.marks.items some.0 some.1 marks

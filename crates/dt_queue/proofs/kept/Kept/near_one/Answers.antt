@@ -18,7 +18,7 @@ returns c =
     let x = c.args.cell.now in
     let o = c.last_between-whole.result in
     let w = c.last_write-write.result in
-    let last : IsLastBetween 0 x.number (lane k Whole (granule_at (links k.rows) x.row)) o = rw (c.as_slice.ensures.value, c.granule_of-granule.ensures) at c.last_between-whole.ensures in
-    let last_write : IsLastBetween (number_or o 0) x.number (lane k Write x.row) w = rw (c.as_slice-2.ensures.value, c.number_or-low.ensures) at c.last_write-write.ensures in
+    let last : IsLastBetween 0 x.number (lane k Whole (granule_at (links k.rows) x.row)) o = rw c.granule_of-granule.ensures at c.last_between-whole.ensures in
+    let last_write : IsLastBetween (number_or o 0) x.number (lane k Write x.row) w = rw (c.as_slice.ensures.value, c.number_or-low.ensures) at c.last_write-write.ensures in
     rw c.or.ensures
     (near_or_taker k c.requires.kept x o last w (one_in_mode k x (number_or o 0) _ c.requires.one (near_last (lane k Write x.row) (number_or o 0) x.number w (c.requires.kept.lanes Write x.row).numbered last_write)))

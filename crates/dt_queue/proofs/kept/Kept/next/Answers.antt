@@ -18,7 +18,7 @@ returns-then-any c =
     let x = c.args.cell.now in
     let o = c.first_between-whole.result in
     let within : k.next_number ≤ 18446744073709551615 = omega (arith, c.requires.kept.last) in
-    let first : IsFirstBetween x.number 18446744073709551615 (lane k Whole (granule_at (links k.rows) x.row)) o = rw (c.as_slice.ensures.value, c.granule_of-granule.ensures) at c.first_between-whole.ensures in
+    let first : IsFirstBetween x.number 18446744073709551615 (lane k Whole (granule_at (links k.rows) x.row)) o = rw c.granule_of-granule.ensures at c.first_between-whole.ensures in
     let known : IsKnownNext (IsNextInMode k x (number_or o 18446744073709551615)) c.args.after c.next_in_rows-next.result = rw c.number_or.ensures at c.next_in_rows-next.ensures in
     first_of_some k c.requires.kept x 18446744073709551615 within o first c.args.after c.next_in_rows-next.result known c.if-any.true
 
@@ -28,6 +28,6 @@ returns c =
     let x = c.args.cell.now in
     let o = c.first_between-whole.result in
     let within : k.next_number ≤ 18446744073709551615 = omega (arith, c.requires.kept.last) in
-    let first : IsFirstBetween x.number 18446744073709551615 (lane k Whole (granule_at (links k.rows) x.row)) o = rw (c.as_slice.ensures.value, c.granule_of-granule.ensures) at c.first_between-whole.ensures in
+    let first : IsFirstBetween x.number 18446744073709551615 (lane k Whole (granule_at (links k.rows) x.row)) o = rw c.granule_of-granule.ensures at c.first_between-whole.ensures in
     let known : IsKnownNext (IsNextInMode k x (number_or o 18446744073709551615)) c.args.after c.next_in_rows-next.result = rw c.number_or.ensures at c.next_in_rows-next.ensures in
     first_of_none k c.requires.kept x 18446744073709551615 within o first c.args.after c.next_in_rows-next.result c.one.result known c.if-any.false c.one.ensures.any c.one.ensures.first

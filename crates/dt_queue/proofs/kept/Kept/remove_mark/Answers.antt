@@ -6,12 +6,12 @@ use Rattle.dt_queue.proofs.kept.Kept.remove_mark.Goals as goal
 
 pub returns-in-Read : goal.returns-in-Read
 returns-in-Read c = changed_read c.args.self.now _ (filter (λ (m : Mark). not (m.number == c.args.number))) c.args.mode c.args.row c.in-Read.is c.remove_read.ensures.reads
-    (links_same c.args.self.now.rows _ c.remove_read.ensures.granules) refl refl refl c.remove_read.ensures.writes refl
+    (links_same c.args.self.now.rows _ c.remove_read.ensures.heads) refl refl refl c.remove_read.ensures.writes refl
 
 pub returns-in-Write : goal.returns-in-Write
 returns-in-Write c = changed_write c.args.self.now _ (filter (λ (m : Mark). not (m.number == c.args.number))) c.args.mode c.args.row c.in-Write.is c.remove_write.ensures.writes
-    (links_same c.args.self.now.rows _ c.remove_write.ensures.granules) refl refl refl c.remove_write.ensures.reads refl
+    (links_same c.args.self.now.rows _ c.remove_write.ensures.heads) refl refl refl c.remove_write.ensures.reads refl
 
 pub returns-in-Whole : goal.returns-in-Whole
 returns-in-Whole c =
-    changed_whole c.args.self.now _ (filter (λ (m : Mark). not (m.number == c.args.number))) c.args.mode c.args.row c.granule_of.result c.in-Whole.is c.granule_of.ensures c.remove_mark.ensures refl refl refl refl refl
+    changed_whole c.args.self.now _ (filter (λ (m : Mark). not (m.number == c.args.number))) c.args.mode c.args.row c.granule_of.result c.in-Whole.is c.granule_of.ensures c.remove.ensures refl refl refl refl refl

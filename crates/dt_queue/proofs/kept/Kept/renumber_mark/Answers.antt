@@ -9,17 +9,17 @@ renumber_read-requires-clause-gap c = rw c.in-Read.is at c.requires.gap
 pub renumber_write-requires-clause-gap : goal.renumber_write-requires-clause-gap
 renumber_write-requires-clause-gap c = rw c.in-Write.is at c.requires.gap
 
-pub renumber_mark-requires-clause-gap : goal.renumber_mark-requires-clause-gap
-renumber_mark-requires-clause-gap c = rw c.granule_of.ensures (rw c.in-Whole.is at c.requires.gap)
+pub renumber-requires-clause-gap : goal.renumber-requires-clause-gap
+renumber-requires-clause-gap c = rw c.granule_of.ensures (rw c.in-Whole.is at c.requires.gap)
 
 pub returns-in-Read : goal.returns-in-Read
 returns-in-Read c = changed_read c.args.self.now _ (map (renumbered c.args.number c.args.new)) c.args.mode c.args.row c.in-Read.is c.renumber_read.ensures.reads
-    (links_same c.args.self.now.rows _ c.renumber_read.ensures.granules) refl refl refl c.renumber_read.ensures.writes refl
+    (links_same c.args.self.now.rows _ c.renumber_read.ensures.heads) refl refl refl c.renumber_read.ensures.writes refl
 
 pub returns-in-Write : goal.returns-in-Write
 returns-in-Write c = changed_write c.args.self.now _ (map (renumbered c.args.number c.args.new)) c.args.mode c.args.row c.in-Write.is c.renumber_write.ensures.writes
-    (links_same c.args.self.now.rows _ c.renumber_write.ensures.granules) refl refl refl c.renumber_write.ensures.reads refl
+    (links_same c.args.self.now.rows _ c.renumber_write.ensures.heads) refl refl refl c.renumber_write.ensures.reads refl
 
 pub returns-in-Whole : goal.returns-in-Whole
 returns-in-Whole c =
-    changed_whole c.args.self.now _ (map (renumbered c.args.number c.args.new)) c.args.mode c.args.row c.granule_of.result c.in-Whole.is c.granule_of.ensures c.renumber_mark.ensures refl refl refl refl refl
+    changed_whole c.args.self.now _ (map (renumbered c.args.number c.args.new)) c.args.mode c.args.row c.granule_of.result c.in-Whole.is c.granule_of.ensures c.renumber.ensures refl refl refl refl refl

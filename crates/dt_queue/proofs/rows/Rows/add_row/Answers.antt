@@ -2,7 +2,7 @@ use Rattle.std.proofs.Common.{◌≡◌, ◌++◌, ◌∷◌, [], length, get_or
 use Rattle.std.proofs.lemmas.List.{get_or_append_left, length-map, map-append}
 use Rattle.dt_lists.specs.Lists.{Has}
 use Rattle.dt_lists.proofs.Callers.{get_seam}
-use Rattle.dt_queue.specs.TableInner.{granules_of}
+use Rattle.dt_queue.specs.TableInner.{granules_of, row_names}
 use Rattle.dt_queue.specs.declared.row.Row.{Row}
 use Rattle.dt_queue.proofs.RowLists.{added_name, tied_row}
 use Rattle.dt_queue.proofs.TableLanes.{lane_behind}
@@ -19,8 +19,10 @@ returns-clause-linked c =
     let keys = c.in_ok-insert.ensures.keys ∙ added_name c.args.name r.names.keys fresh in
     let granules = ap granules_of (c.push_reserved.ensures.items ∙ ap (λ l. l ++ c.new.result ∷ []) c.in_ok-reserve.ensures.items)
     ∙ map-append (λ (x : Row). x.granule) r.table.items (c.new.result ∷ []) ∙ ap (λ i. granules_of r.table.items ++ i ∷ []) c.new.ensures.granule in
+    let tabled = ap row_names (c.push_reserved.ensures.items ∙ ap (λ l. l ++ c.new.result ∷ []) c.in_ok-reserve.ensures.items)
+    ∙ map-append (λ (x : Row). x.name) r.table.items (c.new.result ∷ []) ∙ ap (λ n. row_names r.table.items ++ n ∷ []) (c.new.ensures.name ∙ ap (λ k. (c.args.name.0, k)) c.in_ok-copy.ensures.same) in
     let name = c.in_ok-granule-2.ensures.found ∙ ap (λ k. Some (c.args.name.0, k)) c.in_ok-granule.ensures in
-    rw (keys, granules) (tied_row r.names.keys r.granules.keys (granules_of r.table.items) c.args.name g c.in_ok-granule-2.ensures.linked fresh name)
+    rw (keys, tabled, granules) (tied_row r.names.keys r.granules.keys (row_names r.table.items) (granules_of r.table.items) c.args.name g c.in_ok-granule-2.ensures.linked fresh name)
 
 pub returns-clause-kept : goal.returns-clause-kept
 returns-clause-kept c =

@@ -1,6 +1,6 @@
 use Rattle.std.proofs.Common.{◌≡◌, [], length, ◌∙◌}
 use Rattle.dt_lists.proofs.Callers.{get_seam}
-use Rattle.dt_queue.specs.TableInner.{granules_of}
+use Rattle.dt_queue.specs.TableInner.{granules_of, row_names}
 use Rattle.dt_queue.proofs.RowLists.{added_name, named_at, tied_granule, unnamed}
 use Rattle.dt_queue.proofs.rows.Rows.granule.Goals as goal
 
@@ -11,7 +11,7 @@ pub returns-clause-linked : goal.returns-clause-linked
 returns-clause-linked c =
     let r = c.args.self.now in
     let fresh = unnamed c.args.name r.granules.keys c.in_default.ensures.index in
-    rw (c.in_ok-insert.ensures.keys ∙ added_name c.args.name r.granules.keys fresh) (tied_granule r.names.keys r.granules.keys (granules_of r.table.items) c.args.name c.requires fresh)
+    rw (c.in_ok-insert.ensures.keys ∙ added_name c.args.name r.granules.keys fresh) (tied_granule r.names.keys r.granules.keys (row_names r.table.items) (granules_of r.table.items) c.args.name c.requires fresh)
 
 pub returns-clause-found : goal.returns-clause-found
 returns-clause-found c =
