@@ -1,6 +1,7 @@
-ghost use Rattle.std.specs.Prelude.{IfOk, IfErr};
+ghost use Rattle.std.specs.Prelude.{◌≡◌, ◌<◌, IfOk, IfErr, pos};
+ghost use Rattle.toml.specs.Data.{integer};
 ghost use Rattle.toml.specs.View.{view, table_view};
-ghost use Rattle.dt_cluster_file.specs.Rows.{IsHome, IsBadHome};
+ghost use Rattle.dt_cluster_file.specs.Rows.{IsHome, IsBadHome, IsNoHome};
 ghost use Rattle.dt_cluster_file.specs.File.{HasHomes, IsHomesFault, TellsFault};
 ghost use Rattle.dt_cluster_file.specs.ReaderInner.{IsFaultAt, AreHomesOf, IsBadHomeOf};
 ghost use Rattle.dt_cluster_file.specs.declared.error.ClusterPlace.TheVariants.{Home};
@@ -67,11 +68,22 @@ fn home(
     if !is_unit(version, &key) {
         return Err(home_fault(alloc, name, ClusterCause::BadKey));
     }
+    match region(value, regions) {
+        Ok(home) => Ok((key, home)),
+        Err(cause) => Err(home_fault(alloc, name, cause)),
+    }
+}
+
+/// The number of a region that a value is, or why it is none.
+fn region(value: &Value, regions: u8) -> Result<u8, ClusterCause>
+    ensures number { IfOk result (λ home. (view value.now ≡ integer (pos home)) × (home < regions)) }
+    ensures cause { IfErr result (IsNoHome regions (view value.now)) }
+{
     let Some(number) = value.as_integer() else {
-        return Err(home_fault(alloc, name, ClusterCause::Kind));
+        return Err(ClusterCause::Kind);
     };
     match u8::try_from(number) {
-        Ok(home) if home < regions => Ok((key, home)),
-        _ => Err(home_fault(alloc, name, ClusterCause::Range)),
+        Ok(home) if home < regions => Ok(home),
+        _ => Err(ClusterCause::Range),
     }
 }
