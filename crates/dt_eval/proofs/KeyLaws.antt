@@ -1,10 +1,9 @@
 -- The list of the keys of a call: it ascends, and holds each key that a declaration gives, with Write if any declaration of
 -- it is.
-use Rattle.std.proofs.Common.{◌≡◌, ◌<◌, ◌≤◌, ◌+◌, ◌||◌, ℕ, length, take, drop, set, ◌++◌, ap₂, add-zero, arith, zero, suc, Bool, true, false, List, []}
+use Rattle.std.proofs.Common.{◌≡◌, ◌<◌, ◌≤◌, ◌+◌, ◌||◌, ℕ, length, drop, add-zero, arith, zero, suc, Bool, true, false, List, []}
 use Rattle.std.proofs.Common.{◌∷◌, map, get_or, slice_get, Some, refl, sym, ap, subst, ◌∙◌, inl, inr}
 use Rattle.std.specs.List.{fold}
-use Rattle.std.proofs.Math.Seq.{drop-cons}
-use Rattle.std.proofs.lemmas.List.{length-map, take_all, drop_all}
+use Rattle.std.proofs.lemmas.List.{length-map, drop_all}
 use Rattle.std.specs.Ordering.{nat_cmp, is_eq}
 use Rattle.std.specs.declared.cmp.Ordering.{Ordering}
 use Rattle.std.specs.declared.cmp.Ordering.TheVariants.{Less, Equal, Greater}
@@ -175,35 +174,6 @@ pub items_within : (proc : ProcTree) (args : List Value) → IsSoundProc proc �
 items_within proc args sound fits =
     all_map (λ (d : KeyDecl). AllIn (IsSoundItem proc.params) d.items) (λ (d : KeyDecl). AllIn (IsItemWithin (length args)) d.items) proc.keys
     (λ (d : KeyDecl) s. all_map (IsSoundItem proc.params) (IsItemWithin (length args)) d.items (one_within proc.params (length args) (pairwise_length IsOfKind proc.params args fits)) s) sound.items
-
--- a use that is put in at a place
-
-set_cut : {A : Type 0} (xs : List A) (i : ℕ) (x : A) → i < length xs → set xs i x ≡ take i xs ++ x ∷ drop (suc i) xs
-set_cut [] i x below = absurd (omega arith)
-set_cut (y ∷ xs) zero x below = refl
-set_cut (y ∷ xs) (suc i) x below = ap (λ ys. y ∷ ys) (set_cut xs i x (omega arith))
-
-module _ (xs : List (Bytes × Bool)) (i : ℕ) (v u : Bytes × Bool) (below : i < length xs) (is : v ≡ get_or xs i v) (further : with_use xs u ≡ take i xs ++ with_use (drop i xs) u) where
-  cut : drop i xs ≡ v ∷ drop (suc i) xs
-  cut = drop-cons xs i v below ∙ ap (λ x. x ∷ drop (suc i) xs) (sym is)
-
-  placed_at : (o : Ordering) → slice_cmp nat_cmp u.0 v.0 ≡ o → with_use xs u ≡ take i xs ++ placed_use o u v (drop (suc i) xs) (with_use (drop (suc i) xs) u)
-  placed_at o e = further ∙ ap (λ ys. take i xs ++ with_use ys u) cut ∙ ap (λ o. take i xs ++ placed_use o u v (drop (suc i) xs) (with_use (drop (suc i) xs) u)) e
-
-  pub use_before : slice_cmp nat_cmp u.0 v.0 ≡ Less → take i xs ++ u ∷ drop i xs ≡ with_use xs u
-  use_before e = ap (λ ys. take i xs ++ u ∷ ys) cut ∙ sym (placed_at Less e)
-
-  pub use_same : slice_cmp nat_cmp u.0 v.0 ≡ Equal → set xs i (v.0, v.1 || u.1) ≡ with_use xs u
-  use_same e = set_cut xs i (v.0, v.1 || u.1) below ∙ sym (placed_at Equal e)
-
-pub use_last : (xs : List (Bytes × Bool)) (i : ℕ) (u : Bytes × Bool) → length xs ≤ i → with_use xs u ≡ take i xs ++ with_use (drop i xs) u → xs ++ u ∷ [] ≡ with_use xs u
-use_last xs i u past further = sym (further ∙ ap₂ (λ ys zs. ys ++ with_use zs u) (take_all i xs past) (drop_all i xs past))
-
--- what was read at a place is one thing
-pub same_read : {A : Type 0} (xs : List A) (i : ℕ) (v w : A) → i < length xs → v ≡ get_or xs i v → w ≡ get_or xs i w → v ≡ w
-same_read [] i v w below p q = absurd (omega arith)
-same_read (x ∷ xs) zero v w below p q = p ∙ sym q
-same_read (x ∷ xs) (suc i) v w below p q = same_read xs i v w (omega arith) p q
 
 zero_add : (j : ℕ) → 0 + j ≡ j
 zero_add j = omega arith

@@ -4,6 +4,7 @@ pub mod Callers
 pub mod FrameLaws
 pub mod KeyFronts
 pub mod KeyLaws
+pub mod KeyModes
 pub mod NumberLaws
 pub mod OperandLaws
 pub mod RowLaws

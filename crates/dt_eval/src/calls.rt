@@ -4,11 +4,12 @@ ghost use Rattle.dt_eval.specs.FrameInner.{ArePlaces, IsItemWithin};
 ghost use Rattle.dt_eval.specs.Keys.{HasKeys, keys_of, names_given, names_of};
 ghost use Rattle.dt_eval.specs.Meaning.{Fits, IsOfKind, meaning, unchanged};
 
-use crate::finish::{Finish, Reads, Values};
+use crate::finish::{Finish, Reads};
 use crate::frame::Frame;
 use crate::places::place_of;
 use crate::rows::{Places, Rows};
 use crate::stop::Stop;
+use crate::values::Values;
 use crate::variables::Variables;
 use dt_access::TryCopy;
 use dt_proc::{KeyDecl, Kind, Proc};

@@ -1,13 +1,11 @@
 ghost use Rattle.std.specs.Prelude.{◌≡◌, IfOk};
 
+use crate::values::Values;
 use dt_access::{Shared, Writes};
 use dt_text::{Common, Key, Listed, NoMemory, Str, Value};
 
 /// The arguments of a call.
 pub type Args = Shared<Value>;
-
-/// The values that a call gives, each a value or none.
-pub type Values = Listed<Option<Value>>;
 
 /// The values of the rows that a call uses, each a value or none.
 pub type Reads = Listed<(Key, Option<Value>)>;

@@ -10,7 +10,7 @@ ghost use Rattle.dt_eval.specs.declared.state.Datum.TheVariants.{Int, Bool as Tr
 ghost use Rattle.dt_eval.specs.FrameInner.{EvalAnswers, HasSortIn, IsSorted, IsSoundBlock, IsSoundStep, RunReaches, TestAnswers, seen, told_in};
 ghost use Rattle.dt_eval.specs.Statements.{after_block, after_gifts, after_step, gift_value};
 
-use crate::finish::{Cause, Values};
+use crate::finish::Cause;
 use crate::operators::{
     byte_count, compared, computed, decides, negated, number_at, number_in, of_numbers, operate,
     opposite, printed, stored, text_in, truth_of,
@@ -18,6 +18,7 @@ use crate::operators::{
 use crate::rows::Rows;
 use crate::state::Datum;
 use crate::stop::Stop;
+use crate::values::Values;
 use crate::variables::Variables;
 use dt_proc::{Expr, Give, Op, Stmt, Stmts};
 use dt_text::{Common, Value};

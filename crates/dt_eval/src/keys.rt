@@ -1,5 +1,6 @@
-ghost use Rattle.std.specs.Prelude.{◌≡◌, ◌<◌, ◌^◌, ◌++◌, ℕ, Some, IfOk, OnOk, length};
+ghost use Rattle.std.specs.Prelude.{◌≡◌, ◌<◌, ◌^◌, ◌++◌, ℕ, Bool, List, [], Some, IfOk, OnOk, if◌then◌else◌, length};
 ghost use Rattle.dt_lists.specs.Lists.{AllIn};
+ghost use Rattle.dt_access.specs.declared.access.Mode.TheVariants.{Write};
 ghost use Rattle.dt_text.specs.Texts.{IsKey};
 ghost use Rattle.dt_eval.specs.Keys.{HasKeys, IsFirstBadKey, item_text, key_text, keys_of, mode_of, names_of, plain, use_of, with_modes, with_use};
 ghost use Rattle.dt_eval.specs.Meaning.{Fits};
@@ -54,13 +55,24 @@ pub fn keys_of(alloc: Global, body: &Proc, args: &[Value]) -> Result<Keys, KeysE
     ensures ok { IfOk result (λ keys. HasKeys body.now args.now) }
     ensures bad { (i : ℕ) → result ≡ Err (KeysError.BadKey i) → IsFirstBadKey (names_of body.now args.now) i }
 {
-    let mut uses = Vec::new(alloc);
     let declarations = body.keys();
+    if let [declared] = declarations {
+        let (key, write) = use_of(alloc, 0, declared, args)?;
+        return Ok(Keys::one(alloc, (key, mode_of(write))));
+    }
+    let mut uses = room_for(alloc, declarations.len())?;
     for (number, declared) in declarations.iter().enumerate() {
         let (key, write) = use_of(alloc, number, declared, args)?;
         add_use(&mut uses, key, write)?;
     }
-    Ok(Keys::from_vec(alloc, with_modes(alloc, uses)?)?)
+    Ok(Keys::from_vec(alloc, uses)?)
+}
+
+/// An empty list with room for this many uses.
+fn room_for(alloc: Global, uses: usize) -> Result<Vec<(Key, Mode)>, NoMemory>
+    ensures { IfOk result (λ list. list.items ≡ []) }
+{
+    Ok(Vec::with_capacity(alloc, uses)?)
 }
 
 /// The key of the declaration of this number, and whether it may be written.
@@ -126,35 +138,31 @@ fn add_argument(text: &mut Joined, argument: &Value) -> Result<(), NoMemory>
 
 /// Adds a use to uses in ascending order of keys: a key that is there already stays once, and may be written if either use
 /// of it writes.
-fn add_use(uses: &mut Vec<(Key, bool)>, key: Key, write: bool) -> Result<(), NoMemory>
-    ensures { OnOk result (uses.new.items ≡ with_use uses.old.items (key, write)) }
+fn add_use(uses: &mut Vec<(Key, Mode)>, key: Key, write: bool) -> Result<(), NoMemory>
+    ensures { (before : List (List ℕ × Bool)) → uses.old.items ≡ with_modes before → OnOk result (uses.new.items ≡ with_modes (with_use before (key, write))) }
 {
     for place in 0..uses.len() {
         match key.cmp(&uses[place].0) {
             Ordering::Less => {
-                uses.insert(place, (key, write))?;
+                uses.insert(place, (key, mode_of(write)))?;
                 return Ok(());
             }
             Ordering::Equal => {
-                uses[place].1 |= write;
+                uses[place].1 = joined(uses[place].1, write);
                 return Ok(());
             }
             Ordering::Greater => {}
         }
     }
-    uses.push((key, write))?;
+    uses.push((key, mode_of(write)))?;
     Ok(())
 }
 
-/// The uses with their modes.
-fn with_modes(alloc: Global, uses: Vec<(Key, bool)>) -> Result<Vec<(Key, Mode)>, NoMemory>
-    ensures { IfOk result (λ keys. keys.items ≡ with_modes uses.items) }
+/// The mode of a key with one use more, which may write it or not.
+fn joined(mode: Mode, write: bool) -> Mode
+    ensures { result ≡ (if write then Write else mode) }
 {
-    Ok(
-        uses.into_iter()
-            .map(|(key, write)| (key, mode_of(write)))
-            .collect(alloc)?,
-    )
+    if write { Mode::Write } else { mode }
 }
 
 /// `Write` where the key may be written, else `Read`.

@@ -16,9 +16,11 @@ mod places;
 mod rows;
 mod state;
 mod stop;
+mod values;
 mod variables;
 
 pub use calls::{fits, run, run_owned};
-pub use finish::{Args, Cause, Finish, Reads, Values};
+pub use finish::{Args, Cause, Finish, Reads};
 pub use keys::{KeysError, keys_of};
 pub use laws::{keys_alone_count, meaning_is_by_cases, only_declared_are_written};
+pub use values::Values;
