@@ -65,7 +65,7 @@ pub fn keys_of(alloc: Global, body: &Proc, args: &[Value]) -> Result<Keys, KeysE
         let (key, write) = use_of(alloc, number, declared, args)?;
         add_use(&mut uses, key, write)?;
     }
-    Ok(Keys::from_vec(alloc, uses)?)
+    Ok(Keys::from_vec(alloc, uses))
 }
 
 /// An empty list with room for this many uses.
