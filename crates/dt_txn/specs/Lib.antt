@@ -1,4 +1,5 @@
 pub mod Accesses
+pub mod AccessesInner
 pub mod Transaction
 pub mod HomesAsked
 pub mod Execution

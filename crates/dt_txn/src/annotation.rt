@@ -44,7 +44,7 @@ fn annotated(alloc: Global, body: &Body, procs: &Procs, table: &Table) -> Result
     ensures { IfOk result (λ access. access ≡ map (annotated table.now.state) (uses_of procs.now table.now.state.version body.now)) }
 {
     let uses = uses(alloc, body, procs, table.version())?;
-    let mut access = Vec::with_capacity(alloc, uses.as_slice().len())?;
+    let mut access = Accesses::new(alloc);
     for (key, mode) in uses.as_slice() {
         let key = table.hinted(key.copy(alloc)?);
         let mastership = table.mastership(&key);
@@ -55,7 +55,7 @@ fn annotated(alloc: Global, body: &Body, procs: &Procs, table: &Table) -> Result
             counter: mastership.counter,
         })?;
     }
-    Accesses::from_vec(alloc, access)
+    Ok(access)
 }
 
 /// The keys that a body uses in this version, in ascending order, each with its mode.
@@ -66,9 +66,8 @@ fn uses(alloc: Global, body: &Body, procs: &Procs, version: u8) -> Result<Keys, 
     match body {
         Body::Call(number, args) => call_keys(alloc, procs, *number, args.as_slice()),
         Body::Move(key, _) => {
-            let mut keys = Keys::new(alloc);
-            keys.push((key.copy(alloc)?, mode_of_move(version)))?;
-            Ok(keys)
+            let key = key.copy(alloc)?;
+            Ok(Keys::one(alloc, (key, mode_of_move(version))))
         }
     }
 }

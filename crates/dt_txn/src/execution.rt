@@ -4,11 +4,12 @@ ghost use Rattle.dt_eval.specs.Calls.{CallFits, call_keys, call_meaning};
 ghost use Rattle.dt_txn.specs.Transaction.{CanRun, HasItsUses, keys_used};
 ghost use Rattle.dt_txn.specs.Execution.{execution, see, seen_of, one, reads_of, result_of, stale_of, of_finish, no_effect};
 ghost use Rattle.dt_txn.specs.ReadingInner.{AreReads};
+ghost use Rattle.dt_txn.specs.declared.outcome.Outcome.TheVariants.{Stale};
 
 use crate::called::called;
 use crate::outcome::{Outcome, Seen, Seens};
 use crate::txn::{Body, Txn};
-use dt_access::{Access, TryCopy, Writes, unit_bytes};
+use dt_access::{Access, TryCopy, TxnId, Writes, unit_bytes};
 use dt_eval::{Finish, Reads, Values, run_owned};
 use dt_proc::Procs;
 use dt_table::{Effect, Table, UnitName};
@@ -90,11 +91,7 @@ fn read(alloc: Global, access: &[Access], table: &Table) -> Result<Result<Reads,
         let row = table.row(&entry.key, entry.counter);
         if let Some(by) = row.mover {
             let unit = Key::new(alloc, unit_bytes(table.version(), &entry.key))?;
-            return Ok(Err(Outcome::Stale {
-                key: Common::new(alloc, unit)?,
-                had: entry.counter,
-                by,
-            }));
+            return Ok(Err(stale_unit(alloc, unit, entry.counter, by)?));
         }
         reads.push((entry.key.copy(alloc)?, copied(alloc, row.value)?))?;
     }
@@ -118,14 +115,22 @@ fn stale(alloc: Global, access: &[Access], seen: &[Seen]) -> Result<Option<Outco
 {
     for (place, entry) in access.iter().enumerate() {
         if let Some(by) = seen[place].mover {
-            return Ok(Some(Outcome::Stale {
-                key: Common::new(alloc, seen[place].unit.copy(alloc)?)?,
-                had: entry.counter,
-                by,
-            }));
+            let unit = seen[place].unit.copy(alloc)?;
+            return Ok(Some(stale_unit(alloc, unit, entry.counter, by)?));
         }
     }
     Ok(None)
+}
+
+/// The outcome Stale of a unit that was annotated with `had` moves; `by` made the next one.
+fn stale_unit(alloc: Global, unit: Key, had: u32, by: TxnId) -> Result<Outcome, NoMemory>
+    ensures { IfOk result (λ outcome. outcome ≡ Stale unit had by) }
+{
+    Ok(Outcome::Stale {
+        key: Common::new(alloc, unit)?,
+        had,
+        by,
+    })
 }
 
 /// The rows that a transaction reads, from what it saw.

@@ -74,17 +74,25 @@ fn keys_at(alloc: Global, body: &Body, home: u8, access: &[Access]) -> Result<Ke
     ensures { IfOk result (λ keys. keys ≡ map used_of (entries_at body.now home access.now)) }
 {
     let is_move = matches!(body, Body::Move(_, _));
-    let mut keys = Vec::with_capacity(alloc, access.len())?;
+    let mut keys = Keys::new(alloc);
     for entry in access {
         if is_move || entry.home == home {
             keys.push((entry.key.copy(alloc)?, entry.mode))?;
         }
     }
-    Keys::from_vec(alloc, keys)
+    Ok(keys)
 }
 
 /// The part of a transaction at a home.
 pub fn part_at(alloc: Global, txn: &Txn, home: u8) -> Result<Part, NoMemory>
+    ensures { IfOk result (λ part. part ≡ part_of txn.now home) }
+{
+    part_with(alloc, txn, home, homes(alloc, txn)?)
+}
+
+/// The part of a transaction at a home, where `homes` are those of the transaction.
+fn part_with(alloc: Global, txn: &Txn, home: u8, homes: Homes) -> Result<Part, NoMemory>
+    requires { homes ≡ homes_of txn.now }
     ensures { IfOk result (λ part. part ≡ part_of txn.now home) }
 {
     Ok(Part {
@@ -92,7 +100,7 @@ pub fn part_at(alloc: Global, txn: &Txn, home: u8) -> Result<Part, NoMemory>
         rank: txn.rank,
         home,
         keys: keys_at(alloc, &txn.body, home, txn.access.as_slice())?,
-        homes: homes(alloc, txn)?,
+        homes,
     })
 }
 
@@ -103,7 +111,7 @@ pub fn parts(alloc: Global, txn: &Txn) -> Result<Vec<Part>, NoMemory>
     let homes = homes(alloc, txn)?;
     let mut parts = Vec::with_capacity(alloc, homes.as_slice().len())?;
     for home in homes.as_slice() {
-        parts.push(part_at(alloc, txn, *home)?)?;
+        parts.push(part_with(alloc, txn, *home, homes.copy(alloc)?)?)?;
     }
     Ok(parts)
 }
