@@ -1,6 +1,6 @@
 -- What is ready or stuck is a vertex that is kept, what was forgotten is past, and there are fewer vertices than a 32-bit number
 -- can count.
-use Rattle.std.proofs.Common.{◌≡◌, ◌≢◌, ◌<◌, ◌≤◌, ◌^◌, ◌∙◌, ◌++◌, ◌∷◌, ℕ, List, [], Option, None, Some, length, get_or, set, slice_get, filter, not, refl, sym, ap, subst, inl, inr, arith}
+use Rattle.std.proofs.Common.{◌≡◌, ◌≢◌, ◌<◌, ◌≤◌, ◌^◌, ◌∙◌, ◌++◌, ◌∷◌, ℕ, List, [], Option, None, Some, length, get_or, set, slice_get, not, refl, sym, ap, subst, inl, inr, arith}
 use Rattle.std.proofs.lemmas.Option.{get_or_from_slice_get, slice_get_within}
 use Rattle.dt_lists.specs.Lists.{AllIn, Has}
 use Rattle.dt_lists.proofs.Callers.{all_append, all_get, all_map, all_put, distinct_within, either_le, either_nat, filter_all, has_place, place_in_longer, set_beside, set_here, some_same}

@@ -1,5 +1,5 @@
 -- Records of which some at the front are gone: those that are kept stand behind them.
-use Rattle.std.proofs.Common.{◌≡◌, ◌≤◌, ◌<◌, ◌+◌, ◌-◌, ◌∙◌, ℕ, zero, suc, List, [], ◌∷◌, ◌++◌, length, get_or, set, refl, sym, ap, subst, arith}
+use Rattle.std.proofs.Common.{◌≡◌, ◌≤◌, ◌<◌, ◌-◌, ◌∙◌, ℕ, zero, suc, List, [], ◌∷◌, ◌++◌, length, get_or, set, sym, ap, subst, arith}
 use Rattle.std.proofs.lemmas.List.{length-append, length-map, set-append_right}
 use Rattle.dt_graph.specs.declared.kept.Kept.{Kept}
 use Rattle.dt_graph.specs.VerticesInner.{vertices_of}

@@ -1,6 +1,6 @@
 -- Of some vertices those that are stuck and of degree 0 become ready. Of one vertex, of more vertices, and along the
 -- walk over the followers of an entry.
-use Rattle.std.proofs.Common.{◌≡◌, ◌≢◌, ◌↔◌, ◌∙◌, ℕ, List, [], ◌++◌, map, get_or, slice_get, None, refl, sym, ap, subst, inl, inr}
+use Rattle.std.proofs.Common.{◌≡◌, ◌≢◌, ◌↔◌, ◌∙◌, ℕ, List, [], ◌++◌, map, get_or, slice_get, None, sym, ap, subst, inl, inr}
 use Rattle.std.proofs.lemmas.List.{append-nil}
 use Rattle.dt_lists.specs.Lists.{AnyIn, Has, Either}
 use Rattle.dt_lists.proofs.Callers.{any_get, either_any, either_nat}
@@ -28,13 +28,6 @@ wakes_one degrees u stuck ready stuck_now ready_now zero h r p = record {
     λ m. let o : Has stuck v × (v ≢ u) = (r v).0 m in (o.0, λ w. o.1 (sym w.1)),
     λ s. (r v).1 (s.0, λ e. s.1 (subst (λ x. get_or degrees x 0 ≡ 0) (sym e) zero, sym e)),
   );
-}
-
--- of one that isn't stuck, or of a higher degree
-pub wakes_not : (degrees : List ℕ) (u : ℕ) (stuck ready : List ℕ) → ¬ ((get_or degrees u 0 ≡ 0) × Has stuck u) → Wakes (λ v. u ≡ v) degrees stuck ready stuck ready
-wakes_not degrees u stuck ready n = record {
-  woken = λ v. (λ h. inl h, λ s. elim s [ inl h ↦ h | inr w ↦ absurd (n (subst (λ x. get_or degrees x 0 ≡ 0) (sym w.2) w.1, subst (Has stuck) (sym w.2) w.0)) ]);
-  still_stuck = λ v. (λ h. (h, λ w. n (subst (λ x. get_or degrees x 0 ≡ 0) (sym w.1) w.0, subst (Has stuck) (sym w.1) h)), λ r. r.0);
 }
 
 -- of the same, put otherwise

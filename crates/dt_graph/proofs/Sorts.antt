@@ -1,5 +1,5 @@
 -- Putting a vertex to the ready ones or to the stuck ones, step by step.
-use Rattle.std.proofs.Common.{◌≡◌, ◌≢◌, ℕ, List, get_or, inl, inr, refl}
+use Rattle.std.proofs.Common.{◌≡◌, ◌≢◌, ℕ, List, get_or, inl, inr}
 use Rattle.dt_waits.specs.declared.vertex.Vertex.{Vertex}
 use Rattle.dt_waits.specs.Graph.{vertex_at}
 use Rattle.dt_graph.specs.SubsetInner.{PutsIn}

@@ -1,6 +1,6 @@
--- The vertices as they are kept: a record of each, by its number, and the numbers of the ready and of the stuck ones. The record
--- of a vertex that is ready or stuck has its place among those. Contracts see plain lists. Read next: `SubsetInner`, for how
--- numbers and places belong together.
+-- The vertices as they are kept: a record of each, by its number, from the first that is not forgotten on, and the numbers of
+-- the ready and of the stuck ones. The record of a vertex that is ready or stuck has its place among those. Contracts see plain
+-- lists, with what was forgotten. Read next: `SubsetInner`, for how numbers and places belong together.
 use Rattle.std.specs.Prelude.{◌≡◌, ◌≤◌, ◌<◌, ◌+◌, ◌-◌, ◌^◌, ℕ, List, length, map, min, Option, None, Some}
 use Rattle.dt_waits.specs.declared.vertex.Vertex.{Vertex}
 use Rattle.dt_graph.specs.declared.kept.Kept.{Kept}

@@ -1,6 +1,6 @@
 use Rattle.std.proofs.Common.{◌∙◌, ap, refl, subst, sym}
 use Rattle.dt_graph.specs.SubsetInner.{PutsIn, Removes}
-use Rattle.dt_graph.proofs.ReadyVertices.{wakes_not, wakes_one}
+use Rattle.dt_graph.proofs.ReadyVertices.{wakes_one}
 use Rattle.dt_graph.proofs.leave.wake.Goals as goal
 
 pub add_ready-requires-clause-apart : goal.add_ready-requires-clause-apart

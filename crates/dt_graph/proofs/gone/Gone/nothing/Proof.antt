@@ -1,31 +1,28 @@
 -- `nothing` picks no record. Assumes `Logic`.
-use Rattle.std.proofs.Common.{◌<◌, ◌^◌, ℕ, List, [], ◌∷◌, refl, sym, subst}
+use Rattle.std.proofs.Common.{[], ◌∷◌, refl}
 use seplogic.Ra.Ura.{Ura}
-use mir.Syntax.{Fn, w8}
-use mir.Val.{Val, vint}
-use base.Logic.{SProp, ent, via, fst∗, snd∗}
+use mir.Syntax.{Fn}
+use mir.Val.{Val}
+use base.Logic.{SProp, ent}
 use prog.Memory.{Memory}
 use prog.Routine.{Routine}
 use prog.Wp.{Calls, Loops, WpFn, Tables}
-use contract.Monad.{Fun, fact_use}
+use contract.Monad.{Fun}
 use contract.Running.{tables, tables_of}
 use sound.WpLaws.{WpFn-mono}
-use types.Logic.{Logic, sem}
-use types.Kit.{‵, raw, ◌⊛◌, ◌$◌, ◌∵◌, !, qed, move, keep, drop, split, fjoin, suffices, done}
+use types.Logic.{Logic}
+use types.Kit.{‵, raw, ◌⊛◌, ◌$◌, ◌∵◌, !, qed, move, keep, split, fjoin, suffices, done}
 use types.Part.{agg}
 use types.Run.{enter, returns, no_more}
 use types.ByLocal.{alloc_all, pass_all, free_all, look_at, sets}
-use denote.Exit.{yes}
-use denote.RattleType.{RattleType, owns}
-use denote.Builtin.{u8}
-use denote.Laws.{Are, Ises, owns_show, showss}
-use denote.Signature.{plain, types_at}
+use denote.RattleType.{owns}
+use denote.Signature.{types_at}
 use denote.Steps.{nothing}
 use denote.Triple.Clauses.{Clauses, Ended, closing}
-use denote.Triple.Entry.{alive, on_entry}
+use denote.Triple.Entry.{alive}
 use denote.Triple.Spec.{Meets, triple_of}
 use denote.Triple.Table.{entered}
-use denote.Triple.Walked.{says, Stays, stay_dropped, walk_of, ends_at, walk_Meets, Goes-dropped}
+use denote.Triple.Walked.{says, Stays, walk_of, ends_at, walk_Meets}
 use Rattle.dt_graph.proofs.NoFields.{none, none_made}
 use Rattle.dt_graph.specs.contracts.gone.Gone as Gone
 use Rattle.dt_graph.specs.contracts.gone.Gone.nothing as F

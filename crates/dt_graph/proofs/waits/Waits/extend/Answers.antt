@@ -1,4 +1,4 @@
-use Rattle.std.proofs.Common.{◌≡◌, ◌∙◌, ◌<◌, sym, ap, subst}
+use Rattle.std.proofs.Common.{◌∙◌, ◌<◌, sym, ap, subst}
 use Rattle.dt_waits.specs.Graph.{vertex_at}
 use Rattle.dt_graph.specs.SmallStepsInner.{Enters, Sorts}
 use Rattle.dt_graph.proofs.PartsOfVertices.{added_again}
