@@ -1,5 +1,3 @@
-ghost use Rattle.std.specs.Prelude.{◌≤◌};
-
 use dt_text::NoMemory;
 use std::alloc::Global;
 
@@ -25,14 +23,6 @@ impl Hints {
     pub fn get(&self, hint: u32) -> Option<usize> {
         let after = *self.after.get(hint as usize)?;
         (after as usize).checked_sub(1)
-    }
-
-    /// By how many the hints seen outnumber so many things, and 1 at least: for as many of them there should be room, so that they are
-    /// not moved again and again as they grow.
-    pub fn beyond(&self, things: usize) -> usize
-        ensures { 1 ≤ result }
-    {
-        self.after.len().saturating_sub(things).max(1)
     }
 
     /// Notes where something of a key with this hint was found. The hint 0 is that of keys without one.

@@ -99,7 +99,7 @@ impl Rows {
         let copied = (name.0, name.1.copy(alloc)?);
         let granule = self.granule((name.0, granule(alloc, &name.1)?))?;
         let row = self.table.len();
-        self.table.reserve(self.hints.beyond(row))?;
+        self.table.reserve(1)?;
         self.names.insert(name)?;
         self.table.push_reserved(Row::new(copied, granule));
         Ok(row)
