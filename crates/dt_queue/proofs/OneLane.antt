@@ -1,11 +1,15 @@
 -- A lane: its first mark, which lies in the lane itself, and those after it. What is found in its tail is found in the whole lane.
 use Rattle.std.proofs.Common.{◌≡◌, ◌≢◌, ℕ, zero, ◌<◌, ◌≤◌, ◌⊎◌, Bool, true, false, ◌==◌, cond, if◌then◌else◌, List, []}
 use Rattle.std.proofs.Common.{◌∷◌, ◌++◌, length, drop, map, not, is_some, Option, Some, None, Result, Ok, Err, OnOk, OnErr}
-use Rattle.std.proofs.Common.{refl, ap, sym, subst, inl, inr, arith, ◌∙◌}
+use Rattle.std.proofs.Common.{Box, Global, refl, ap, sym, subst, inl, inr, arith, ◌∙◌}
 use Rattle.std.specs.List.{filter}
 use Rattle.dt_lists.specs.Lists.{AllIn, Has}
 use Rattle.dt_lists.proofs.Callers.{all_get, all_map, either_nat, filter_each}
+use Rattle.dt_queue.specs.declared.lane.Further.{Further}
+use Rattle.dt_queue.specs.declared.lane.Further.TheVariants as further
 use Rattle.dt_queue.specs.declared.mark.Mark.{Mark}
+use Rattle.dt_queue.specs.declared.tail.Tail.{Tail}
+use Rattle.dt_queue.specs.FurtherInner.{tail_of}
 use Rattle.dt_queue.specs.LanesInner.{EndsBelow, HasRisingNumbers, IsBetween, IsFirstBetween, IsLastBetween, IsOneLane, is_between, marks_of}
 use Rattle.dt_queue.specs.NumbersInner.{IsGap, renumbered}
 use Rattle.dt_queue.proofs.Marks.{first_removed, is_not, numbered_more}
@@ -29,6 +33,12 @@ some_marks f t ne = by (f.number == 0) (grind (arith, ne))
     by : (b : Bool) → b ≡ false → (if b then [] else f ∷ t) ≡ f ∷ t
     by true e = cc
     by false e = refl
+
+-- where no marks lie after the first, there is none
+pub no_tail : (t : Further) → ((tail : Box Tail Global) → t ≢ further.Marks tail) → tail_of t ≡ []
+no_tail further.None not_there = refl
+no_tail (further.Idle tail) not_there = refl
+no_tail (further.Marks tail) not_there = absurd (not_there tail refl)
 
 -- a lane with marks has a first one
 has_first : (f : Mark) (t : List Mark) → 0 < length (marks_of f t) → f.number ≢ 0

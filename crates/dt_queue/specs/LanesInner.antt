@@ -1,18 +1,13 @@
 -- Lanes: the entries that use one row in one way, each as a mark with the number of its push. Their numbers ascend, so a lane
 -- is searched by halving, and what lies between two entries of other lanes is found by their numbers. Most lanes have one mark at
--- most, so the first lies in the lane itself (`marks_of`). Read next: `NextInner`, for how followers are found in them.
-use Rattle.std.specs.Prelude.{◌≡◌, ℕ, ◌<◌, ◌≤◌, ◌⊎◌, ◌↔◌, Bool, ◌&&◌, ◌==◌, nat_lt, if◌then◌else◌, List, [], ◌∷◌, ◌++◌, get_or, length, take, drop, Option, Some, None, Box, box_value}
+-- most, so the first lies in the lane itself (`marks_of`). Read next: `FurtherInner`, for where the others lie.
+use Rattle.std.specs.Prelude.{◌≡◌, ℕ, ◌<◌, ◌≤◌, ◌⊎◌, ◌↔◌, Bool, ◌&&◌, ◌==◌, nat_lt, if◌then◌else◌, List, [], ◌∷◌, ◌++◌, get_or, length, take, drop, Option, Some, None}
 use Rattle.dt_lists.specs.Lists.{AllIn, EachThen, Has}
 use Rattle.dt_queue.specs.declared.mark.Mark.{Mark}
 
 -- the numbers of the marks ascend
 abbrev pub HasRisingNumbers : List Mark → Type 0
 HasRisingNumbers marks = EachThen (λ m k. m.number < k.number) marks
-
--- the marks of a lane after its first one
-abbrev pub tail_of : {A : Type 0} → Option (Box (List Mark) A) → List Mark
-tail_of None = []
-tail_of (Some tail) = box_value tail
 
 -- the marks of a lane: the first, whose number is 0 where there is none, and those after it
 abbrev pub marks_of : Mark → List Mark → List Mark

@@ -1,5 +1,6 @@
 pub mod Queues
 pub mod LanesInner
+pub mod FurtherInner
 pub mod NextInner
 pub mod RowsInner
 pub mod ListedInner

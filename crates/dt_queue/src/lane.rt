@@ -1,6 +1,7 @@
 ghost use Rattle.std.specs.Prelude.{◌≡◌, ◌<◌, ◌≤◌, ◌==◌, [], ◌∷◌, ◌++◌, drop, length, map, not, OnOk, OnErr};
 ghost use Rattle.std.specs.List.{filter};
 ghost use Rattle.dt_lists.specs.Lists.{AllIn};
+ghost use Rattle.dt_queue.specs.FurtherInner.{IsIdleEmpty, tail_of};
 ghost use Rattle.dt_queue.specs.LanesInner.{IsFirstBetween, IsLastBetween, is_between};
 ghost use Rattle.dt_queue.specs.NumbersInner.{IsGap, renumbered};
 
@@ -9,6 +10,7 @@ use crate::tail::Tail;
 use dt_text::NoMemory;
 use std::alloc::Global;
 use std::marker::Model;
+use std::mem;
 
 /// The marks of entries that use one row in one way, in the order of their pushes. Most lanes have one mark at a time: so the
 /// first lies in the lane itself, and only those after it lie elsewhere.
@@ -16,19 +18,31 @@ use std::marker::Model;
 pub struct Lane {
     /// Its number is 0 where there is no mark.
     first: Mark,
-    tail: Option<Box<Tail>>,
+    further: Further,
+}
+
+/// The marks of a lane after its first one.
+#[derive(Drop)]
+enum Further {
+    /// There has been none.
+    None,
+    /// There is none, but the memory of earlier ones is kept for the next.
+    Idle(Box<Tail>),
+    /// They lie there, as far as there are any.
+    Marks(Box<Tail>),
 }
 
 impl Model for Lane {
     ghost use Rattle.std.specs.Prelude.{List};
     ghost use Rattle.dt_queue.specs.declared.mark.Mark.{Mark};
-    ghost use Rattle.dt_queue.specs.LanesInner.{IsOneLane, marks_of, tail_of};
+    ghost use Rattle.dt_queue.specs.FurtherInner.{IsIdleEmpty, tail_of};
+    ghost use Rattle.dt_queue.specs.LanesInner.{IsOneLane, marks_of};
 
     ghost Value = { List Mark };
 
-    ghost view = { λ l. marks_of l.first (tail_of l.tail) };
+    ghost view = { λ l. marks_of l.first (tail_of l.further) };
 
-    ghost invariant = { λ l. IsOneLane l.first (tail_of l.tail) };
+    ghost invariant = { λ l. IsOneLane l.first (tail_of l.further) × IsIdleEmpty l.further };
 }
 
 impl Lane {
@@ -38,7 +52,7 @@ impl Lane {
     {
         Lane {
             first: Mark::none(),
-            tail: None,
+            further: Further::None,
         }
     }
 
@@ -71,12 +85,15 @@ impl Lane {
         ensures added { OnOk result (self.new ≡ self.old ++ mark ∷ []) }
         ensures same { OnErr result (self.new ≡ self.old) }
     {
-        if let Some(tail) = &mut self.tail {
+        if let Further::Marks(tail) = &mut self.further {
             return tail.push(mark);
         }
-        let mut tail = Tail::new(alloc);
+        let mut tail = match mem::replace(&mut self.further, Further::None) {
+            Further::Idle(tail) => tail,
+            _ => Box::new(alloc, Tail::new(alloc))?,
+        };
         tail.push(mark)?;
-        self.tail = Some(Box::new(alloc, tail)?);
+        self.further = Further::Marks(tail);
         Ok(())
     }
 
@@ -86,25 +103,25 @@ impl Lane {
     {
         if self.first.number == number {
             self.remove_first();
-        } else if let Some(tail) = &mut self.tail {
+        } else if let Further::Marks(tail) = &mut self.further {
             tail.remove(number);
         }
     }
 
-    /// Takes out the first mark, if there is one. Takes no memory. A lane that has no mark any more lets the memory of its tail go,
-    /// so that it is not looked at again.
+    /// Takes out the first mark, if there is one. Takes no memory. A lane that has no mark any more keeps the memory of its tail,
+    /// and does not look at it again before a mark is put there.
     fn remove_first(&mut self)
         ensures { self.new ≡ drop 1 self.old }
     {
-        let next = match &mut self.tail {
-            Some(tail) => tail.pop_first(),
-            None => None,
+        let next = match &mut self.further {
+            Further::Marks(tail) => tail.pop_first(),
+            _ => None,
         };
         match next {
             Some(mark) => self.first = mark,
             None => {
                 self.first = Mark::none();
-                self.tail = None;
+                self.further = mem::replace(&mut self.further, Further::None).idle();
             }
         }
     }
@@ -118,7 +135,7 @@ impl Lane {
     {
         if self.first.number == number {
             self.first.number = new;
-        } else if let Some(tail) = &mut self.tail {
+        } else if let Further::Marks(tail) = &mut self.further {
             tail.renumber(number, new);
         }
     }
@@ -127,7 +144,7 @@ impl Lane {
     pub fn last_between(&self, low: u64, high: u64) -> Option<Mark>
         ensures { IsLastBetween low high self.now result }
     {
-        if let Some(tail) = &self.tail {
+        if let Further::Marks(tail) = &self.further {
             let last = tail.last_between(low, high);
             if last.is_some() {
                 return last;
@@ -141,8 +158,8 @@ impl Lane {
         ensures { IsFirstBetween low high self.now result }
     {
         let first = self.first.between(low, high);
-        match &self.tail {
-            Some(tail) if first.is_none() => tail.first_between(low, high),
+        match &self.further {
+            Further::Marks(tail) if first.is_none() => tail.first_between(low, high),
             _ => first,
         }
     }
@@ -154,9 +171,24 @@ impl Lane {
         if let Some(first) = self.first.between(low, high) {
             marks.push(first)?;
         }
-        match &self.tail {
-            Some(tail) => tail.add_between(low, high, marks),
-            None => Ok(()),
+        match &self.further {
+            Further::Marks(tail) => tail.add_between(low, high, marks),
+            _ => Ok(()),
+        }
+    }
+}
+
+impl Further {
+    /// The same, where no mark lies there: the memory of earlier ones is kept, and not looked at before the next.
+    fn idle(self) -> Self
+        requires none { tail_of self ≡ [] }
+        requires empty { IsIdleEmpty self }
+        ensures none { tail_of result ≡ [] }
+        ensures empty { IsIdleEmpty result }
+    {
+        match self {
+            Further::Marks(tail) => Further::Idle(tail),
+            other => other,
         }
     }
 }
