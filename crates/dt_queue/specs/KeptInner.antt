@@ -137,13 +137,6 @@ abbrev pub CellsClash : RowLinks → Cell → Cell → Type 0
 CellsClash r c d = ((c.row ≡ d.row) × ((may_change c.mode ≡ true) ⊎ (may_change d.mode ≡ true)))
     ⊎ ((granule_at r c.row ≡ granule_at r d.row) × ((is_whole c.mode ≡ true) ⊎ (is_whole d.mode ≡ true)))
 
--- a later cell hides all after it from a cell that reads or writes one row: it writes that row
-pub record HidesFrom (c d : Cell) : Type 0 where
-  pub narrow : is_whole c.mode ≡ false
-  pub writes : d.mode ≡ Write
-  pub row : c.row ≡ d.row
-  pub later : c.number < d.number
-
 -- it is the mark of one of the nearest cells before a cell that clash with it
 abbrev pub IsNearMark : Kept → Cell → Mark → Type 0
 IsNearMark k x m = (c : Cell) × (get k.cells m.slot ≡ Some c) × (m ≡ mark_of m.slot c) × (c.number < x.number) × CellsClash (links k.rows) c x
