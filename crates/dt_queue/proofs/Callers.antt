@@ -1,7 +1,7 @@
 -- What a caller's proof needs of queues: which entries wait after a push and after one is taken out.
 -- All other lemmas of this crate are its own.
-use Rattle.std.proofs.Common.{◌≡◌, ◌≢◌, ℕ, Bool, true, false, cond, not, ◌==◌, List, [], ◌∷◌, ◌++◌, map, slice_get, Some, refl, ap, inl, inr, arith}
-use Rattle.dt_lists.specs.Lists.{AllIn, Has}
+use Rattle.std.proofs.Common.{◌≡◌, ◌≢◌, ℕ, true, not, ◌==◌, List, [], ◌∷◌, ◌++◌, refl, inl, inr, arith}
+use Rattle.dt_lists.specs.Lists.{AllIn}
 use Rattle.dt_lists.proofs.Callers.{any_append_left, any_append_right, any_get, any_put, has_filter}
 use Rattle.dt_queue.specs.Queues.{HasDistinctSlots, IsQueued, Waiting, taken_out}
 

@@ -1,6 +1,6 @@
 -- What is shown of the cells: which entries wait, what their neighbours are, and what follows them.
-use Rattle.std.proofs.Common.{◌≡◌, ◌⊎◌, ℕ, ◌<◌, ◌≤◌, Bool, true, false, cond, not, ◌||◌, ◌==◌, nat_lt, List, eq-eqb, eqb-true, ltb-true, lt-ltb}
-use Rattle.std.proofs.Common.{[], ◌∷◌, ◌++◌, map, length, slice_get, Option, Some, None, option_map, refl, ap, ap₂, sym, subst, inl, inr, arith, ◌∙◌}
+use Rattle.std.proofs.Common.{◌≡◌, ◌⊎◌, ℕ, ◌<◌, Bool, true, false, cond, not, ◌||◌, ◌==◌, nat_lt, List, eq-eqb, eqb-true, ltb-true, lt-ltb}
+use Rattle.std.proofs.Common.{[], ◌∷◌, ◌++◌, map, length, slice_get, Some, None, refl, ap, ap₂, sym, subst, inl, inr, arith, ◌∙◌}
 use Rattle.std.specs.List.{filter}
 use Rattle.std.specs.List.Sorted.{IsPermutation}
 use Rattle.std.proofs.lemmas.List.Sorted.{IsPermutation-map}
@@ -8,7 +8,7 @@ use Rattle.std.proofs.lemmas.Simd.{map-map}
 use Rattle.std.proofs.lemmas.Option.{same_Some, slice_get-get_or}
 use Rattle.slab.specs.Slab.{Updates, get, entries, entries_from}
 use Rattle.dt_lists.specs.Lists.{AnyIn, Distinct, EachThen, Has, IsFront}
-use Rattle.dt_lists.proofs.Callers.{all_get, any_get, any_image, any_of_image, any_of_test, any_put, ascending_same, each_image, each_map, filter_each, has_filter, has_map, has_of_filtered, one_place}
+use Rattle.dt_lists.proofs.Callers.{any_get, any_image, any_of_image, any_of_test, any_put, ascending_same, each_image, each_map, filter_each, has_filter, has_map, has_of_filtered, one_place}
 use Rattle.dt_lists.proofs.Callers.{test_of_any}
 use Rattle.dt_access.specs.Clash.{Bytes, is_whole, may_change}
 use Rattle.dt_access.proofs.Callers.{clash_cases, uses_of_granule, uses_of_row}

@@ -9,13 +9,13 @@ use Rattle.std.specs.Prelude.{MatchOption}
 use Rattle.std.proofs.lemmas.List.{append-nil, append_assoc}
 use Rattle.std.proofs.lemmas.List.Sorted.{IsPermutation-cons, IsPermutation-middle, IsPermutation-refl, IsPermutation-sym, IsPermutation-trans}
 use Rattle.std.proofs.lemmas.Bool.{false_from_ne_true}
-use Rattle.dt_lists.specs.Lists.{AllIn, AnyIn, Distinct, EachThen, Has}
+use Rattle.dt_lists.specs.Lists.{AnyIn, Distinct, EachThen, Has}
 use Rattle.dt_lists.proofs.Callers.{Spot, all_append, all_append_left, all_append_right, all_get, all_put, any_append, any_append_left, any_append_right, any_get, ascending_same, each_across, each_append, each_append_right, each_map}
-use Rattle.dt_lists.proofs.Callers.{filter_each, filter_none, has_middle, spot}
+use Rattle.dt_lists.proofs.Callers.{filter_each, filter_none, spot}
 use Rattle.dt_queue.specs.declared.mark.Mark.{Mark}
 use Rattle.dt_queue.specs.declared.next.NextMarks.{NextMarks}
 use Rattle.dt_queue.specs.LanesInner.{AreApart, AreMarks, HasRisingNumbers, IsBetween, IsFirstBetween, IsFirstIn, IsNextInRow, is_between, number_or}
-use Rattle.dt_queue.specs.NextInner.{AreEachOnce, first_in, marks_left, next_of_row, next_of_rows, or_else_one, reads_left, rows_left}
+use Rattle.dt_queue.specs.NextInner.{AreEachOnce, first_in, next_of_row, next_of_rows, or_else_one, reads_left, rows_left}
 use Rattle.dt_queue.specs.TableInner.{lanes_read, lanes_written}
 use Rattle.dt_queue.proofs.Marks.{none_past}
 use Rattle.dt_queue.proofs.NearMarks.{AreLanesOfRow, either_between, in_between, next_first, next_reads, next_write, of_between, row_of, same_mark, trichotomy}
@@ -262,11 +262,3 @@ rows_out s none e =
     empty : (l : List ℕ) → length l ≡ 0 → l ≡ []
     empty [] f = refl
     empty (x ∷ l) f = cc
-
--- the marks of rows are given before the other one
-pub or_taken : (old new : List Mark) (m : Mark) (one : Option Mark) → old ≡ m ∷ new → or_else_one old one ≡ m ∷ or_else_one new None
-or_taken old new m one e = ap (λ l. or_else_one l one) e ∙ ap (λ l. m ∷ l) (same new)
-  where
-    same : (l : List Mark) → l ≡ or_else_one l None
-    same [] = refl
-    same (k ∷ l) = refl

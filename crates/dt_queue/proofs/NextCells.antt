@@ -1,10 +1,10 @@
 -- The marks of the nearest cells after a cell that clash with it, as they are found in the lanes.
 use Rattle.std.proofs.Common.{◌≡◌, ◌⊎◌, ◌↔◌, ℕ, ◌<◌, ◌≤◌, true, false, List, []}
-use Rattle.std.proofs.Common.{◌∷◌, Option, Some, None, is_some, refl, ap, sym, subst, inl, inr, arith, ◌∙◌}
+use Rattle.std.proofs.Common.{◌∷◌, Option, Some, None, refl, ap, sym, subst, inl, inr, arith, ◌∙◌}
 use Rattle.std.proofs.Math.Nat.{lt_trans}
 use Rattle.slab.specs.Slab.{get}
 use Rattle.dt_lists.specs.Lists.{Has}
-use Rattle.dt_lists.proofs.Callers.{all_get, any_get, any_put, either_le}
+use Rattle.dt_lists.proofs.Callers.{any_get, any_put}
 use Rattle.dt_access.specs.Clash.{is_whole}
 use Rattle.dt_access.specs.declared.access.Mode.{Mode}
 use Rattle.dt_access.specs.declared.access.Mode.TheVariants.{Read, Write, Whole}
@@ -12,11 +12,11 @@ use Rattle.dt_queue.specs.declared.cell.Cell.{Cell}
 use Rattle.dt_queue.specs.declared.mark.Mark.{Mark}
 use Rattle.dt_queue.specs.declared.kept.Kept.{Kept}
 use Rattle.dt_queue.specs.KeptInner.{CellsClash, AreQueuesKept, IsNextInMode, IsNextMark, IsNextOfMode, lane, mark_of}
-use Rattle.dt_queue.specs.LanesInner.{HasRisingNumbers, IsBetween, IsFirstBetween, IsNextInRow, number_or}
+use Rattle.dt_queue.specs.LanesInner.{IsBetween, IsFirstBetween, IsNextInRow, number_or}
 use Rattle.dt_queue.specs.NextInner.{AreEachOnce, or_else_one}
 use Rattle.dt_queue.specs.ListedInner.{rows_at}
 use Rattle.dt_queue.specs.RowsInner.{granule_at, links}
-use Rattle.dt_queue.proofs.NearMarks.{AreLanesOfRow, either_between, next_reads, next_write, row_of, same_mark, trichotomy}
+use Rattle.dt_queue.proofs.NearMarks.{AreLanesOfRow, next_reads, next_write, row_of, same_mark, trichotomy}
 use Rattle.dt_queue.proofs.FollowerMarks.{first_there, once_of_one}
 use Rattle.dt_queue.proofs.CellUses.{InUseOf, IsMarkOf, IsNarrow, apart_lanes, cell_in_row, cell_of, clash_turned, clash_uses, lane_tells, one_use}
 use Rattle.dt_queue.proofs.CellUses.{number_of_mark, on_one_row, one_cell, one_granule, narrow_cell, reads_agree, taker_of, use_clashes, whole_clashes, write_clashes}

@@ -1,4 +1,4 @@
-use Rattle.std.proofs.Common.{◌≡◌, ◌++◌, [], None, Some, ap, arith, false, get_or, is_some, length, option_to_list, refl, rules, subst, sym, true, ◌∙◌}
+use Rattle.std.proofs.Common.{◌≡◌, ◌++◌, [], None, Some, ap, arith, false, get_or, is_some, length, refl, rules, subst, sym, true, ◌∙◌}
 use Rattle.dt_queue.specs.TableInner.{lanes_read, lanes_written}
 use Rattle.dt_queue.specs.LanesInner.{AreApart, IsFirstBetween}
 use Rattle.dt_queue.specs.NextInner.{next_of_rows, rows_left}
