@@ -2,14 +2,14 @@
 -- is woken at once. A degree that falls again later is that of a follower which is met again then; so at each step of the walk all
 -- those are woken that were met and are of degree 0 now.
 use Rattle.std.proofs.Common.{◌≡◌, ◌≢◌, ◌+◌, ◌<◌, ◌≤◌, ◌⊎◌, ◌↔◌, ◌∙◌, ℕ, suc, true, false, ◌==◌, if◌then◌else◌, List, [], ◌∷◌, ◌++◌}
-use Rattle.std.proofs.Common.{length, map, filter, get_or, slice_index_or, refl, sym, ap, subst, inl, inr, arith}
+use Rattle.std.proofs.Common.{length, map, filter, get_or, refl, sym, ap, subst, inl, inr, arith}
 use Rattle.std.proofs.lemmas.Bool.{cases_Bool}
 use Rattle.std.proofs.lemmas.List.{append-nil, append_assoc}
 use Rattle.std.proofs.lemmas.List.Sorted.{Contains-permutation, IsPermutation-sym, sum_by-IsPermutation}
 use Rattle.std.proofs.lemmas.List.Sums.{sum_by-append, sum_by-cons}
 use Rattle.std.specs.List.{Contains, sum_by}
 use Rattle.std.specs.List.Sorted.{IsPermutation}
-use Rattle.dt_lists.specs.Lists.{AllIn, AnyIn, Has}
+use Rattle.dt_lists.specs.Lists.{AllIn, Has}
 use Rattle.dt_lists.proofs.Callers.{all_get, any_append, any_append_left, any_append_right, any_get, any_image, any_of_image, any_put, either_nat, filter_all, has_at, has_middle}
 use Rattle.dt_queue.specs.declared.Follower.{Follower}
 use Rattle.dt_queue.specs.Queues.{Waiting, follower_of, followers, is_neighbour}
@@ -51,16 +51,16 @@ taken_is u v [] = by (cases_Bool (u == v))
     by (inr e) = rw e refl
 taken_is u v (w ∷ ws) = sum_by-cons (λ (f : Follower). falls u f.vertex v) (follower_of w) (map follower_of ws) ∙ ap (λ n. falls u w.vertex v + n) (taken_is u v ws) ∙ by (cases_Bool (u == v)) (cases_Bool (w.vertex == v))
   where
-    by : ((u == v) ≡ true) ⊎ ((u == v) ≡ false) → ((w.vertex == v) ≡ true) ⊎ ((w.vertex == v) ≡ false) → falls u w.vertex v + to_lower u v ws ≡ to_lower u v (w ∷ ws)
-    by (inl e) f = rw e refl
-    by (inr e) (inl f) = rw (e, f) (one_more _)
-    by (inr e) (inr f) = rw (e, f) (none_more _)
-
     one_more : (n : ℕ) → 1 + n ≡ suc n
     one_more n = omega arith
 
     none_more : (n : ℕ) → 0 + n ≡ n
     none_more n = omega arith
+
+    by : ((u == v) ≡ true) ⊎ ((u == v) ≡ false) → ((w.vertex == v) ≡ true) ⊎ ((w.vertex == v) ≡ false) → falls u w.vertex v + to_lower u v ws ≡ to_lower u v (w ∷ ws)
+    by (inl e) f = rw e refl
+    by (inr e) (inl f) = rw (e, f) (one_more _)
+    by (inr e) (inr f) = rw (e, f) (none_more _)
 
 module _ (waiting : List Waiting) (slot u : ℕ) where
   -- at a step of the walk: those in front were met, and the rest is left
@@ -83,6 +83,10 @@ module _ (waiting : List Waiting) (slot u : ℕ) where
         sym (sum_by-append (λ (f : Follower). falls u f.vertex v) k.front rest) ∙ sum_by-IsPermutation (λ (f : Follower). falls u f.vertex v) (map follower_of (followers waiting slot)) (k.front ++ rest) k.split
         ∙ taken_is u v (followers waiting slot)
 
+    -- the rest, put otherwise
+    pub freeing_at : (rest other : List Follower) → rest ≡ other → IsFreeing rest old now stuck ready stuck_now ready_now → IsFreeing other old now stuck ready stuck_now ready_now
+    freeing_at rest other e k = subst (λ l. IsFreeing l old now stuck ready stuck_now ready_now) e k
+
     -- what is said of all entries is said of a follower
     pub said_of : (P : ℕ → Type 0) (f : Follower) (more : List Follower) → IsFreeing (f ∷ more) old now stuck ready stuck_now ready_now → AllIn (λ w. P w.vertex) waiting → P f.vertex
     said_of P f more k said =
@@ -91,7 +95,8 @@ module _ (waiting : List Waiting) (slot u : ℕ) where
         subst P (ap (λ (g : Follower). g.vertex) w.2) (all_get (λ w. P w.vertex) (followers waiting slot) (filter_all (λ w. P w.vertex) (λ w. is_neighbour waiting slot w.slot) waiting said) w.0 w.1)
 
     -- the degree of another one isn't zero, where each has enough
-    pub may_lower : (f : Follower) (more : List Follower) → IsFreeing (f ∷ more) old now stuck ready stuck_now ready_now → f.vertex ≢ u → f.vertex < length old → lowered waiting slot u f.vertex ≤ get_or old f.vertex 0 → 1 ≤ get_or now f.vertex 0
+    pub may_lower : (f : Follower) (more : List Follower) → IsFreeing (f ∷ more) old now stuck ready stuck_now ready_now → f.vertex ≢ u → f.vertex < length old
+        → lowered waiting slot u f.vertex ≤ get_or old f.vertex 0 → 1 ≤ get_or now f.vertex 0
     may_lower f more k ne lt enough =
         some _ _ _ _ _ _ _ (k.lowers.1 f.vertex lt) (total (f ∷ more) k f.vertex) (sum_by-cons (λ (g : Follower). falls u g.vertex f.vertex) f more) one enough
       where

@@ -76,9 +76,10 @@ pub between_first : (low high : ℕ) (ms : List Mark) (m : Mark) → HasRisingNu
 between_first low high ms m num first =
     ascending_same (λ (m n : Mark). m.number < n.number) (λ m lt. omega (arith, lt)) (λ m n o lt le. omega (arith, lt, le))
     (filter (is_between low high) ms) (m ∷ filter (is_between m.number high) ms)
-    (filter_each (λ (m n : Mark). m.number < n.number) (is_between low high) ms num)
-    (all_put (λ (k : Mark). m.number < k.number) (filter (is_between m.number high) ms) (λ k h. (of_between m.number high ms k h).1.0),
-      filter_each (λ (m n : Mark). m.number < n.number) (is_between m.number high) ms num)
+    (filter_each (λ (m n : Mark). m.number < n.number) (is_between low high) ms num) (
+      all_put (λ (k : Mark). m.number < k.number) (filter (is_between m.number high) ms) (λ k h. (of_between m.number high ms k h).1.0),
+      filter_each (λ (m n : Mark). m.number < n.number) (is_between m.number high) ms num,
+    )
     (λ k h. place k (of_between low high ms k h) (trichotomy m.number k.number))
     (λ k h. elim h [
       | inl e ↦ subst (Has (filter (is_between low high) ms)) e (in_between low high ms m first.0 first.1)

@@ -27,13 +27,7 @@ impl<'a> NextMarks<'a> {
     ghost use Rattle.dt_queue.specs.NextInner.{first_in, marks_left, next_of_row, next_of_rows, or_else_one, reads_left, rows_left};
 
     /// For an entry that reads a row: of the marks of those that write it between two numbers the first one, or the other one.
-    pub fn of_read(
-        table: &'a [Row],
-        row: usize,
-        low: u64,
-        high: u64,
-        other: Option<Mark>,
-    ) -> Self
+    pub fn of_read(table: &'a [Row], row: usize, low: u64, high: u64, other: Option<Mark>) -> Self
         requires { HasRisingNumbers (get_or (lanes_written table.now) row []) }
         ensures marks { marks_left result ≡ or_else_one (option_to_list (first_in low high (get_or (lanes_written table.now) row []))) other }
         ensures table { result.table.now ≡ table.now }
@@ -51,13 +45,7 @@ impl<'a> NextMarks<'a> {
     }
 
     /// For an entry that writes a row: the marks of the row between two numbers that are next to it, or the other one.
-    pub fn of_write(
-        table: &'a [Row],
-        row: usize,
-        low: u64,
-        high: u64,
-        other: Option<Mark>,
-    ) -> Self
+    pub fn of_write(table: &'a [Row], row: usize, low: u64, high: u64, other: Option<Mark>) -> Self
         requires { HasRisingNumbers (get_or (lanes_written table.now) row []) }
         ensures marks { marks_left result ≡ or_else_one (next_of_row (get_or (lanes_read table.now) row []) (get_or (lanes_written table.now) row []) low high) other }
         ensures table { result.table.now ≡ table.now }
