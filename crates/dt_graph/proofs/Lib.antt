@@ -8,7 +8,6 @@ pub mod SortResults
 pub mod RunOrder
 pub mod ResolveCall
 pub mod Entries
-pub mod Followers
 pub mod Degrees
 pub mod WaitEdges
 pub mod WaitGraph
@@ -17,6 +16,7 @@ pub mod ClassAnswers
 pub mod Removals
 pub mod ReadyVertices
 pub mod ReadyFollowers
+pub mod Followers
 pub mod WalkByPlaces
 pub mod ClassMembers
 pub mod PartsOfVertices

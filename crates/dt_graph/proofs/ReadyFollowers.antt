@@ -1,23 +1,19 @@
--- On one walk degrees are lowered, and what comes to degree 0 is woken at once. A degree that falls again later is that
--- of a follower which is met again then; so at each place of the walk all those are woken that were met and are of degree 0 now.
+-- What is woken when degrees fall: first some, and then, after degrees of others were lowered, the others too.
 use Rattle.std.proofs.Common.{◌≡◌, ◌⊎◌, ◌↔◌, ◌∙◌, ◌+◌, ◌==◌, ◌<◌, ◌≤◌, ℕ, true, false}
-use Rattle.std.proofs.Common.{List, [], ◌∷◌, ◌++◌, length, filter, map, get_or, slice_get, take, Some, refl, sym, ap, subst, inl, inr, arith}
+use Rattle.std.proofs.Common.{List, [], ◌∷◌, ◌++◌, length, filter, get_or, take, refl, sym, subst, inl, inr, arith}
 use Rattle.std.proofs.lemmas.Bool.{cases_Bool}
-use Rattle.std.proofs.lemmas.List.{append_assoc, get_or_past}
+use Rattle.std.proofs.lemmas.List.{get_or_past}
 use Rattle.std.proofs.lemmas.List.Sums.{sum_by-cons}
 use Rattle.std.proofs.lemmas.Grind.{take_at_read}
 use Rattle.std.proofs.Math.Nat.{lt_of_not-le}
 use Rattle.std.specs.List.{sum_by}
 use Rattle.dt_lists.specs.Lists.{AnyIn, Has, Either}
 use Rattle.dt_lists.proofs.Callers.{any_append, any_append_left, any_append_right, either_any, either_le, either_nat}
-use Rattle.dt_queue.specs.declared.Follower.{Follower}
-use Rattle.dt_queue.specs.Queues.{HasDistinctSlots, IsQueued, Waiting, follower_of, followers, followers_after}
+use Rattle.dt_queue.specs.Queues.{Waiting, followers}
 use Rattle.dt_waits.specs.Waits.{is_of, lowered}
 use Rattle.dt_waits.proofs.Callers.{slot_other}
 use Rattle.dt_graph.specs.SmallStepsInner.{AreLowered, IsFollowedAt, Wakes, falls}
-use Rattle.dt_graph.proofs.Followers.{first_told, followers_onward}
-use Rattle.dt_graph.proofs.Degrees.{IsLowering, lowering_onward}
-use Rattle.dt_graph.proofs.ReadyVertices.{IsOfSome, IsWaking, of_some_decided, wakes_same}
+use Rattle.dt_graph.proofs.ReadyVertices.{wakes_same}
 
 -- degrees that were lowered are no greater
 lowered_less : (count : ℕ → ℕ) (old now : List ℕ) → AreLowered count old now → (v : ℕ) → get_or now v 0 ≤ get_or old v 0
@@ -36,7 +32,7 @@ lowered_same count old now a v e = by (either_le (length old) v)
     by (inr n) = omega (arith, a.1 v (lt_of_not-le n), e)
 
 -- of some, and then, after degrees of others alone were lowered, of the others
-wakes_lowered : (P Q : ℕ → Type 0) → ((v : ℕ) → Either (P v)) → ((v : ℕ) → Either (Q v)) → (count : ℕ → ℕ) → ((v : ℕ) → ¬ (Q v) → count v ≡ 0)
+pub wakes_lowered : (P Q : ℕ → Type 0) → ((v : ℕ) → Either (P v)) → ((v : ℕ) → Either (Q v)) → (count : ℕ → ℕ) → ((v : ℕ) → ¬ (Q v) → count v ≡ 0)
     → (old now : List ℕ) → AreLowered count old now → (a b c r s t : List ℕ) → Wakes P old a r b s → Wakes Q now b s c t → Wakes (λ v. P v ⊎ Q v) now a r c t
 wakes_lowered P Q is_p is_q count spares old now l a b c r s t p q = record {
   woken = λ v. (
@@ -71,7 +67,7 @@ wakes_lowered P Q is_p is_q count spares old now l a b c r s t p q = record {
     back v h z (inr y) (inr n) = absurd (n y)
 
 -- a follower of the vertex x takes nothing from the degree of another
-falls_spares : (u x v : ℕ) → ¬ (x ≡ v) → falls u x v ≡ 0
+pub falls_spares : (u x v : ℕ) → ¬ (x ≡ v) → falls u x v ≡ 0
 falls_spares u x v n = by (cases_Bool (u == v))
   where
     by : ((u == v) ≡ true) ⊎ ((u == v) ≡ false) → falls u x v ≡ 0
@@ -82,7 +78,7 @@ falls_spares u x v n = by (cases_Bool (u == v))
 pub slot_spares : (waiting : List Waiting) (slot u v : ℕ) → ¬ (IsFollowedAt waiting slot v) → lowered waiting slot u v ≡ 0
 slot_spares waiting slot u v n = by (cases_Bool (u == v))
   where
-    none : (ws : List Waiting) → ¬ (IsOfSome ws v) → length (filter (is_of v) ws) ≡ 0
+    none : (ws : List Waiting) → ¬ (AnyIn (λ w. w.vertex ≡ v) ws) → length (filter (is_of v) ws) ≡ 0
     none [] n = refl
     none (w ∷ ws) n = rw (slot_other w.vertex v (λ e. n (inl e))) (none ws (λ h. n (inr h)))
 
@@ -95,37 +91,6 @@ pub slots_spare : (waiting : List Waiting) (u v : ℕ) (slots : List ℕ) → ¬
 slots_spare waiting u v [] n = refl
 slots_spare waiting u v (slot ∷ slots) n =
     omega (arith, sum_by-cons (λ slot. lowered waiting slot u v) slot slots, slot_spares waiting slot u v (λ h. n (inl h)), slots_spare waiting u v slots (λ h. n (inr h)))
-
--- at a place of the walk over the followers of a slot of the vertex u
-pub record IsFreeing (waiting : List Waiting) (slot u place : ℕ) (old now : List ℕ) (stuck ready stuck_now ready_now : List ℕ) : Type 0 where
-  pub lowering : IsLowering waiting slot u place old now
-  pub waking : IsWaking waiting slot place now stuck ready stuck_now ready_now
-
-module _ (waiting : List Waiting) (distinct : HasDistinctSlots waiting) (slot u : ℕ) (old : List ℕ) (stuck ready : List ℕ) where
-  pub freeing_onward : (place : ℕ) (now next : List ℕ) (stuck_now ready_now stuck_next ready_next : List ℕ) (f : Follower) → IsFreeing waiting slot u place old now stuck ready stuck_now ready_now
-      → slice_get (map follower_of (followers_after waiting slot place)) 0 ≡ Some f → AreLowered (falls u f.vertex) now next → Wakes (λ v. f.vertex ≡ v) next stuck_now ready_now stuck_next ready_next
-      → IsFreeing waiting slot u f.slot old next stuck ready stuck_next ready_next
-  freeing_onward place now next stuck_now ready_now stuck_next ready_next f k told lowered w =
-      let t : (w : Waiting) × (more : List Waiting) × (followers_after waiting slot place ≡ w ∷ more) × (w.slot ≡ f.slot) × (w.vertex ≡ f.vertex) = first_told (followers_after waiting slot place) f told in
-      let r : IsQueued waiting (t.0).slot × (followers_after waiting slot (t.0).slot ≡ t.1) = followers_onward waiting distinct slot place t.0 t.1 k.waking.waits t.2 in
-      record {
-        lowering = lowering_onward waiting distinct slot u old place now k.lowering f told next lowered;
-        waking = record {
-          front = k.waking.front ++ t.0 ∷ [];
-          split = k.waking.split ∙ ap (λ l. k.waking.front ++ l) (t.2 ∙ ap (λ l. t.0 ∷ l) (sym r.1 ∙ ap (followers_after waiting slot) t.3))
-              ∙ sym (append_assoc k.waking.front (t.0 ∷ []) (followers_after waiting slot f.slot));
-          waits = subst (IsQueued waiting) t.3 r.0;
-          wakes = wakes_same _ _ (λ v. same k.waking.front t.0 t.4 v) next stuck stuck_next ready ready_next
-              (wakes_lowered (IsOfSome k.waking.front) (λ v. f.vertex ≡ v) (of_some_decided k.waking.front) (λ v. either_nat f.vertex v) (falls u f.vertex) (falls_spares u f.vertex) now next lowered
-              stuck stuck_now stuck_next ready ready_now ready_next k.waking.wakes w);
-        };
-      }
-    where
-      same : (front : List Waiting) (x : Waiting) → x.vertex ≡ f.vertex → (v : ℕ) → (IsOfSome front v ⊎ (f.vertex ≡ v)) ↔ IsOfSome (front ++ x ∷ []) v
-      same front x e v = (
-        λ s. elim s [ inl o ↦ any_append_left (λ w. w.vertex ≡ v) front (x ∷ []) o | inr g ↦ any_append_right (λ w. w.vertex ≡ v) front (x ∷ []) (inl (e ∙ g)) ],
-        λ h. elim (any_append (λ w. w.vertex ≡ v) front (x ∷ []) h) [ inl o ↦ inl o | inr m ↦ elim m [ inl g ↦ inr (sym e ∙ g) | inr z ↦ absurd z ] ],
-      )
 
 -- of what is said of the items of a list, up to a place and then, after what it takes was taken, of the item there
 pub wakes_next : (P : ℕ → ℕ → Type 0) → ((x v : ℕ) → Either (P x v)) → (takes : ℕ → ℕ → ℕ) → ((x v : ℕ) → ¬ (P x v) → takes x v ≡ 0) → (items : List ℕ) (place : ℕ) → place < length items

@@ -1,13 +1,12 @@
 -- Of some vertices those that are stuck and of degree 0 become ready. Of one vertex, of more vertices, and along the
 -- walk over the followers of an entry.
-use Rattle.std.proofs.Common.{◌≡◌, ◌≢◌, ◌↔◌, ◌∙◌, ℕ, List, [], ◌++◌, map, get_or, slice_get, None, sym, ap, subst, inl, inr}
-use Rattle.std.proofs.lemmas.List.{append-nil}
+use Rattle.std.proofs.Common.{◌≡◌, ◌≢◌, ◌↔◌, ℕ, List, get_or, sym, subst, inl, inr}
 use Rattle.dt_lists.specs.Lists.{AnyIn, Has, Either}
-use Rattle.dt_lists.proofs.Callers.{any_get, either_any, either_nat}
-use Rattle.dt_queue.specs.Queues.{HasDistinctSlots, IsQueued, Waiting, follower_of, followers, followers_after}
+use Rattle.dt_lists.proofs.Callers.{either_any, either_nat}
+use Rattle.dt_queue.specs.declared.Follower.{Follower}
+use Rattle.dt_queue.specs.Queues.{Waiting, followers}
 use Rattle.dt_graph.specs.SubsetInner.{PutsIn, Removes}
 use Rattle.dt_graph.specs.SmallStepsInner.{IsFollowedAt, Wakes}
-use Rattle.dt_graph.proofs.Followers.{followers_begin, none_told}
 
 -- of no vertex
 pub wakes_none : (degrees : List ℕ) (stuck ready : List ℕ) → Wakes (λ v. ⊥) degrees stuck ready stuck ready
@@ -43,37 +42,16 @@ wakes_same P Q same degrees a b r s p = record {
   );
 }
 
--- some of the entries is of the vertex
-abbrev pub IsOfSome : List Waiting → ℕ → Type 0
-IsOfSome entries v = AnyIn (λ w. w.vertex ≡ v) entries
+-- some of the followers is of the vertex
+abbrev pub IsOfSome : List Follower → ℕ → Type 0
+IsOfSome entries v = AnyIn (λ f. f.vertex ≡ v) entries
 
-pub of_some_decided : (entries : List Waiting) (v : ℕ) → Either (IsOfSome entries v)
-of_some_decided entries v = either_any _ entries (λ w. either_nat w.vertex v)
-
--- at a place of the walk over the followers of a slot: those in front are woken
-pub record IsWaking (waiting : List Waiting) (slot place : ℕ) (degrees : List ℕ) (stuck ready stuck_now ready_now : List ℕ) : Type 0 where
-  pub front : List Waiting
-  pub split : followers waiting slot ≡ front ++ followers_after waiting slot place
-  pub waits : IsQueued waiting place
-  pub wakes : Wakes (IsOfSome front) degrees stuck ready stuck_now ready_now
-
-module _ (waiting : List Waiting) (distinct : HasDistinctSlots waiting) (slot : ℕ) (degrees : List ℕ) (stuck ready : List ℕ) where
-  pub waking_begins : IsQueued waiting slot → IsWaking waiting slot slot degrees stuck ready stuck ready
-  waking_begins h = record {
-    front = [];
-    split = (let j : (j : Waiting) × Has waiting j × (j.slot ≡ slot) = any_get _ waiting h in subst (λ s. followers waiting s ≡ followers_after waiting s s) j.2 (sym (followers_begin waiting distinct j.0 j.1)));
-    waits = h;
-    wakes = wakes_none degrees stuck ready;
-  }
-
-  pub waking_ends : (place : ℕ) (stuck_now ready_now : List ℕ) → IsWaking waiting slot place degrees stuck ready stuck_now ready_now → slice_get (map follower_of (followers_after waiting slot place)) 0 ≡ None
-      → Wakes (IsFollowedAt waiting slot) degrees stuck ready stuck_now ready_now
-  waking_ends place stuck_now ready_now k e = subst (λ l. Wakes (IsOfSome l) degrees stuck ready stuck_now ready_now)
-      (sym (k.split ∙ ap (λ l. k.front ++ l) (none_told _ e) ∙ append-nil k.front)) k.wakes
+pub of_some_decided : (entries : List Follower) (v : ℕ) → Either (IsOfSome entries v)
+of_some_decided entries v = either_any _ entries (λ f. either_nat f.vertex v)
 
 -- it is decided whether a vertex follows an entry, or one of some entries
 pub followed_at_decided : (waiting : List Waiting) (slot v : ℕ) → Either (IsFollowedAt waiting slot v)
-followed_at_decided waiting slot v = of_some_decided (followers waiting slot) v
+followed_at_decided waiting slot v = either_any _ (followers waiting slot) (λ w. either_nat w.vertex v)
 
 pub followed_decided : (waiting : List Waiting) (slots : List ℕ) (v : ℕ) → Either (AnyIn (λ slot. IsFollowedAt waiting slot v) slots)
 followed_decided waiting slots v = either_any _ slots (λ slot. followed_at_decided waiting slot v)

@@ -42,7 +42,6 @@ fn wake(vertices: &mut Vertices, vertex: u32)
 /// degree 0 are ready.
 fn free_followers(queues: &Queues, slot: usize, vertex: u32, vertices: &mut Vertices)
     requires waits { IsQueued queues.now slot }
-    requires distinct { HasDistinctSlots queues.now }
     requires below { AreEntriesBelow (length vertices.old.degrees) queues.now }
     requires kept { AllIn (λ w. vertices.old.first ≤ w.vertex) queues.now }
     requires sizes { length vertices.old.degrees ≡ length vertices.old.vertices }
@@ -52,11 +51,10 @@ fn free_followers(queues: &Queues, slot: usize, vertex: u32, vertices: &mut Vert
     ensures same { vertices.new.vertices ≡ vertices.old.vertices }
     ensures first { vertices.new.first ≡ vertices.old.first }
 {
-    let mut place = slot;
-    while let Some(follower) = queues.follower_after(slot, place) {
+    let mut followers = queues.followers(slot);
+    while let Some(follower) = followers.next() {
         lower(vertices, follower.vertex, vertex);
         wake(vertices, follower.vertex);
-        place = follower.slot;
     }
 }
 
@@ -65,7 +63,6 @@ fn free_followers(queues: &Queues, slot: usize, vertex: u32, vertices: &mut Vert
 fn free_slots(queues: &Queues, vertex: u32, vertices: &mut Vertices)
     requires within { IsVertexKept vertices.old vertex }
     requires wait { AllIn (IsQueued queues.now) (vertex_at vertices.old.vertices vertex).slots }
-    requires distinct { HasDistinctSlots queues.now }
     requires below { AreEntriesBelow (length vertices.old.degrees) queues.now }
     requires kept { AllIn (λ w. vertices.old.first ≤ w.vertex) queues.now }
     requires sizes { length vertices.old.degrees ≡ length vertices.old.vertices }
@@ -85,7 +82,6 @@ fn free_slots(queues: &Queues, vertex: u32, vertices: &mut Vertices)
 
 /// Lowers the degrees of the followers of all entries of the vertices; those that are stuck and come to degree 0 are ready.
 fn free_all(queues: &Queues, vertices: &mut Vertices, leaving: &[u32])
-    requires distinct { HasDistinctSlots queues.now }
     requires slots { HaveSlots queues.now vertices.old.vertices leaving.now }
     requires left { AllIn (λ u. vertices.old.first ≤ u) leaving.now }
     requires below { AreEntriesBelow (length vertices.old.degrees) queues.now }

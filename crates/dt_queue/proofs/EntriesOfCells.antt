@@ -1,12 +1,14 @@
 -- What is shown of the cells: which entries wait, what their neighbours are, and what follows them.
-use Rattle.std.proofs.Common.{◌≡◌, ◌⊎◌, ℕ, ◌<◌, ◌≤◌, Bool, true, false, cond, not, ◌||◌, ◌==◌, nat_lt, List, eq-eqb, eqb-true, ltb-true, lt-ltb}
-use Rattle.std.proofs.Common.{[], ◌∷◌, ◌++◌, map, length, slice_get, Option, Some, None, option_map, refl, ap, ap₂, sym, subst, inl, inr, arith, ◌∙◌}
+use Rattle.std.proofs.Common.{◌≡◌, ◌⊎◌, ℕ, ◌<◌, Bool, true, false, cond, not, ◌||◌, ◌==◌, nat_lt, List, eq-eqb, eqb-true, ltb-true, lt-ltb}
+use Rattle.std.proofs.Common.{[], ◌∷◌, ◌++◌, map, length, slice_get, Some, None, refl, ap, ap₂, sym, subst, inl, inr, arith, ◌∙◌}
 use Rattle.std.specs.List.{filter}
+use Rattle.std.specs.List.Sorted.{IsPermutation}
+use Rattle.std.proofs.lemmas.List.Sorted.{IsPermutation-map}
 use Rattle.std.proofs.lemmas.Simd.{map-map}
 use Rattle.std.proofs.lemmas.Option.{same_Some, slice_get-get_or}
 use Rattle.slab.specs.Slab.{Updates, get, entries, entries_from}
-use Rattle.dt_lists.specs.Lists.{AnyIn, EachThen, Has, IsFront}
-use Rattle.dt_lists.proofs.Callers.{all_get, any_get, any_image, any_of_image, any_of_test, any_put, ascending_same, each_image, filter_each, has_filter, has_map, has_of_filtered, one_place}
+use Rattle.dt_lists.specs.Lists.{AnyIn, Distinct, EachThen, Has, IsFront}
+use Rattle.dt_lists.proofs.Callers.{any_get, any_image, any_of_image, any_of_test, any_put, ascending_same, each_image, each_map, filter_each, has_filter, has_map, has_of_filtered, one_place}
 use Rattle.dt_lists.proofs.Callers.{test_of_any}
 use Rattle.dt_access.specs.Clash.{Bytes, is_whole, may_change}
 use Rattle.dt_access.proofs.Callers.{clash_cases, uses_of_granule, uses_of_row}
@@ -18,11 +20,12 @@ use Rattle.std.proofs.lemmas.List.{get_or_append_left, map-append}
 use Rattle.std.proofs.lemmas.Bool.{and_from, and_parts, or_cases, or_left, or_right}
 use Rattle.dt_queue.specs.KeptInner.{AddsCell, CellsClash, AreQueuesKept, IsNearMark, IsNextMark, entry, in_order, mark_of, waiting_of}
 use Rattle.dt_queue.specs.LanesInner.{AreMarks}
-use Rattle.dt_queue.specs.NextInner.{IsFirstAfter}
-use Rattle.dt_queue.specs.Queues.{IsQueued, Waiting, follower_of, followers_after, is_at, is_neighbour, nearest, neighbours, taken_out}
+use Rattle.dt_queue.specs.NextInner.{AreEachOnce, follower_of_mark}
+use Rattle.dt_queue.specs.Queues.{IsQueued, Waiting, follower_of, followers, is_at, is_neighbour, nearest, neighbours, taken_out}
 use Rattle.dt_queue.specs.RowsInner.{RowLinks, granule_at, granule_name, links, name_at}
 use Rattle.dt_queue.proofs.InOrder.{IsListed, Rise, listed, listed_less, listed_more, same_list}
-use Rattle.dt_queue.proofs.EntryLists.{Slots, after_is, before_is, entry_is, greater, lesser, meets, near_in, near_rises, nearest_is, of_near, slots_of_list, to_near, without_is}
+use Rattle.dt_queue.proofs.FollowerMarks.{marks_differ, same_permuted}
+use Rattle.dt_queue.proofs.EntryLists.{Slots, before_is, entry_is, lesser, meets, near_in, near_rises, nearest_is, of_near, slots_of_list, to_near, without_is}
 
 or_one : (s t : Bool) → (s ≡ true) ⊎ (t ≡ true) → (s || t) ≡ true
 or_one s t c = elim c [ inl e ↦ or_left s t e | inr e ↦ or_right s t e ]
@@ -195,69 +198,39 @@ module _ (k : Kept) (kept : AreQueuesKept k) where
       by true e = ap (λ l. entry (links k.rows).names q ∷ l) e
       by false e = e
 
-  -- the cells that follow a cell of a slot behind another cell
-  abbrev cells_behind : ℕ → Cell → List (ℕ × Cell)
-  cells_behind slot y = filter (λ (q : ℕ × Cell). is_neighbour (waiting_of k) slot q.0) (greater y.number (in_order (entries k.cells)))
-
-  -- what is said of the first mark that is next is said of the first follower
-  pub follower_is : (slot : ℕ) (x : Cell) → get k.cells slot ≡ Some x → (place : ℕ) (y : Cell) → get k.cells place ≡ Some y → (o : Option Mark) → IsFirstAfter (IsNextMark k x) y.number o
-      → option_map (λ (m : Mark). record { slot = m.slot; vertex = m.vertex }) o ≡ slice_get (map follower_of (followers_after (waiting_of k) slot place)) 0
-  follower_is slot x e place y f o first =
-      shown o first ∙ ap (λ ws. slice_get (map follower_of ws) 0) (sym list)
+  -- the marks that were found are those of the followers, in some order
+  pub followers_are : (slot : ℕ) (x : Cell) → get k.cells slot ≡ Some x → (ms : List Mark) → AreEachOnce (IsNextMark k x) ms → IsPermutation (map follower_of (followers (waiting_of k) slot)) (map follower_of_mark ms)
+  followers_are slot x e ms found = subst (λ l. IsPermutation l (map follower_of_mark ms)) (sym shown) (IsPermutation-map follower_of_mark (map mark own) ms (same_permuted (map mark own) ms differ (marks_differ ms found.apart) to back))
     where
-      list : followers_after (waiting_of k) slot place ≡ map (entry (links k.rows).names) (cells_behind slot y)
-      list = ap (filter (λ w. is_neighbour (waiting_of k) slot w.slot)) (after_is (links k.rows).names (in_order (entries k.cells)) (place, y) the_list.numbered the_slots (in_list place y f))
-          ∙ filter_shown slot (greater y.number (in_order (entries k.cells)))
+      mark : ℕ × Cell → Mark
+      mark q = mark_of q.0 q.1
 
-      rises : EachThen Rise (cells_behind slot y)
-      rises = filter_each Rise (λ (q : ℕ × Cell). is_neighbour (waiting_of k) slot q.0) (greater y.number (in_order (entries k.cells)))
-          (filter_each Rise (λ (q : ℕ × Cell). nat_lt y.number q.1.number) (in_order (entries k.cells)) the_list.numbered)
+      own : List (ℕ × Cell)
+      own = filter (λ (q : ℕ × Cell). is_neighbour (waiting_of k) slot q.0) (in_order (entries k.cells))
 
-      of_F : (q : ℕ × Cell) → Has (cells_behind slot y) q → IsNextMark k x (mark_of q.0 q.1) × (y.number < q.1.number)
-      of_F q h =
-          let a = has_of_filtered (λ (q : ℕ × Cell). is_neighbour (waiting_of k) slot q.0) (greater y.number (in_order (entries k.cells))) q h in
-          let b = has_of_filtered (λ (q : ℕ × Cell). nat_lt y.number q.1.number) (in_order (entries k.cells)) q a.0 in
-          (next_of slot x e q b.0 a.1, ltb-true _ _ b.1)
+      shown : map follower_of (followers (waiting_of k) slot) ≡ map follower_of_mark (map mark own)
+      shown = ap (map follower_of) (filter_shown slot (in_order (entries k.cells))) ∙ map-map follower_of (entry (links k.rows).names) own ∙ sym (map-map follower_of_mark mark own)
 
-      to_F : (q : ℕ × Cell) → Has (in_order (entries k.cells)) q → IsNextMark k x (mark_of q.0 q.1) → y.number < q.1.number
-          → Has (cells_behind slot y) q
-      to_F q own n lt =
-          has_filter (λ (q : ℕ × Cell). is_neighbour (waiting_of k) slot q.0) (greater y.number (in_order (entries k.cells))) q
-          (has_filter (λ (q : ℕ × Cell). nat_lt y.number q.1.number) (in_order (entries k.cells)) q own (lt-ltb _ _ lt)) (to_next slot x e q own n)
-
-      shown : (o : Option Mark) → IsFirstAfter (IsNextMark k x) y.number o
-          → option_map (λ (m : Mark). record { slot = m.slot; vertex = m.vertex }) o
-          ≡ slice_get (map follower_of (map (entry (links k.rows).names) (cells_behind slot y))) 0
-      shown None none = by (cells_behind slot y) (λ q h. of_F q h)
+      differ : Distinct (map mark own)
+      differ = marks_differ (map mark own) (each_image (λ (m n : Mark). ¬ (m.number ≡ n.number)) mark own (each_map Rise _ own (λ p q lt e. less p q lt e)
+          (filter_each Rise (λ (q : ℕ × Cell). is_neighbour (waiting_of k) slot q.0) (in_order (entries k.cells)) the_list.numbered)))
         where
-          by : (L : List (ℕ × Cell)) → ((q : ℕ × Cell) → Has L q → IsNextMark k x (mark_of q.0 q.1) × (y.number < q.1.number)) → None ≡ slice_get (map follower_of (map (entry (links k.rows).names) L)) 0
-          by [] g = refl
-          by (q ∷ L) g = let r = g q (inl refl) in absurd (late q (none (mark_of q.0 q.1) r.0) r.1)
-            where
-              late : (q : ℕ × Cell) → q.1.number ≤ y.number → y.number < q.1.number → ⊥
-              late q le lt = omega (arith, le, lt)
-      shown (Some m) found = by (cells_behind slot y) rises (λ q h. of_F q h) here
-        where
-          number : m.number ≡ found.0.0.number
-          number = ap (λ (n : Mark). n.number) found.0.2
+          less : (p q : ℕ × Cell) → p.1.number < q.1.number → p.1.number ≡ q.1.number → ⊥
+          less p q lt e = omega (arith, lt, e)
 
-          here : Has (cells_behind slot y) (m.slot, found.0.0)
-          here = to_F (m.slot, found.0.0) (in_list m.slot found.0.0 found.0.1) (subst (IsNextMark k x) found.0.2 found.0) (subst (λ n. y.number < n) number found.1)
+      to : (m : Mark) → Has (map mark own) m → Has ms m
+      to m h =
+          let r = any_get (λ (q : ℕ × Cell). mark q ≡ m) own (any_of_image (λ (n : Mark). n ≡ m) mark own h) in
+          let a = has_of_filtered (λ (q : ℕ × Cell). is_neighbour (waiting_of k) slot q.0) (in_order (entries k.cells)) r.0 r.1 in
+          (found.members m).1 (subst (IsNextMark k x) r.2 (next_of slot x e r.0 a.0 a.1))
 
-          told : (q : ℕ × Cell) → q ≡ (m.slot, found.0.0) → record { slot = m.slot; vertex = m.vertex } ≡ follower_of (entry (links k.rows).names q)
-          told q s = ap (λ (n : Mark). record { slot = m.slot; vertex = n.vertex }) found.0.2 ∙ ap (λ (z : ℕ × Cell). follower_of (entry (links k.rows).names z)) (sym s)
-
-          by : (L : List (ℕ × Cell)) → EachThen Rise L → ((q : ℕ × Cell) → Has L q → IsNextMark k x (mark_of q.0 q.1) × (y.number < q.1.number)) → Has L (m.slot, found.0.0)
-              → Some (record { slot = m.slot; vertex = m.vertex }) ≡ slice_get (map follower_of (map (entry (links k.rows).names) L)) 0
-          by [] num g h = absurd h
-          by (q ∷ L) num g (inl s) = ap Some (told q s)
-          by (q ∷ L) num g (inr h) =
-              let r = g q (inl refl) in
-              let lt : q.1.number < found.0.0.number = all_get (Rise q) L num.0 (m.slot, found.0.0) h in
-              absurd (late (found.2 (mark_of q.0 q.1) r.0 r.1) lt)
-            where
-              late : m.number ≤ q.1.number → q.1.number < found.0.0.number → ⊥
-              late le lt = omega (arith, le, lt, number)
+      back : (m : Mark) → Has ms m → Has (map mark own) m
+      back m h =
+          let n = (found.members m).0 h in
+          let q : ℕ × Cell = (m.slot, n.0) in
+          let there = in_list m.slot n.0 n.1 in
+          subst (Has (map mark own)) (sym n.2)
+          (has_map mark own q (has_filter (λ (q : ℕ × Cell). is_neighbour (waiting_of k) slot q.0) (in_order (entries k.cells)) q there (to_next slot x e q there (subst (IsNextMark k x) n.2 n))))
 
 -- ---- what is shown after a step
 

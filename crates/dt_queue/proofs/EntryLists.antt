@@ -5,11 +5,11 @@ use Rattle.std.specs.List.{filter, list_any}
 use Rattle.std.proofs.lemmas.Bool.{and_from, and_parts}
 use Rattle.slab.specs.Slab.{Slab, get}
 use Rattle.dt_lists.specs.Lists.{EachThen, Has}
-use Rattle.dt_lists.proofs.Callers.{all_get, all_map, all_put, any_of_test, any_put, any_get, test_of_any, filter_none, filter_whole}
+use Rattle.dt_lists.proofs.Callers.{all_get, all_map, all_put, any_of_test, any_put, any_get, test_of_any, filter_none}
 use Rattle.dt_access.specs.Clash.{Bytes}
 use Rattle.dt_queue.specs.declared.cell.Cell.{Cell}
 use Rattle.dt_queue.specs.KeptInner.{entry}
-use Rattle.dt_queue.specs.Queues.{Waiting, pushed_after, pushed_before, entries_clash, entry_at, nearest, taken_out}
+use Rattle.dt_queue.specs.Queues.{Waiting, pushed_before, entries_clash, entry_at, nearest, taken_out}
 use Rattle.dt_queue.proofs.InOrder.{IsListed, Rise}
 
 -- no two have one slot
@@ -32,12 +32,9 @@ slots_of_list cells K l = by K (λ p h. (l.members p).0 h) l.numbered
       by xs (λ p h. there p (inr h)) num.1,
     )
 
--- the entries with lesser, and with greater numbers
+-- the entries with lesser numbers
 abbrev pub lesser : ℕ → List (ℕ × Cell) → List (ℕ × Cell)
 lesser n K = filter (λ (p : ℕ × Cell). nat_lt p.1.number n) K
-
-abbrev pub greater : ℕ → List (ℕ × Cell) → List (ℕ × Cell)
-greater n K = filter (λ (p : ℕ × Cell). nat_lt n p.1.number) K
 
 -- of two different numbers the test fails, of one it holds
 slot_of : (p q : ℕ × Cell) → p ≡ q → p.0 ≡ q.0
@@ -91,36 +88,6 @@ module _ (names : List (ℕ × Bytes)) where
               → entry names x ∷ pushed_before (map (entry names) xs) p.0 ≡ map (entry names) (cond t (x ∷ lesser p.1.number xs) (lesser p.1.number xs))
           pass true f g = ap (λ l. entry names x ∷ l) g
           pass false f g = cc
-
-  -- what stands after an entry are those with greater numbers
-  pub after_is : (K : List (ℕ × Cell)) (p : ℕ × Cell) → EachThen Rise K → Slots K → Has K p → pushed_after (map (entry names) K) p.0 ≡ map (entry names) (greater p.1.number K)
-  after_is [] p num s h = absurd h
-  after_is (x ∷ xs) p num s h = by (x.0 == p.0) refl (λ g. after_is xs p num.1 s.1 g)
-    where
-      by : (t : Bool) → (x.0 == p.0) ≡ t → (Has xs p → pushed_after (map (entry names) xs) p.0 ≡ map (entry names) (greater p.1.number xs))
-          → cond t (map (entry names) xs) (pushed_after (map (entry names) xs) p.0) ≡ map (entry names) (greater p.1.number (x ∷ xs))
-      by true e rest =
-          let same = head_is x p xs s h (eqb-true x.0 p.0 e) in
-          ap (map (entry names)) (sym (pass (nat_lt p.1.number x.1.number) (own same)
-          (filter_whole (λ (q : ℕ × Cell). nat_lt p.1.number q.1.number) xs (all_map (Rise x) (λ (q : ℕ × Cell). nat_lt p.1.number q.1.number ≡ true) xs (λ q lt. higher same q lt) num.0))))
-        where
-          own : x ≡ p → nat_lt p.1.number x.1.number ≡ false
-          own f = let n : x.1.number ≡ p.1.number = ap (λ (y : ℕ × Cell). y.1.number) f in below_false _ _ (omega (arith, n))
-
-          higher : x ≡ p → (q : ℕ × Cell) → x.1.number < q.1.number → nat_lt p.1.number q.1.number ≡ true
-          higher f q lt = let n : x.1.number ≡ p.1.number = ap (λ (y : ℕ × Cell). y.1.number) f in lt-ltb _ _ (omega (arith, n, lt))
-
-          pass : (t : Bool) → t ≡ false → greater p.1.number xs ≡ xs → cond t (x ∷ greater p.1.number xs) (greater p.1.number xs) ≡ xs
-          pass true f g = cc
-          pass false f g = g
-      by false e rest = rest (tail_has x p xs h (unequal x.0 p.0 e)) ∙ ap (map (entry names)) (sym (skip (nat_lt p.1.number x.1.number) (below_false _ _ (less (all_get (Rise x) xs num.0 p (tail_has x p xs h (unequal x.0 p.0 e)))))))
-        where
-          less : x.1.number < p.1.number → x.1.number ≤ p.1.number
-          less lt = omega (arith, lt)
-
-          skip : (t : Bool) → t ≡ false → cond t (x ∷ greater p.1.number xs) (greater p.1.number xs) ≡ greater p.1.number xs
-          skip true f = cc
-          skip false f = refl
 
   -- what is shown without an entry
   pub without_is : (K : List (ℕ × Cell)) (slot : ℕ) → taken_out (map (entry names) K) slot ≡ map (entry names) (filter (λ (p : ℕ × Cell). not (p.0 == slot)) K)

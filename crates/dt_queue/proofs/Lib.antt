@@ -11,6 +11,7 @@ pub mod LanesOfCells
 pub mod CellUses
 pub mod NearCells
 pub mod EntryLists
+pub mod FollowerMarks
 pub mod NextCells
 pub mod EntriesOfCells
 pub mod NewNumbers

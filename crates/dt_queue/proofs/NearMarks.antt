@@ -1,16 +1,14 @@
 -- What is nearest in a row: of the marks of its reads and writes between two numbers those that one of the two ends waits for.
-use Rattle.std.proofs.Common.{◌≡◌, ◌⊎◌, ◌↔◌, ℕ, suc, ◌+◌, ◌<◌, ◌≤◌, Bool, true, false}
-use Rattle.std.proofs.Common.{cond, nat_lt, List, [], ◌∷◌, ◌++◌, length, get_or, Option, Some, None, option_to_list, is_some}
+use Rattle.std.proofs.Common.{◌≡◌, ◌⊎◌, ◌↔◌, ℕ, suc, ◌+◌, ◌<◌, ◌≤◌}
+use Rattle.std.proofs.Common.{List, [], ◌∷◌, ◌++◌, length, get_or, Option, Some, None, option_to_list}
 use Rattle.std.proofs.Common.{refl, ap, sym, subst, inl, inr, arith, ◌∙◌, length-append}
 use Rattle.std.specs.List.{filter}
 use Rattle.dt_lists.specs.Lists.{Has}
-use Rattle.dt_lists.proofs.Callers.{all_get, either_le, filter_each, has_filter, has_of_filtered}
+use Rattle.dt_lists.proofs.Callers.{all_get, filter_each, has_filter, has_of_filtered}
 use Rattle.dt_queue.specs.declared.mark.Mark.{Mark}
-use Rattle.dt_queue.specs.declared.next.Next.{Next}
 use Rattle.std.proofs.lemmas.List.{append-nil}
 use Rattle.std.proofs.Math.Nat.{lt_trans}
-use Rattle.dt_queue.specs.LanesInner.{AddsMarks, AreApart, AreMarks, HasRisingNumbers, IsBetween, IsFirstBetween, IsFirstIn, IsLastBetween, IsLastIn, IsNearInRow, IsNextInRow, NoneBetween, is_between, later_than, number_or}
-use Rattle.dt_queue.specs.NextInner.{IsFirstAfter, IsKnownNext}
+use Rattle.dt_queue.specs.LanesInner.{AddsMarks, AreApart, AreMarks, HasRisingNumbers, IsBetween, IsFirstBetween, IsFirstIn, IsLastBetween, IsLastIn, IsNearInRow, IsNextInRow, NoneBetween, is_between, number_or}
 use Rattle.dt_queue.proofs.Marks.{between_true}
 
 pub trichotomy : (a b : ℕ) → (a < b) ⊎ (a ≡ b) ⊎ (b < a)
@@ -208,69 +206,6 @@ next_write reads writes low high (Some w) row first empty m = (
 
     next_w : IsNextInRow reads writes low high w
     next_w = (first.1, inr (first.0, (λ k g e. not_before k e.1 (first.2 k g (e.0, lt_trans e.1 first.1.1))), (λ k g e. empty k g e)))
-
--- what is known of the one mark that there is at most
-pub next_of_one : (P : Mark → Type 0) (w : Option Mark) (after : ℕ) (n : Next) → ((m : Mark) → P m ↔ (w ≡ Some m)) → n.any ≡ is_some w → n.first ≡ later_than after w → IsKnownNext P after n
-next_of_one P None after n exact any first = record {
-  some = λ e. cc;
-  none = λ e m p. none m ((exact m).0 p);
-  first = subst (λ f. IsFirstAfter P after f) (sym first) (λ m p. absurd (none m ((exact m).0 p)));
-}
-  where
-    none : (m : Mark) → None ≡ Some m → ⊥
-    none m e = cc
-next_of_one P (Some w) after n exact any first = record {
-  some = λ e. (w, (exact w).1 refl);
-  none = λ e m p. cc;
-  first = subst (λ f. IsFirstAfter P after f) (sym first) (by (nat_lt after w.number) refl);
-}
-  where
-    of_some : (m : Mark) → Some w ≡ Some m → w ≡ m
-    of_some m e = cc
-
-    by : (t : Bool) → nat_lt after w.number ≡ t
-        → IsFirstAfter P after (cond t (Some w) None)
-    by true e = ((exact w).1 refl, grind (arith, e), λ m p lt. subst (λ (k : Mark). w.number ≤ k.number) (of_some m ((exact m).0 p)) (omega arith))
-    by false e = λ m p. subst (λ (k : Mark). k.number ≤ after) (of_some m ((exact m).0 p)) (grind (arith, e))
-
--- what is known of the marks of a row that are next, as it is searched
-pub next_in_row : (reads writes : List Mark) (low high : ℕ) (after start : ℕ) (w r f : Option Mark) (n : Next) → AreLanesOfRow reads writes → IsFirstBetween low high writes w
-    → IsFirstBetween low (number_or w high) reads r → is_some r ≡ true → low ≤ start → after ≤ start
-    → ((start ≡ low) ⊎ (start ≡ after)) → IsFirstBetween start (number_or w high) reads f → n.any ≡ true → n.first ≡ f
-    → IsKnownNext (IsNextInRow reads writes low high) after n
-next_in_row reads writes low high after start w None f n row first read there ge more one found any is = cc
-next_in_row reads writes low high after start w (Some r) f n row first read there ge more one found any is = record {
-  some = λ e. (r, (exact r).1 (read.0, read.1));
-  none = λ e m p. cc;
-  first = subst (λ f. IsFirstAfter P after f) (sym is) (by f found);
-}
-  where
-    P : Mark → Type 0
-    P m = IsNextInRow reads writes low high m
-
-    exact : (m : Mark) → IsNextInRow reads writes low high m ↔ (Has reads m × IsBetween low (number_or w high) m)
-    exact m = next_reads reads writes low high w row first r read.0 read.1 m
-
-    past : (m : Mark) → low < m.number → after < m.number → start < m.number
-    past m a b = elim one [ inl e ↦ omega (arith, e, a) | inr e ↦ omega (arith, e, b) ]
-
-    by : (f : Option Mark) → IsFirstBetween start (number_or w high) reads f
-        → IsFirstAfter P after f
-    by None g = λ m p. elim (either_le m.number after) [
-      | inl le ↦ le
-      | inr gt ↦ let b = (exact m).0 p in absurd (g m b.0 (past m b.1.0 (omega (arith, gt)), b.1.1))
-    ]
-    by (Some k) g = (
-      (exact k).1 (g.0, (omega (arith, ge, g.1.0), g.1.1)),
-      omega (arith, more, g.1.0),
-      λ m p gt. let b = (exact m).0 p in g.2 m b.0 (past m b.1.0 gt, b.1.1),
-    )
-
-pub next_of_row : (reads writes : List Mark) (low high : ℕ) (after : ℕ) (w r : Option Mark) (n : Next) → AreLanesOfRow reads writes → IsFirstBetween low high writes w
-    → IsFirstBetween low (number_or w high) reads r → is_some r ≡ false → n.any ≡ is_some w → n.first ≡ later_than after w → IsKnownNext (IsNextInRow reads writes low high) after n
-next_of_row reads writes low high after w (Some r) n row first read there any is = cc
-next_of_row reads writes low high after w None n row first read there any is =
-    next_of_one (IsNextInRow reads writes low high) w after n (next_write reads writes low high w row first read) any is
 
 -- ---- as the code asks
 

@@ -1,40 +1,27 @@
 -- The marks of the nearest cells after a cell that clash with it, as they are found in the lanes.
 use Rattle.std.proofs.Common.{◌≡◌, ◌⊎◌, ◌↔◌, ℕ, ◌<◌, ◌≤◌, true, false, List, []}
-use Rattle.std.proofs.Common.{◌∷◌, Option, Some, None, is_some, refl, ap, sym, subst, inl, inr, arith, ◌∙◌}
+use Rattle.std.proofs.Common.{◌∷◌, Option, Some, None, refl, ap, sym, subst, inl, inr, arith, ◌∙◌}
 use Rattle.std.proofs.Math.Nat.{lt_trans}
 use Rattle.slab.specs.Slab.{get}
 use Rattle.dt_lists.specs.Lists.{Has}
-use Rattle.dt_lists.proofs.Callers.{all_get, any_get, any_put, either_le}
+use Rattle.dt_lists.proofs.Callers.{any_get, any_put}
 use Rattle.dt_access.specs.Clash.{is_whole}
 use Rattle.dt_access.specs.declared.access.Mode.{Mode}
 use Rattle.dt_access.specs.declared.access.Mode.TheVariants.{Read, Write, Whole}
 use Rattle.dt_queue.specs.declared.cell.Cell.{Cell}
 use Rattle.dt_queue.specs.declared.mark.Mark.{Mark}
 use Rattle.dt_queue.specs.declared.kept.Kept.{Kept}
-use Rattle.dt_queue.specs.declared.next.Next.{Next}
-use Rattle.dt_queue.specs.KeptInner.{CellsClash, AreQueuesKept, HidesFrom, IsNextInMode, IsNextMark, IsNextOfMode, lane, mark_of}
-use Rattle.dt_queue.specs.LanesInner.{HasRisingNumbers, IsBetween, IsFirstBetween, IsNextInRow, later_than, number_or}
-use Rattle.dt_queue.specs.NextInner.{IsFirstAfter, IsKnownNext}
+use Rattle.dt_queue.specs.KeptInner.{CellsClash, AreQueuesKept, IsNextInMode, IsNextMark, IsNextOfMode, lane, mark_of}
+use Rattle.dt_queue.specs.LanesInner.{IsBetween, IsFirstBetween, IsNextInRow, number_or}
+use Rattle.dt_queue.specs.NextInner.{AreEachOnce, or_else_one}
 use Rattle.dt_queue.specs.ListedInner.{rows_at}
 use Rattle.dt_queue.specs.RowsInner.{granule_at, links}
-use Rattle.dt_queue.proofs.NearMarks.{AreLanesOfRow, either_between, next_of_one, next_reads, next_write, row_of, same_mark, trichotomy}
-use Rattle.dt_queue.proofs.RowsNear.{next_as}
+use Rattle.dt_queue.proofs.NearMarks.{AreLanesOfRow, next_reads, next_write, row_of, same_mark, trichotomy}
+use Rattle.dt_queue.proofs.FollowerMarks.{first_there, once_of_one}
 use Rattle.dt_queue.proofs.CellUses.{InUseOf, IsMarkOf, IsNarrow, apart_lanes, cell_in_row, cell_of, clash_turned, clash_uses, lane_tells, one_use}
 use Rattle.dt_queue.proofs.CellUses.{number_of_mark, on_one_row, one_cell, one_granule, narrow_cell, reads_agree, taker_of, use_clashes, whole_clashes, write_clashes}
 
 -- ---- a row where no mark is next has none
-
--- a lane has a first mark between two numbers, or none
-first_there : (low high : ℕ) (ms : List Mark) → HasRisingNumbers ms → (o : Option Mark) × IsFirstBetween low high ms o
-first_there low high [] num = (None, λ m h. absurd h)
-first_there low high (x ∷ xs) num = elim (either_between low high x) [
-  | inl b ↦ (Some x, (inl refl, b, λ j h c. elim h [ inl e ↦ subst (λ (y : Mark). x.number ≤ y.number) e (omega arith) | inr g ↦ omega (arith, all_get (λ (y : Mark). x.number < y.number) xs num.0 j g) ]))
-  | inr ne ↦ by ne (first_there low high xs num.1)
-]
-  where
-    by : ¬ (IsBetween low high x) → (o : Option Mark) × IsFirstBetween low high xs o → (o : Option Mark) × IsFirstBetween low high (x ∷ xs) o
-    by ne (Some k, l) = (Some k, (inr l.0, l.1, λ j h b. elim h [ inl e ↦ absurd (ne (subst (IsBetween low high) (sym e) b)) | inr g ↦ l.2 j g b ]))
-    by ne (None, l) = (None, λ j h c. elim h [ inl e ↦ ne (subst (IsBetween low high) (sym e) c) | inr g ↦ l j g c ])
 
 row_empty : (reads writes : List Mark) (low high : ℕ) → AreLanesOfRow reads writes → ((m : Mark) → ¬ (IsNextInRow reads writes low high m)) → (m : Mark) → IsBetween low high m → Has reads m ⊎ Has writes m → ⊥
 row_empty reads writes low high row none m b h = by (first_there low high writes row.writes_numbered)
@@ -311,27 +298,16 @@ module _ (k : Kept) (kept : AreQueuesKept k) (x : Cell) (top : ℕ) (within : k.
               above : (d : Cell) → IsMarkOf k w d → x.number < d.number
               above d b = omega (arith, l.1.0, number_of_mark k w d b)
 
-  -- what is known of those that are next by their mode answers which is the first
-  pub first_of_some : (after : ℕ) (n : Next) → IsKnownNext (IsNextInMode k x (number_or o top)) after n → n.any ≡ true → IsFirstAfter (IsNextMark k x) after n.first
-  first_of_some after n known any = let r = known.some any in (next_as (IsNextInMode k x (number_or o top)) (IsNextMark k x) after n (next_marks r.0 r.1) known).first
+  -- those that are next by their mode are next, or, where there are none, the first that takes the granule as a whole
+  next_or_taker : (ms : List Mark) → AreEachOnce (IsNextInMode k x (number_or o top)) ms → AreEachOnce (IsNextMark k x) (or_else_one ms o)
+  next_or_taker [] once = once_of_one (IsNextMark k x) o (λ m. next_taker (λ j n. (once.members j).1 n) m)
+  next_or_taker (r ∷ ms) once = record {
+    apart = once.apart;
+    members = λ m. (λ h. (next_marks r here m).0 ((once.members m).0 h), λ n. (once.members m).1 ((next_marks r here m).1 n));
+  }
+    where
+      here : IsNextInMode k x (number_or o top) r
+      here = (once.members r).0 (inl refl)
 
-  pub first_of_none : (after : ℕ) (n one : Next) → IsKnownNext (IsNextInMode k x (number_or o top)) after n
-      → n.any ≡ false → one.any ≡ is_some o → one.first ≡ later_than after o → IsFirstAfter (IsNextMark k x) after one.first
-  first_of_none after n one known any some is = (next_of_one (IsNextMark k x) o after one (next_taker (known.none any)) some is).first
-
--- no cell after one that hides it is next
-pub none_hidden : (k : Kept) (x y : Cell) (place : ℕ) → get k.cells place ≡ Some y → HidesFrom x y → IsFirstAfter (IsNextMark k x) y.number None
-none_hidden k x y place e h m n = elim (either_le m.number y.number) [ inl le ↦ le | inr more ↦ absurd (n.5 place y e h.later (before more) here (clash n.4)) ]
-  where
-    before : ¬ (m.number ≤ y.number) → y.number < n.0.number
-    before more = omega (arith, more, number_of_mark k m n.0 (record { there = n.1; is = n.2 }))
-
-    here : CellsClash (links k.rows) x y
-    here = clash_turned (links k.rows) y x (write_clashes (links k.rows) y x h.writes (sym h.row))
-
-    no_part : false ≡ true → ⊥
-    no_part e = cc
-
-    clash : CellsClash (links k.rows) x n.0 → CellsClash (links k.rows) y n.0
-    clash (inl b) = write_clashes (links k.rows) y n.0 h.writes (sym h.row ∙ b.0)
-    clash (inr b) = inr (ap (granule_at (links k.rows)) (sym h.row) ∙ b.0, elim b.1 [ inl f ↦ absurd (no_part (sym h.narrow ∙ f)) | inr f ↦ inr f ])
+  pub next_of_this : (mode : Mode) → x.mode ≡ mode → (ms : List Mark) → AreEachOnce (IsNextOfMode mode k x.row x.number (number_or o top)) ms → AreEachOnce (IsNextMark k x) (or_else_one ms o)
+  next_of_this mode is ms once = next_or_taker ms (subst (λ d. AreEachOnce (IsNextOfMode d k x.row x.number (number_or o top)) ms) (sym is) once)

@@ -1,15 +1,13 @@
 -- What is nearest in several rows: the marks of all of them, put together and sorted by their numbers.
-use Rattle.std.proofs.Common.{◌≡◌, ◌⊎◌, ◌↔◌, ℕ, zero, suc, ◌<◌, ◌≤◌, Bool, true, false, cond, ◌==◌, nat_lt, List, []}
-use Rattle.std.proofs.Common.{◌∷◌, ◌++◌, length, get_or, take, Option, Some, None, ◌||◌, refl, sym, subst, inl, inr, eqb-true, eq-eqb, arith, ◌∙◌}
+use Rattle.std.proofs.Common.{◌≡◌, ◌↔◌, ℕ, zero, suc, ◌<◌, ◌≤◌, Bool, true, false, ◌==◌, List, []}
+use Rattle.std.proofs.Common.{◌∷◌, ◌++◌, length, get_or, take, refl, sym, subst, inl, inr, eqb-true, eq-eqb, arith}
 use Rattle.std.specs.List.{Contains}
 use Rattle.std.specs.List.Sorted.{IsNonDecreasingBy, IsPermutation}
 use Rattle.std.proofs.lemmas.List.Sorted.{Contains-permutation, IsPermutation-sym}
 use Rattle.dt_lists.specs.Lists.{AnyIn, Distinct, EachThen, Has}
 use Rattle.dt_lists.proofs.Callers.{all_get, all_map, all_put, any_append, any_append_left, any_append_right, any_get, each_append, each_map, has_at, permuted_apart}
 use Rattle.dt_queue.specs.declared.mark.Mark.{Mark}
-use Rattle.dt_queue.specs.declared.next.Next.{Next}
-use Rattle.dt_queue.specs.LanesInner.{AddsMarks, AreApart, AreMarks, HasRisingNumbers, IsNearInRow, earlier}
-use Rattle.dt_queue.specs.NextInner.{IsFirstAfter, IsKnownNext}
+use Rattle.dt_queue.specs.LanesInner.{AddsMarks, AreApart, AreMarks, HasRisingNumbers, IsNearInRow}
 use Rattle.dt_queue.proofs.Marks.{has_index}
 
 -- an item of a list without repeats is none of those before it
@@ -109,73 +107,3 @@ near_parted reads writes low high a r s m k p q e = elim p.1 [
   | inl x ↦ elim q.1 [ inl y ↦ a.of_reads r s m k x.0 y.0 e | inr y ↦ absurd (a.of_both r s m k x.0 y.0 e) ]
   | inr x ↦ elim q.1 [ inl y ↦ absurd (a.of_both s r k m y.0 x.0 (sym e)) | inr y ↦ a.of_writes r s m k x.0 y.0 e ]
 ]
-
--- ---- what is known of several rows
-
-pub no_next : (after : ℕ) (n : Next) → n.any ≡ false → n.first ≡ None → IsKnownNext (λ m. ⊥) after n
-no_next after n any first = record {
-  some = λ e. cc;
-  none = λ e m p. p;
-  first = subst (λ f. IsFirstAfter (λ m. ⊥) after f) (sym first) (λ m p. absurd p);
-}
-
--- what is known of the marks that have P is known of those that have Q, where these are the same
-pub next_as : (P Q : Mark → Type 0) (after : ℕ) (n : Next) → ((m : Mark) → P m ↔ Q m) → IsKnownNext P after n → IsKnownNext Q after n
-next_as P Q after n same known = record {
-  some = λ e. let found = known.some e in (found.0, (same found.0).0 found.1);
-  none = λ e m q. known.none e m ((same m).1 q);
-  first = by n.first known.first;
-}
-  where
-    by : (f : Option Mark) → IsFirstAfter P after f
-        → IsFirstAfter Q after f
-    by None g = λ m q. g m ((same m).1 q)
-    by (Some k) g = ((same k).0 g.0, g.1, λ m q lt. g.2 m ((same m).1 q) lt)
-
-pub next_or : (P Q : Mark → Type 0) (after : ℕ) (a b n : Next) → IsKnownNext P after a → IsKnownNext Q after b → n.any ≡ (a.any || b.any) → n.first ≡ earlier a.first b.first → IsKnownNext (λ m. P m ⊎ Q m) after n
-next_or P Q after a b n p q any first = record {
-  some = λ e. some a.any b.any p.some q.some (sym any ∙ e);
-  none = λ e m x. none a.any b.any p.none q.none (sym any ∙ e) m x;
-  first = subst (λ f. IsFirstAfter (λ m. P m ⊎ Q m) after f) (sym first) (by a.first b.first p.first q.first);
-}
-  where
-    some : (s t : Bool) → (s ≡ true → (m : Mark) × P m) → (t ≡ true → (m : Mark) × Q m) → (s || t) ≡ true → (m : Mark) × (P m ⊎ Q m)
-    some true t f g e = let x = f refl in (x.0, inl x.1)
-    some false true f g e = let x = g refl in (x.0, inr x.1)
-    some false false f g e = cc
-
-    none : (s t : Bool) → (s ≡ false → (m : Mark) → ¬ (P m)) → (t ≡ false → (m : Mark) → ¬ (Q m)) → (s || t) ≡ false → (m : Mark) → ¬ (P m ⊎ Q m)
-    none true t f g e m x = cc
-    none false true f g e m x = cc
-    none false false f g e m x = elim x [ inl y ↦ f refl m y | inr y ↦ g refl m y ]
-
-    by : (f g : Option Mark) → IsFirstAfter P after f
-        → IsFirstAfter Q after g
-        → IsFirstAfter (λ m. P m ⊎ Q m) after (earlier f g)
-    by None None x y = λ m z. elim z [ inl w ↦ x m w | inr w ↦ y m w ]
-    by None (Some k) x y = (inr y.0, y.1, λ m z lt. elim z [ inl w ↦ absurd (low m (x m w) lt) | inr w ↦ y.2 m w lt ])
-      where
-        low : (m : Mark) → m.number ≤ after → after < m.number → ⊥
-        low m c d = omega (arith, c, d)
-    by (Some k) None x y = (inl x.0, x.1, λ m z lt. elim z [ inl w ↦ x.2 m w lt | inr w ↦ absurd (low m (y m w) lt) ])
-      where
-        low : (m : Mark) → m.number ≤ after → after < m.number → ⊥
-        low m c d = omega (arith, c, d)
-    by (Some k) (Some j) x y = pick (nat_lt k.number j.number) refl
-      where
-        pick : (t : Bool) → nat_lt k.number j.number ≡ t
-            → IsFirstAfter (λ m. P m ⊎ Q m) after (cond t (Some k) (Some j))
-        pick true e = let lt : k.number < j.number = grind (arith, e) in (inl x.0, x.1, λ m z more. elim z [ inl w ↦ x.2 m w more | inr w ↦ omega (arith, lt, y.2 m w more) ])
-        pick false e = let le : j.number ≤ k.number = grind (arith, e) in (inr y.0, y.1, λ m z more. elim z [ inl w ↦ omega (arith, le, x.2 m w more) | inr w ↦ y.2 m w more ])
-
--- one more row
-pub next_more : (P : ℕ → Mark → Type 0) (rows : List ℕ) (row after : ℕ) (a b n : Next) → IsKnownNext (λ m. AnyIn (λ r. P r m) rows) after a
-    → IsKnownNext (P row) after b → n.any ≡ (a.any || b.any) → n.first ≡ earlier a.first b.first
-    → IsKnownNext (λ m. AnyIn (λ r. P r m) (rows ++ row ∷ [])) after n
-next_more P rows row after a b n p q any first =
-    next_as (λ m. AnyIn (λ r. P r m) rows ⊎ P row m) (λ m. AnyIn (λ r. P r m) (rows ++ row ∷ [])) after n
-    (λ m. (
-      λ x. elim x [ inl y ↦ any_append_left _ rows (row ∷ []) y | inr y ↦ any_append_right _ rows (row ∷ []) (inl y) ],
-      λ x. elim (any_append _ rows (row ∷ []) x) [ inl y ↦ inl y | inr y ↦ inr (elim y [ inl z ↦ z | inr z ↦ absurd z ]) ],
-    ))
-    (next_or (λ m. AnyIn (λ r. P r m) rows) (P row) after a b n p q any first)

@@ -2,7 +2,7 @@
 -- and it has a mark in the lane of its mode, that of its row, or for the mode Whole that of its granule. `waiting_of` is the
 -- list of entries that is kept so, and `AreQueuesKept` what all queues keep. Read next: `LanesInner`, then `RowsInner`, `ListedInner` and
 -- `WholesInner`.
-use Rattle.std.specs.Prelude.{◌≡◌, ℕ, ◌<◌, ◌↔◌, ◌⊎◌, ◌^◌, nat_lt, true, false, List, [], ◌∷◌, map, get_or, length, if◌then◌else◌, None, Some}
+use Rattle.std.specs.Prelude.{◌≡◌, ℕ, ◌<◌, ◌↔◌, ◌⊎◌, ◌^◌, nat_lt, true, List, [], ◌∷◌, map, get_or, length, if◌then◌else◌, None, Some}
 use Rattle.slab.specs.Slab.{Slab, Updates, get, entries}
 use Rattle.dt_lists.specs.Lists.{AnyIn, Has}
 use Rattle.dt_access.specs.Clash.{Bytes, is_whole, may_change}
@@ -136,13 +136,6 @@ HasOneNear k x = (x.mode ≡ Read) ⊎ (x.mode ≡ Write) × (lane k Read x.row 
 abbrev pub CellsClash : RowLinks → Cell → Cell → Type 0
 CellsClash r c d = ((c.row ≡ d.row) × ((may_change c.mode ≡ true) ⊎ (may_change d.mode ≡ true)))
     ⊎ ((granule_at r c.row ≡ granule_at r d.row) × ((is_whole c.mode ≡ true) ⊎ (is_whole d.mode ≡ true)))
-
--- a later cell hides all after it from a cell that reads or writes one row: it writes that row
-pub record HidesFrom (c d : Cell) : Type 0 where
-  pub narrow : is_whole c.mode ≡ false
-  pub writes : d.mode ≡ Write
-  pub row : c.row ≡ d.row
-  pub later : c.number < d.number
 
 -- it is the mark of one of the nearest cells before a cell that clash with it
 abbrev pub IsNearMark : Kept → Cell → Mark → Type 0

@@ -97,14 +97,3 @@ AddsMarks P old new = (added : List Mark) × (new ≡ old ++ added) × AreMarks 
 abbrev pub number_or : Option Mark → ℕ → ℕ
 number_or None other = other
 number_or (Some m) other = m.number
-
--- a mark, where its number is greater than another number
-abbrev pub later_than : ℕ → Option Mark → Option Mark
-later_than after None = None
-later_than after (Some m) = if nat_lt after m.number then Some m else None
-
--- of two marks, as far as there are any, the one with the lesser number
-abbrev pub earlier : Option Mark → Option Mark → Option Mark
-earlier None right = right
-earlier (Some m) None = Some m
-earlier (Some m) (Some k) = if nat_lt m.number k.number then Some m else Some k

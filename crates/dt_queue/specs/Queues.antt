@@ -47,11 +47,6 @@ abbrev pub pushed_before : List Waiting → ℕ → List Waiting
 pushed_before [] slot = []
 pushed_before (w ∷ waiting) slot = if w.slot == slot then [] else w ∷ pushed_before waiting slot
 
--- the entries that were pushed after the one at a slot
-abbrev pub pushed_after : List Waiting → ℕ → List Waiting
-pushed_after [] slot = []
-pushed_after (w ∷ waiting) slot = if w.slot == slot then waiting else pushed_after waiting slot
-
 -- of entries in the order of their pushes those nearest to a later one that they clash with: after them none of these
 -- entries clashes with both
 abbrev pub nearest : Waiting → List Waiting → List Waiting
@@ -70,10 +65,6 @@ is_neighbour waiting slot other = list_any (is_at slot) (neighbours waiting othe
 -- the followers of the entry at a slot: those of which it is a neighbour
 abbrev pub followers : List Waiting → ℕ → List Waiting
 followers waiting slot = filter (λ w. is_neighbour waiting slot w.slot) waiting
-
--- those of its followers that were pushed after the entry at another slot
-abbrev pub followers_after : List Waiting → ℕ → ℕ → List Waiting
-followers_after waiting slot place = filter (λ w. is_neighbour waiting slot w.slot) (pushed_after waiting place)
 
 -- an entry as a follower: its slot and its vertex
 abbrev pub follower_of : Waiting → Follower

@@ -1,5 +1,3 @@
-ghost use Rattle.std.specs.Prelude.{IsTrue};
-
 use dt_access::Mode;
 
 /// An entry that waits, as it is kept at its slot: the row that it waits for, and how it is to use it, the vertex that wants
@@ -10,21 +8,4 @@ pub struct Cell {
     pub mode: Mode,
     pub vertex: u32,
     pub number: u64,
-}
-
-impl Cell {
-    ghost use Rattle.dt_queue.specs.KeptInner.{HidesFrom};
-
-    /// Whether this entry hides all that come after it from an earlier one, which reads or writes one row: it writes that row, so
-    /// what clashes with the earlier one clashes with it too.
-    pub fn hides_from(&self, earlier: &Cell) -> bool
-        ensures { IsTrue result → HidesFrom earlier.now self.now }
-    {
-        match (earlier.mode, self.mode) {
-            (Mode::Read, Mode::Write) | (Mode::Write, Mode::Write) => {
-                earlier.number < self.number && earlier.row == self.row
-            }
-            _ => false,
-        }
-    }
 }

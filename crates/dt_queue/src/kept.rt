@@ -3,13 +3,13 @@ ghost use Rattle.std.specs.List.{filter};
 ghost use Rattle.slab.specs.Slab.{ContainsKey, Updates};
 ghost use Rattle.dt_lists.specs.Lists.{AllIn, Has, IsFront};
 ghost use Rattle.dt_queue.specs.LanesInner.{AreMarks};
-ghost use Rattle.dt_queue.specs.NextInner.{IsFirstAfter, IsKnownNext};
+ghost use Rattle.dt_queue.specs.NextInner.{AreEachOnce, marks_left};
 
 use crate::cell::Cell;
 use crate::listed::ListedRows;
 use crate::mark::{Mark, Marks};
 use crate::nearest::{near_row, near_rows, near_write, number_or, only};
-use crate::next::Next;
+use crate::next::NextMarks;
 use crate::row::{has_no_read, last_write, push_read, push_write, remove_read, remove_write};
 use crate::rows::Rows;
 use crate::wholes::Wholes;
@@ -31,7 +31,7 @@ pub struct Kept {
 
 impl Kept {
     ghost use Rattle.dt_access.specs.Clash.{is_whole};
-    ghost use Rattle.dt_queue.specs.KeptInner.{AddsCell, ChangesLaneOf, AreQueuesKept, AreRowsListed, HasOneNear, IsNearInMode, IsNearMark, IsNextInMode, IsNextMark, KeepsLanes, lane, place_at};
+    ghost use Rattle.dt_queue.specs.KeptInner.{AddsCell, ChangesLaneOf, AreQueuesKept, AreRowsListed, HasOneNear, IsNearInMode, IsNearMark, IsNextMark, KeepsLanes, lane, place_at};
     ghost use Rattle.dt_queue.specs.ListedInner.{rows_at};
     ghost use Rattle.dt_queue.specs.RowsInner.{AreRowsLinked, granule_at, links};
 
@@ -144,20 +144,25 @@ impl Kept {
         write.or(whole)
     }
 
-    /// The mark of the first follower of an entry after a number.
-    pub fn next(&self, cell: &Cell, after: u64) -> Option<Mark>
+    /// The marks of the followers of an entry, one after the other.
+    pub fn next(&self, cell: &Cell) -> NextMarks<'_>
         requires kept { AreQueuesKept self.now }
         requires row_in { cell.now.row < length self.now.rows.names.keys }
-        ensures { IsFirstAfter (IsNextMark self.now cell.now) after result }
+        ensures marks { AreEachOnce (IsNextMark self.now cell.now) (marks_left result) }
+        ensures table { result.table.now ≡ self.now.rows.table.items }
     {
+        let table = self.rows.table.as_slice();
         let granule = self.rows.granule_of(cell.row);
         let whole = self.wholes.first_between(granule, cell.number, u64::MAX);
-        let next = self.next_in_rows(cell, number_or(whole, u64::MAX), after);
-        let any = next.any;
-        if any {
-            return next.first;
+        let high = number_or(whole, u64::MAX);
+        match cell.mode {
+            Mode::Read => NextMarks::of_read(table, cell.row, cell.number, high, whole),
+            Mode::Write => NextMarks::of_write(table, cell.row, cell.number, high, whole),
+            Mode::Whole => {
+                let rows = self.listed.of_granule(granule);
+                NextMarks::of_rows(table, rows, cell.number, high, whole)
+            }
         }
-        Next::one(whole, after).first
     }
 
     /// Before something waits for a row in this mode: lists the row, or, where its granule is to be taken whole, sees to it that just
@@ -226,23 +231,6 @@ impl Kept {
             Mode::Whole => {
                 let rows = self.listed.of_granule(self.rows.granule_of(cell.row));
                 near_rows(alloc, table, rows, low, cell.number)
-            }
-        }
-    }
-
-    /// What is known of the followers of an entry that read or write rows, below a number.
-    fn next_in_rows(&self, cell: &Cell, high: u64, after: u64) -> Next
-        requires kept { AreQueuesKept self.now }
-        requires row_in { cell.now.row < length self.now.rows.names.keys }
-        ensures { IsKnownNext (IsNextInMode self.now cell.now high) after result }
-    {
-        let table = self.rows.table.as_slice();
-        match cell.mode {
-            Mode::Read => Next::in_writes(table, cell.row, cell.number, high, after),
-            Mode::Write => Next::in_row(table, cell.row, cell.number, high, after),
-            Mode::Whole => {
-                let rows = self.listed.of_granule(self.rows.granule_of(cell.row));
-                Next::in_rows(table, rows, cell.number, high, after)
             }
         }
     }

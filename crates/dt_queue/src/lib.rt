@@ -26,4 +26,4 @@ mod used;
 mod wholes;
 
 pub use follower::Follower;
-pub use queues::Queues;
+pub use queues::{Followers, Queues};

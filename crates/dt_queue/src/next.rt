@@ -1,101 +1,143 @@
-ghost use Rattle.std.specs.Prelude.{◌≡◌, [], get_or, is_some, ◌||◌};
-ghost use Rattle.dt_lists.specs.Lists.{AnyIn};
-ghost use Rattle.dt_queue.specs.LanesInner.{AreApart, HasRisingNumbers, IsFirstIn, IsNextInRow, earlier, later_than};
+ghost use Rattle.std.specs.Prelude.{◌≡◌, ◌++◌, [], ◌∷◌, get_or, option_to_list, MatchOption, None};
+ghost use Rattle.dt_queue.specs.LanesInner.{AreApart, HasRisingNumbers};
 ghost use Rattle.dt_queue.specs.TableInner.{lanes_read, lanes_written};
 
 use crate::mark::Mark;
 use crate::nearest::number_or;
 use crate::row::{Row, first_read, first_write};
 
-/// What is known of some entries: whether there are any, and which is the first after some number.
+/// A search for the marks of the followers of an entry, which goes from row to row. So it looks at each row once, and costs as much
+/// as there are rows and followers.
 #[derive(Clone, Copy)]
-pub struct Next {
-    pub any: bool,
-    pub first: Option<Mark>,
+pub struct NextMarks<'a> {
+    pub table: &'a [Row],
+    /// The rows that are still to be searched, for what lies between two numbers.
+    pub rows: &'a [usize],
+    pub low: u64,
+    pub high: u64,
+    /// The row that the search is in: what waits to read it with a number between these two is still to be given.
+    pub row: usize,
+    pub after: u64,
+    pub limit: u64,
+    /// What is given where nothing else was.
+    pub last: Option<Mark>,
 }
 
-impl Next {
-    ghost use Rattle.dt_queue.specs.NextInner.{IsKnownNext};
+impl<'a> NextMarks<'a> {
+    ghost use Rattle.dt_queue.specs.NextInner.{first_in, marks_left, next_of_row, next_of_rows, or_else_one, reads_left, rows_left};
 
-    /// What is known where there is one entry at most.
-    pub fn one(mark: Option<Mark>, after: u64) -> Self
-        ensures any { result.any ≡ is_some mark }
-        ensures first { result.first ≡ later_than after mark }
-    {
-        let first = match mark {
-            Some(found) if after < found.number => mark,
-            _ => None,
-        };
-        Next {
-            any: mark.is_some(),
-            first,
-        }
-    }
-
-    /// What is known of entries of both kinds.
-    pub fn or(self, other: Next) -> Self
-        ensures any { result.any ≡ (self.any || other.any) }
-        ensures first { result.first ≡ earlier self.first other.first }
-    {
-        Next {
-            any: self.any || other.any,
-            first: earlier(self.first, other.first),
-        }
-    }
-
-    /// Of the marks of those that write a row between two numbers the first one, if there is one.
-    pub fn in_writes(table: &[Row], row: usize, low: u64, high: u64, after: u64) -> Self
+    /// For an entry that reads a row: of the marks of those that write it between two numbers the first one, or the other one.
+    pub fn of_read(table: &'a [Row], row: usize, low: u64, high: u64, other: Option<Mark>) -> Self
         requires { HasRisingNumbers (get_or (lanes_written table.now) row []) }
-        ensures { IsKnownNext (IsFirstIn (get_or (lanes_written table.now) row []) low high) after result }
+        ensures marks { marks_left result ≡ or_else_one (option_to_list (first_in low high (get_or (lanes_written table.now) row []))) other }
+        ensures table { result.table.now ≡ table.now }
     {
-        Next::one(first_write(table, row, low, high), after)
+        NextMarks {
+            table,
+            rows: &[],
+            low,
+            high,
+            row,
+            after: 0,
+            limit: 0,
+            last: first_write(table, row, low, high).or(other),
+        }
     }
 
-    /// Of the marks of a row between two numbers those that are nearest to an entry before them that writes the row: those that
-    /// read it and before which none writes it, or, where there are none, the first one that writes it.
-    pub fn in_row(table: &[Row], row: usize, low: u64, high: u64, after: u64) -> Self
-        requires { AreApart (lanes_read table.now) (lanes_written table.now) }
-        ensures { IsKnownNext (IsNextInRow (get_or (lanes_read table.now) row []) (get_or (lanes_written table.now) row []) low high) after result }
+    /// For an entry that writes a row: the marks of the row between two numbers that are next to it, or the other one.
+    pub fn of_write(table: &'a [Row], row: usize, low: u64, high: u64, other: Option<Mark>) -> Self
+        requires { HasRisingNumbers (get_or (lanes_written table.now) row []) }
+        ensures marks { marks_left result ≡ or_else_one (next_of_row (get_or (lanes_read table.now) row []) (get_or (lanes_written table.now) row []) low high) other }
+        ensures table { result.table.now ≡ table.now }
     {
         let write = first_write(table, row, low, high);
-        let limit = number_or(write, high);
-        if first_read(table, row, low, limit).is_none() {
-            return Next::one(write, after);
-        }
-        let start = if after < low { low } else { after };
-        Next {
-            any: true,
-            first: first_read(table, row, start, limit),
+        NextMarks {
+            table,
+            rows: &[],
+            low,
+            high,
+            row,
+            after: low,
+            limit: number_or(write, high),
+            last: write.or(other),
         }
     }
 
-    /// The same of several rows.
-    pub fn in_rows(table: &[Row], rows: &[usize], low: u64, high: u64, after: u64) -> Self
-        requires { AreApart (lanes_read table.now) (lanes_written table.now) }
-        ensures { IsKnownNext (λ m. AnyIn (λ row. IsNextInRow (get_or (lanes_read table.now) row []) (get_or (lanes_written table.now) row []) low high m) rows.now) after result }
+    /// For an entry that takes a granule whole: those of all of these rows, or the other one.
+    pub fn of_rows(
+        table: &'a [Row],
+        rows: &'a [usize],
+        low: u64,
+        high: u64,
+        other: Option<Mark>,
+    ) -> Self
+        ensures marks { marks_left result ≡ or_else_one (next_of_rows (lanes_read table.now) (lanes_written table.now) low high rows.now) other }
+        ensures table { result.table.now ≡ table.now }
     {
-        let mut next = Next {
-            any: false,
-            first: None,
-        };
-        for row in rows {
-            next = next.or(Next::in_row(table, *row, low, high, after));
+        NextMarks {
+            table,
+            rows,
+            low,
+            high,
+            row: 0,
+            after: 0,
+            limit: 0,
+            last: other,
         }
-        next
     }
-}
 
-/// The mark with the lesser number, of those that there are.
-fn earlier(left: Option<Mark>, right: Option<Mark>) -> Option<Mark>
-    ensures { result ≡ earlier left right }
-{
-    match (left, right) {
-        (Some(one), Some(other)) => if one.number < other.number {
-            left
-        } else {
-            right
-        },
-        (Some(_), None) => left,
-        (None, _) => right,
+    /// Takes the next mark, if one is left.
+    pub fn next(&mut self) -> Option<Mark>
+        requires { AreApart (lanes_read self.old.table.now) (lanes_written self.old.table.now) }
+        ensures taken { MatchOption result ((marks_left self.old ≡ []) × (marks_left self.new ≡ [])) (λ mark. marks_left self.old ≡ mark ∷ marks_left self.new) }
+        ensures table { self.new.table.now ≡ self.old.table.now }
+    {
+        let next = self.next_in_rows();
+        if next.is_some() {
+            self.last = None;
+            return next;
+        }
+        self.last.take()
+    }
+
+    /// The same of the marks of rows alone.
+    fn next_in_rows(&mut self) -> Option<Mark>
+        requires { AreApart (lanes_read self.old.table.now) (lanes_written self.old.table.now) }
+        ensures taken { MatchOption result ((rows_left self.old ≡ []) × (rows_left self.new ≡ [])) (λ mark. rows_left self.old ≡ mark ∷ rows_left self.new) }
+        ensures table { self.new.table.now ≡ self.old.table.now }
+        ensures last { self.new.last ≡ self.old.last }
+    {
+        if let Some(read) = first_read(self.table, self.row, self.after, self.limit) {
+            self.after = read.number;
+            return Some(read);
+        }
+        while let Some((row, rest)) = self.rows.split_first() {
+            self.rows = rest;
+            let next = self.enter(*row);
+            if next.is_some() {
+                return next;
+            }
+        }
+        None
+    }
+
+    /// Begins with another row, where none is left of the one before, and takes its first mark, if it has one.
+    fn enter(&mut self, row: usize) -> Option<Mark>
+        requires apart { AreApart (lanes_read self.old.table.now) (lanes_written self.old.table.now) }
+        requires none { reads_left self.old ≡ [] }
+        ensures taken { option_to_list result ++ reads_left self.new
+            ≡ next_of_row (get_or (lanes_read self.old.table.now) row []) (get_or (lanes_written self.old.table.now) row []) self.old.low self.old.high }
+        ensures none { result ≡ None → reads_left self.new ≡ [] }
+        ensures same { self.new ≡ record self.old { row = self.new.row; after = self.new.after; limit = self.new.limit } }
+    {
+        let write = first_write(self.table, row, self.low, self.high);
+        let limit = number_or(write, self.high);
+        let Some(read) = first_read(self.table, row, self.low, limit) else {
+            return write;
+        };
+        self.row = row;
+        self.after = read.number;
+        self.limit = limit;
+        Some(read)
     }
 }

@@ -1,9 +1,11 @@
-ghost use Rattle.std.specs.Prelude.{◌≡◌, ◌==◌, ◌<◌, ◌^◌, [], ◌∷◌, ◌++◌, count_by, length, map, not, option_to_list, slice_get, IfOk, OnErr};
-ghost use Rattle.dt_queue.specs.Queues.{IsQueued, follower_of, followers_after, neighbours, taken_out};
+ghost use Rattle.std.specs.Prelude.{◌≡◌, ◌==◌, ◌<◌, ◌^◌, [], ◌∷◌, ◌++◌, count_by, length, map, not, option_to_list, IfOk, MatchOption, OnErr};
+ghost use Rattle.std.specs.List.Sorted.{IsPermutation};
+ghost use Rattle.dt_queue.specs.Queues.{IsQueued, follower_of, followers, neighbours, taken_out};
 
 use crate::follower::Follower;
 use crate::kept::Kept;
 use crate::mark::Mark;
+use crate::next::NextMarks;
 use dt_access::Mode;
 use dt_text::{Key, NoMemory};
 use std::alloc::Global;
@@ -83,23 +85,15 @@ impl Queues {
         Ok(others(marks.as_slice(), vertex))
     }
 
-    /// The first follower of the entry at a slot that was pushed after the one at another slot. So its followers are found one
-    /// after the other, from those after itself on. Takes no memory.
-    pub fn follower_after(&self, slot: usize, place: usize) -> Option<Follower>
-        requires slot { IsQueued self.now slot }
-        requires place { IsQueued self.now place }
-        ensures { result ≡ slice_get (map follower_of (followers_after self.now slot place)) 0 }
+    /// The followers of the entry at a slot, each once: those that read or write one row in the order of their pushes, and the rows
+    /// in no order. Takes no memory.
+    pub fn followers(&self, slot: usize) -> Followers<'_>
+        requires { IsQueued self.now slot }
+        ensures { IsPermutation (map follower_of (followers self.now slot)) result }
     {
-        let entry = &self.kept.cells[slot];
-        let last = &self.kept.cells[place];
-        if last.hides_from(entry) {
-            return None;
+        Followers {
+            marks: self.kept.next(&self.kept.cells[slot]),
         }
-        let mark = self.kept.next(entry, last.number)?;
-        Some(Follower {
-            slot: mark.slot,
-            vertex: mark.vertex,
-        })
     }
 
     /// Takes the entry at a slot out of its queue. Takes no memory.
@@ -108,6 +102,39 @@ impl Queues {
         ensures { self.new ≡ taken_out self.old slot }
     {
         self.kept.remove(slot);
+    }
+}
+
+/// The followers of an entry. Contracts see those that are left.
+#[derive(Drop)]
+pub struct Followers<'a> {
+    marks: NextMarks<'a>,
+}
+
+impl<'a> Model for Followers<'a> {
+    ghost use Rattle.std.specs.Prelude.{List, map};
+    ghost use Rattle.dt_queue.specs.LanesInner.{AreApart};
+    ghost use Rattle.dt_queue.specs.NextInner.{follower_of_mark, marks_left};
+    ghost use Rattle.dt_queue.specs.TableInner.{lanes_read, lanes_written};
+    ghost use Rattle.dt_queue.specs.declared.follower.Follower.{Follower};
+
+    ghost Value = { List Follower };
+
+    ghost view = { λ f. map follower_of_mark (marks_left f.marks) };
+
+    ghost invariant = { λ f. AreApart (lanes_read f.marks.table.now) (lanes_written f.marks.table.now) };
+}
+
+impl<'a> Followers<'a> {
+    /// Takes the next follower, if one is left. Takes no memory.
+    pub fn next(&mut self) -> Option<Follower>
+        ensures { MatchOption result ((self.old ≡ []) × (self.new ≡ [])) (λ follower. self.old ≡ follower ∷ self.new) }
+    {
+        let mark = self.marks.next()?;
+        Some(Follower {
+            slot: mark.slot,
+            vertex: mark.vertex,
+        })
     }
 }
 

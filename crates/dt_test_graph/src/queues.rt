@@ -45,18 +45,14 @@ fn queued(alloc: Global, queues: &mut Queues, uses: &[Use]) -> Result<Vec<usize>
     Ok(slots)
 }
 
-/// The followers of an entry, one after the other, as far as there are no more than n.
-fn followers_of(alloc: Global, queues: &Queues, slot: usize, most: usize) -> Result<Vec<u32>, Fail>
+/// The followers of an entry, one after the other.
+fn followers_of(alloc: Global, queues: &Queues, slot: usize) -> Result<Vec<u32>, Fail>
     requires { IsQueued queues.now slot }
 {
     let mut vertices = Vec::new(alloc);
-    let mut at = slot;
-    for _ in 0..most {
-        let Some(follower) = queues.follower_after(slot, at) else {
-            break;
-        };
+    let mut followers = queues.followers(slot);
+    while let Some(follower) = followers.next() {
         vertices.push(follower.vertex)?;
-        at = follower.slot;
     }
     Ok(vertices)
 }
@@ -68,19 +64,13 @@ enum Ask {
     Followers,
 }
 
-/// What queues answer for an entry; of its followers n at most.
-fn asked(
-    alloc: Global,
-    queues: &Queues,
-    slot: usize,
-    ask: Ask,
-    most: usize,
-) -> Result<Vec<u32>, Fail>
+/// What queues answer for an entry.
+fn asked(alloc: Global, queues: &Queues, slot: usize, ask: Ask) -> Result<Vec<u32>, Fail>
     requires { IsQueued queues.now slot }
 {
     match ask {
         Ask::Neighbours => Ok(queues.neighbours(alloc, slot)?),
-        Ask::Followers => followers_of(alloc, queues, slot, most),
+        Ask::Followers => followers_of(alloc, queues, slot),
     }
 }
 
@@ -99,12 +89,12 @@ fn answered(
         return Ok(Vec::new(alloc));
     };
     let Some(gone) = gone else {
-        return asked(alloc, queues, *slot, ask, slots.len());
+        return asked(alloc, queues, *slot, ask);
     };
     match slots.get(gone) {
         Some(gone) if *gone != *slot => {
             queues.remove(*gone);
-            asked(alloc, queues, *slot, ask, slots.len())
+            asked(alloc, queues, *slot, ask)
         }
         _ => Ok(Vec::new(alloc)),
     }
@@ -155,6 +145,17 @@ const GRANULE: [Use; 8] = [
     (0, b"a", Mode::Whole, 7),
 ];
 
+const ROWS_OF_GRANULE: [Use; 8] = [
+    (0, b"a", Mode::Whole, 0),
+    (0, b"a/1", Mode::Read, 1),
+    (0, b"a/2", Mode::Write, 2),
+    (0, b"a/1", Mode::Read, 3),
+    (0, b"a/1", Mode::Write, 4),
+    (0, b"a/2", Mode::Read, 5),
+    (0, b"a", Mode::Whole, 6),
+    (0, b"a/3", Mode::Write, 7),
+];
+
 /// Entries, one that is taken out or none, what is asked of the one at a place, and what is answered.
 const ROWS: &[(&[Use], Option<usize>, Ask, usize, &[u32])] = &[
     // Neighbours are the nearest before it that clash.
@@ -177,6 +178,9 @@ const ROWS: &[(&[Use], Option<usize>, Ask, usize, &[u32])] = &[
     (&GRANULE, None, Ask::Followers, 4, &[5]),
     (&GRANULE, None, Ask::Followers, 5, &[6]),
     (&GRANULE, None, Ask::Followers, 6, &[7]),
+    (&ROWS_OF_GRANULE, None, Ask::Followers, 0, &[1, 3, 2]),
+    (&ROWS_OF_GRANULE, None, Ask::Followers, 4, &[6]),
+    (&ROWS_OF_GRANULE, None, Ask::Followers, 6, &[7]),
     // What was taken out is no neighbour.
     (&ROW, Some(0), Ask::Neighbours, 2, &[1]),
     (&ROW, Some(2), Ask::Neighbours, 3, &[]),

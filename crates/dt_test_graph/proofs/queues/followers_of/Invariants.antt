@@ -1,5 +1,5 @@
-use Rattle.dt_queue.specs.Queues.{IsQueued}
+use Rattle.std.proofs.Common.{length}
 use Rattle.dt_test_graph.proofs.queues.followers_of.Given as goal
 
-abbrev pub invariant-loop : goal.invariant-loop
-invariant-loop l = IsQueued l.queues l.at
+abbrev pub decreases-loop-follower : goal.decreases-loop-follower
+decreases-loop-follower l = length l.followers
