@@ -58,7 +58,8 @@ returns-in_err-enter-clause-kept c =
     let same = c.in_err-enter.ensures.same in
     let rows = ap (λ (y : Kept). links y.rows) same in
     kept_same k e c.requires.kept (subst AreRowsLinked (sym rows) c.in_ok-row.ensures.linked) (subst (KeepsRows (links k.rows)) (sym rows) c.in_ok-row.ensures.kept)
-    (λ s. ap (λ (y : Kept). get y.cells s) same) (ap (λ (y : Kept). y.next_number) same) (lanes_entered k c.row.new.self e c.in_ok-row.ensures.reads c.in_ok-row.ensures.writes same) c.in_err-enter.ensures.grows c.in_err-enter.ensures.listed
+    (λ s. ap (λ (y : Kept). get y.cells s) same) (ap (λ (y : Kept). y.next_number) same) (lanes_entered k c.row.new.self e c.in_ok-row.ensures.reads c.in_ok-row.ensures.writes same)
+    c.in_err-enter.ensures.grows c.in_err-enter.ensures.listed
 
 pub returns-in_err-reserve-clause-kept : goal.returns-in_err-reserve-clause-kept
 returns-in_err-reserve-clause-kept c =
