@@ -1,5 +1,4 @@
-ghost use Rattle.std.specs.Prelude.{◌↔◌, IfOk, IfErr, IsTrue};
-ghost use Rattle.dt_text.specs.Texts.{IsStr};
+ghost use Rattle.std.specs.Prelude.{IfOk, IfErr};
 ghost use Rattle.toml.specs.Data.{string};
 ghost use Rattle.toml.specs.View.{view, table_view};
 ghost use Rattle.dt_cluster_file.specs.Rows.{IsRow, IsBadRow, IsNoValue, IsValue};
@@ -10,7 +9,7 @@ ghost use Rattle.dt_cluster_file.specs.declared.error.ClusterPlace.TheVariants.{
 use crate::entries::{entry_fault, row_fault, value_at};
 use crate::error::{ClusterCause, ClusterError};
 use dt_cluster::RowList;
-use dt_text::{Key, Listed, Str, Value, is_text_byte};
+use dt_text::{Key, Listed, Str, Value};
 use std::alloc::Global;
 use toml::Table;
 
@@ -71,15 +70,8 @@ fn text_value(alloc: Global, name: &str, text: &str) -> Result<Value, ClusterErr
     ensures ok { IfOk result (IsValue (string text.now)) }
     ensures fault { IfErr result (TellsFault (IsFaultAt (Row name.now) (IsNoValue (string text.now)))) }
 {
-    if !is_text(text.as_bytes()) {
+    if !Str::is_str(text.as_bytes()) {
         return Err(row_fault(alloc, name, ClusterCause::BadText));
     }
     Ok(Value::Text(Str::new(alloc, text.as_bytes())?))
-}
-
-/// Whether the bytes are those of a text.
-fn is_text(bytes: &[u8]) -> bool
-    ensures { IsTrue result ↔ IsStr bytes.now }
-{
-    bytes.len() <= Str::LONGEST && bytes.iter().all(|byte| is_text_byte(*byte))
 }

@@ -233,18 +233,18 @@ module _ (files : Files) where
 
   -- what can be done has no fault
   done_cluster : (task : Task) (f : ClusterFault) → CanBeDone (Some files) task → HasBadCluster (Some files) task f → ⊥
-  done_cluster (Replay word name list) f can bad = no_named (Some word) can.cluster f can.loaded.cluster_word bad
+  done_cluster (Replay word name list) f can bad = no_named (Some word) can.runnable.cluster f can.runnable.loaded.cluster_word bad
   done_cluster (Run word name) f can bad = no_named (Some word) can.cluster f can.loaded.cluster_word bad
   done_cluster (Big size) f can bad = bad
 
   done_workload : (task : Task) (l : ℕ) (why : WorkloadCause) → CanBeDone (Some files) task → HasBadWorkload (Some files) task l why → ⊥
-  done_workload (Replay word name list) l why can bad = sound_workload (Replay word name list) can.cluster can.workload l why can.loaded bad
+  done_workload (Replay word name list) l why can bad = sound_workload (Replay word name list) can.runnable.cluster can.runnable.workload l why can.runnable.loaded bad
   done_workload (Run word name) l why can bad = sound_workload (Run word name) can.cluster can.workload l why can.loaded bad
   done_workload (Big size) l why can (cluster, names, bad) = names
 
   done_events : (task : Task) (l : ℕ) (why : EventsCause) → CanBeDone (Some files) task → HasBadEvents (Some files) task l why → ⊥
   done_events (Replay word name list) l why can bad =
-      sound_events (Replay word name list) can.cluster can.workload can.events l why can.loaded can.events_file can.legal bad
+      sound_events (Replay word name list) can.runnable.cluster can.runnable.workload can.events l why can.runnable.loaded can.events_file can.legal bad
   done_events (Run word name) l why can (cluster, workload, loaded, bad) = bad
   done_events (Big size) l why can (cluster, workload, loaded, bad) = bad
 

@@ -181,9 +181,7 @@ module _ {F A : Type 0} (seen : F → FolderView) (files files_after : F) (told 
       (headline_of (seen files).told (Replay word name list) (λ report. text.items ≡ report) cluster workload (unnumbered events) loaded (events, all, refl) valid fits legal written
       (subst (λ lines. IsToldBy lines (unnumbered events)) written tells))
       (record {
-        cluster = cluster;
-        workload = workload;
-        loaded = loaded;
+        runnable = record { cluster = cluster; workload = workload; loaded = loaded };
         events = events;
         events_file = all;
         legal = legal;

@@ -96,14 +96,13 @@ pub record IsRunnable (told : Option Files) (task : Task) : Type 0 where
   pub workload : Workload
   pub loaded : Loaded told task cluster workload
 
--- a replay that can be done: all its files are as they should be, and the events are legal
+-- a replay that can be done: its cluster and its workload are as they should be, and so is its events' file, whose events are
+-- legal
 pub record IsReplayable (told : Option Files) (task : Task) : Type 0 where
-  pub cluster : Cluster
-  pub workload : Workload
-  pub loaded : Loaded told task cluster workload
+  pub runnable : IsRunnable told task
   pub events : List (ℕ × Event)
   pub events_file : HasEvents told task events
-  pub legal : AreLegal cluster workload (unnumbered events)
+  pub legal : AreLegal runnable.cluster runnable.workload (unnumbered events)
 
 -- nothing that a task takes from files stands in its way; a big run takes nothing from them
 abbrev pub CanBeDone : Option Files → Task → Type 0

@@ -16,4 +16,4 @@ mod words;
 pub use program::{command_line, exit_of};
 pub use status::{EventsCause, Status};
 pub use top::{detock, detock_alone};
-pub use words::{ClusterWord, ReplayWords, RunWords, ThreadedWords, threaded_words};
+pub use words::{ClusterWord, RunWords, ThreadedWords, threaded_words};

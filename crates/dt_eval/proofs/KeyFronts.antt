@@ -1,18 +1,13 @@
 -- A key expression compared part by part with the bytes of a key.
 use Rattle.std.proofs.Common.{◌≡◌, ◌<◌, ◌+◌, ℕ, List, ◌∷◌, ◌++◌, length, get_or, drop, sym, ap, subst, ◌∙◌}
-use Rattle.std.proofs.lemmas.List.{drop_more}
 use Rattle.std.specs.Prelude.{◌↔◌}
 use Rattle.dt_lists.specs.Lists.{AllIn}
-use Rattle.dt_lists.proofs.Callers.{same_rest}
+use Rattle.dt_lists.proofs.Callers.{from_item, same_rest}
 use Rattle.dt_text.specs.declared.Value.{Value}
 use Rattle.dt_access.specs.Clash.{Bytes}
 use Rattle.dt_proc.specs.declared.tree.KeyItem.{KeyItem}
 use Rattle.dt_eval.specs.FrameInner.{IsItemWithin}
 use Rattle.dt_eval.specs.Keys.{item_text, key_text}
-
--- a list from an item on
-pub from_item : {A : Type 0} (xs : List A) (i : ℕ) (x : A) → i < length xs → x ≡ get_or xs i x → drop i xs ≡ x ∷ drop (i + 1) xs
-from_item xs i x inside is = drop_more xs i x inside ∙ ap (λ y. y ∷ drop (i + 1) xs) (sym is)
 
 -- what is known after the first parts of a key expression
 pub record Giving (args : List Value) (items : List KeyItem) (bytes : Bytes) (index : ℕ) (rest : Bytes) : Type 0 where

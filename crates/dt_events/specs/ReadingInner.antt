@@ -1,5 +1,5 @@
 -- Only for the functions that the reader of events is made of: what each of them finds in a list of words. Read
--- Events.antt for what the public calls promise of a line and of a file.
+-- next: Events, for what the public calls promise of a line and of a file.
 use Rattle.std.specs.Prelude.{◌≡◌, ◌≢◌, ℕ, ◌<◌, ◌^◌, List, length, map, take, Option, MatchOption}
 use Rattle.std.specs.Borrow.{Bor}
 use Rattle.dt_lists.specs.Lists.{AllIn}

@@ -19,4 +19,4 @@ pub use laws::{
     load_keeps_total, shown_sum_is_total,
 };
 pub use load::generate;
-pub use summaries::{answer_count, kept_answers, row_sum, summary, summary_text};
+pub use summaries::{kept_answers, row_sum, summary_text};

@@ -1,22 +1,12 @@
 ghost use Rattle.std.specs.Prelude.{◌≡◌, ◌++◌, ◌∷◌, [], IfOk, OnOk};
 ghost use Rattle.dt_report.specs.Report.{line_of};
-ghost use Rattle.dt_gen.specs.Summary.{answer_count, first_rows, kept_answers, number_of_row, row_sum, summary_of, summary_text};
+ghost use Rattle.dt_gen.specs.Summary.{kept_answers, number_of_row, row_sum, summary_text};
 
 use dt_events::{Event, Stamped};
-use dt_report::Report;
 use dt_table::Shown;
 use dt_text::{NoMemory, Value};
 use itoa::{Buffer, Integer};
 use std::alloc::Global;
-
-/// What is reported of a run of the load of n calls, by its report: a line with the number of calls, one with the number of
-/// answers, and one with the sum of the rows of region 0. The only error is running out of memory.
-pub fn summary(alloc: Global, calls: u32, report: &Report) -> Result<Vec<u8>, NoMemory>
-    ensures { IfOk result (λ text. text.items ≡ summary_of calls report.now) }
-{
-    let answers = answer_count(report.events.as_slice());
-    summary_text(alloc, calls, answers as u64, first_rows(report))
-}
 
 /// The three lines for n calls, with this number of answers and the sum of these rows. The only error is running out of memory.
 pub fn summary_text(
@@ -33,19 +23,6 @@ pub fn summary_text(
     put_line(&mut text, b"answers", answers)?;
     put_line(&mut text, b"sum", sum)?;
     Ok(text)
-}
-
-/// How many of the events answer a session. Takes no memory.
-pub fn answer_count(events: &[Event]) -> usize
-    ensures { result ≡ answer_count events.now }
-{
-    let mut count = 0;
-    for event in events {
-        if let Event::Answer { .. } = event {
-            count += 1;
-        }
-    }
-    count
 }
 
 /// How many of the events that a region keeps answer a session. Takes no memory.
@@ -79,16 +56,6 @@ fn number_of(value: &Option<Value>) -> i64
     match value {
         Some(Value::Int(number)) => *number,
         _ => 0,
-    }
-}
-
-/// The rows that a report shows of region 0; none where it shows no region.
-fn first_rows(report: &Report) -> &[Shown]
-    ensures { result.now ≡ first_rows report.now }
-{
-    match report.tables.as_slice().first() {
-        Some(rows) => rows.as_slice(),
-        None => &[],
     }
 }
 

@@ -43,8 +43,3 @@ pub record AreIdsNumbered (ids : List TxnId) (near : List (List (Option ℕ))) (
   pub few : length ids < 2 ^ 32
   pub once : Distinct ids
   pub found : (id : TxnId) → IsNumberOf ids id (first_number (number_at near id) (far id))
-
--- the place of a vertex in a list, if it is there
-abbrev pub IsPlaceIn : List ℕ → ℕ → Option ℕ → Type 0
-IsPlaceIn list vertex None = ¬ (Has list vertex)
-IsPlaceIn list vertex (Some place) = slice_get list place ≡ Some vertex

@@ -1,6 +1,6 @@
 ghost use Rattle.std.specs.Prelude.{◌≡◌, ◌<◌, ◌^◌, IfOk, length};
 ghost use Rattle.dt_lists.specs.Lists.{Distinct};
-ghost use Rattle.dt_graph.specs.NamesInner.{IsPlaceIn};
+ghost use Rattle.dt_graph.specs.SubsetInner.{StandsAtPlace};
 
 use dt_text::NoMemory;
 use indexmap::IndexSet;
@@ -39,7 +39,7 @@ impl Group {
 
     /// The place of a vertex, if it is one of them.
     pub fn place_of(&self, vertex: u32) -> Option<u32>
-        ensures { IsPlaceIn self.now vertex result }
+        ensures { StandsAtPlace self.now vertex result }
     {
         let place = self.vertices.get_index_of(&vertex)?;
         Some(place as u32)

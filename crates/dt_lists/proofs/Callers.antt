@@ -17,8 +17,8 @@ pub use Rattle.dt_lists.proofs.Before.{PassesAtFront, Spot, all_of_gets, before_
 pub use Rattle.dt_lists.proofs.Before.{get_filtered, get_front, get_seam, has_before, has_middle, if_passes, same_by_key, some_each, spot, spot_has}
 pub use Rattle.dt_lists.proofs.Filters.{filter_all, filter_before, filter_each, filter_whole, has_filter, of_filter}
 pub use Rattle.dt_lists.proofs.Places.{all_more, any_in_joined, any_of_joined, at_place, distinct_by_key, each_of_set, field_of_set, flat_map_of_set}
-pub use Rattle.dt_lists.proofs.Places.{from_right, get_of_replicate, has_at, has_last, has_longer, has_more, has_of_filtered, has_place}
-pub use Rattle.dt_lists.proofs.Places.{all_index, all_set, has_dropped, last_place, none_in_empty, rest_from, one_place, place_in_longer, place_in_more, place_of}
+pub use Rattle.dt_lists.proofs.Places.{from_item, from_right, get_of_replicate, has_at, has_last, has_longer, has_more, has_of_filtered, has_place}
+pub use Rattle.dt_lists.proofs.Places.{all_index, all_or, all_set, has_dropped, last_place, none_in_empty, rest_from, one_place, place_in_longer, place_in_more, place_of}
 pub use Rattle.dt_lists.proofs.Chains.{chain_before, chain_decided, chain_join, chain_keeps, chain_map, chain_step, chain_takes_back, chain_turned}
 pub use Rattle.dt_lists.proofs.Changes.{joined_more, joined_none, none_some, same_head, same_rest, same_tail, set_beside, set_here, some_same}
 pub use Rattle.dt_lists.proofs.Sums.{sum_mapped, sum_same}

@@ -1,9 +1,9 @@
 -- Lists by place: an item is put in or added at the end; and what is said of a list by its last item.
 use Rattle.std.proofs.Common.{◌≡◌, ◌<◌, ◌⊎◌, ℕ, zero, suc, Bool, true, false, List, [], ◌∷◌, ◌++◌, length, get_or, drop, set, replicate, slice_index_or}
-use Rattle.std.proofs.Common.{flat_map, slice_get, take, ◌-◌, Some, refl, sym, ap, subst, inl, inr, append_assoc, append-nil, length-drop, arith}
+use Rattle.std.proofs.Common.{flat_map, slice_get, take, ◌-◌, ◌+◌, ◌∙◌, Some, refl, sym, ap, subst, inl, inr, append_assoc, append-nil, length-drop, arith}
 use Rattle.std.specs.Prelude.{filter}
 use Rattle.std.proofs.lemmas.Bool.{cases_Bool}
-use Rattle.std.proofs.lemmas.List.{take_all}
+use Rattle.std.proofs.lemmas.List.{drop_more, take_all}
 use Rattle.dt_lists.specs.Lists.{AnyIn, AllIn, Has, Distinct}
 use Rattle.dt_lists.proofs.Words.{any_append, any_append_left, any_append_right, all_append, all_get, all_put}
 use Rattle.dt_lists.proofs.Filters.{has_filter, of_filter}
@@ -19,6 +19,10 @@ from_right {A = A} P none more xs = go [] xs none
 -- the rest of a list from a place on, as a slice has it
 pub rest_from : {A : Type 0} (xs : List A) (i : ℕ) → take (length xs - i) (drop i xs) ≡ drop i xs
 rest_from xs i = take_all (length xs - i) (drop i xs) (omega (arith, length-drop i xs))
+
+-- the rest of a list from an item on begins with that item
+pub from_item : {A : Type 0} (xs : List A) (i : ℕ) (x : A) → i < length xs → x ≡ get_or xs i x → drop i xs ≡ x ∷ drop (i + 1) xs
+from_item xs i x inside is = drop_more xs i x inside ∙ ap (λ y. y ∷ drop (i + 1) xs) (sym is)
 
 -- what an item that is put in has in common with the one before
 
@@ -92,6 +96,11 @@ pub all_index : {A : Type 0} (P : A → Type 0) (xs : List A) (i : ℕ) (d : A) 
 all_index P [] i d all lt = absurd (omega arith)
 all_index P (x ∷ xs) zero d all lt = all.0
 all_index P (x ∷ xs) (suc i) d all lt = all_index P xs i d all.1 (omega arith)
+
+pub all_or : {A : Type 0} (P : A → Type 0) (xs : List A) (i : ℕ) (d : A) → AllIn P xs → i < length xs → P (get_or xs i d)
+all_or P [] i d all lt = absurd (omega arith)
+all_or P (x ∷ xs) zero d all lt = all.0
+all_or P (x ∷ xs) (suc i) d all lt = all_or P xs i d all.1 (omega arith)
 
 -- what stands in the rest of a list stands in the list
 pub has_dropped : {A : Type 0} (n : ℕ) (xs : List A) (x : A) → Has (drop n xs) x → Has xs x

@@ -22,7 +22,7 @@ use Rattle.dt_cluster.specs.declared.Cluster.{Cluster}
 use Rattle.dt_workload.specs.declared.Ranked.{Ranked}
 use Rattle.dt_workload.specs.declared.Session.{Session}
 use Rattle.dt_workload.specs.declared.Workload.{Workload}
-use Rattle.dt_session.specs.World.{World, Place, Submission, node_at, asked_of, taken_of, log_of, logs_of, received_of, received_lengths, received_logs}
+use Rattle.dt_session.specs.World.{Node, World, Place, Submission, node_at, asked_of, taken_of, log_of, logs_of, received_of, received_lengths, received_logs}
 use Rattle.dt_session.specs.World.{submission_of, find_submission, txn_of, attempt_of, outcome_in, outcome_at, session_at}
 use Rattle.dt_session.specs.Tries.{Awaited, MayEnd, MayTry, attempt_after}
 use Rattle.dt_session.specs.Step.{IsLegal, MaySubmit, MayAnswer, awaited_at, next_attempt, called, submitted, answered, next}
@@ -80,6 +80,10 @@ module _ {cluster : Cluster} {workload : Workload} (w z : World) where
           let lh : home < cluster.regions = subst (λ n. home < n) (logs_length w ∙ gw.inv.nodes) lt in
           subst (λ l. slice_index (received_lengths w region) home ≤ length l) (sym (log_is w home)) (received_within cluster workload w gw.order gw.inv region home lr lh)
 
+-- an id that a region gave is that of the same attempt in all worlds in which the region's node is the same
+pub attempt_same : (w v : World) (region : ℕ) → node_at w region ≡ node_at v region → (id : TxnId) → id.region ≡ region → attempt_of w id ≡ attempt_of v id
+attempt_same w v region nodes id is = ap (λ (n : Node). unwrap_or (option_map (λ s. s.attempt) (find_submission n.submitted id)) 0) (subst (λ r. node_at w r ≡ node_at v r) (sym is) nodes)
+
 -- what two worlds say of a region, if its own part is the same in both
 
 module _ (workload : Workload) (w v : World) (region : ℕ) (same : own workload w region ≡ own workload v region) where
@@ -91,10 +95,6 @@ module _ (workload : Workload) (w v : World) (region : ℕ) (same : own workload
   session_same name =
       found_own workload.sessions w.places region name ∙ ap (λ o. session_at (local region workload.sessions) o.places region name) same
       ∙ sym (found_own workload.sessions v.places region name)
-
-  -- an id that it gave is that of the same attempt
-  pub attempt_same : (id : TxnId) → id.region ≡ region → attempt_of w id ≡ attempt_of v id
-  attempt_same id is = ap (λ n. unwrap_or (option_map (λ s. s.attempt) (find_submission n.submitted id)) 0) (subst (λ r. node_at w r ≡ node_at v r) (sym is) node_same)
 
 module _ {cluster : Cluster} {workload : Workload} (w v z : World) (gw : HasInvariant cluster workload w) (gv : HasInvariant cluster workload v) (gz : HasInvariant cluster workload z)
     (bw : HaveGrown w z) (bv : HaveGrown v z) (region : ℕ) (lr : region < cluster.regions) where
@@ -123,7 +123,7 @@ module _ {cluster : Cluster} {workload : Workload} (w v z : World) (gw : HasInva
       a.region ∙ f.2
 
   attempted : (id : TxnId) → id.region ≡ region → attempt_of w id ≡ attempt_of v id
-  attempted = attempt_same workload w v region same
+  attempted = attempt_same w v region nodes
 
   awaited_same : (waits : Option TxnId) → ((id : TxnId) → waits ≡ Some id → id.region ≡ region) → awaited_at w region waits ≡ awaited_at v region waits
   awaited_same None here = refl

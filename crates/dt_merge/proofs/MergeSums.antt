@@ -1,9 +1,9 @@
 -- A sum over the merge of what regions keep is the sum over what each of them keeps: the merge has all of it, and each event is of
 -- one region. The items of a list are told apart by a number that each has.
-use Rattle.std.proofs.Common.{◌≡◌, ◌≢◌, ◌<◌, ◌≤◌, ◌⊎◌, ◌+◌, ℕ, suc, Bool, true, false, not, eqb, List, [], ◌∷◌, length, filter, get_or}
+use Rattle.std.proofs.Common.{◌≡◌, ◌≢◌, ◌<◌, ◌≤◌, ◌⊎◌, ◌+◌, ℕ, suc, true, false, not, eqb, List, [], ◌∷◌, length, filter, get_or}
 use Rattle.std.proofs.Common.{refl, sym, ap, subst, ◌∙◌, inl, inr, arith, eqb-true, eq-eqb}
 use Rattle.std.specs.Prelude.{sum_by}
-use Rattle.std.proofs.lemmas.Bool.{cases_Bool, false_from_ne_true}
+use Rattle.std.proofs.lemmas.Bool.{cases_Bool, false_from_ne_true, false≢true, not-true}
 use Rattle.std.proofs.lemmas.List.Filters.{sum_by-filter_both}
 use Rattle.std.proofs.lemmas.List.Sums.{sum_by-cons}
 use Rattle.dt_lists.specs.Lists.{AllIn, Has}
@@ -58,14 +58,7 @@ module _ {X : Type 0} (number : X → ℕ) where
       apart i e = omega (arith, e)
 
       differs : (x : X) → not (eqb (number x) k) ≡ true → number x ≢ k
-      differs x n e = go (eqb (number x) k) (eq-eqb (number x) k e) n
-        where
-          clash : false ≡ true → ⊥
-          clash e = cc
-
-          go : (b : Bool) → b ≡ true → not b ≡ true → ⊥
-          go true t m = absurd (clash m)
-          go false t m = absurd (clash t)
+      differs x n e = false≢true (sym (not-true (eqb (number x) k) n) ∙ eq-eqb (number x) k e)
 
       above : (x : X) → Has xs x × (not (eqb (number x) k) ≡ true) → k + 1 ≤ number x
       above x h =

@@ -13,7 +13,7 @@ use Rattle.dt_proc.specs.SecondPass.{Checked, after_ok, check_param, check_more_
 use Rattle.dt_proc.proofs.ExprSorts.{ok_same}
 use Rattle.dt_proc.proofs.ExprWalk.{one_more}
 use Rattle.dt_proc.specs.WalkInner.{WalkAnswers, left_with, key_told, keys_told, params_told}
-use Rattle.dt_syntax.specs.FrontsInner.{comma_param}
+use Rattle.dt_syntax.specs.Fronts.{comma_param}
 use Rattle.dt_syntax.specs.Grammar.{at, Param, param_tokens, KeyPart, KeySyntax, Params, no_param, params, params_tokens}
 
 abbrev pub Left : Type 0

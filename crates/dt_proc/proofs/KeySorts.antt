@@ -23,7 +23,7 @@ use Rattle.dt_syntax.specs.Grammar.{param_kinds, at, Param, Params, no_param, pa
 use Rattle.dt_proc.proofs.ExprSorts.{Holds, holds_ok, holds_after, holds_cond, sorts, writes, StandsInScope, means, same_is}
 use Rattle.dt_syntax.proofs.Callers.{sound_left, sound_right}
 use Rattle.dt_syntax.specs.Limits.{AllSound}
-use Rattle.dt_syntax.specs.FrontsInner.{joined_part}
+use Rattle.dt_syntax.specs.Fronts.{joined_part}
 
 -- what is visible is these parameters, and keys
 abbrev pub HasParams : List Kind → Scope → Type 0

@@ -3,7 +3,7 @@ use Rattle.std.proofs.Common.{◌≡◌, inl, inr, ℕ, suc, ◌≤◌, Bool, tr
 use Rattle.std.proofs.Common.{Err, refl, sym, ap, ◌∙◌, subst, arith, nat_eq, ltb-true, leb-true}
 use Rattle.std.specs.List.{list_all}
 use Rattle.std.specs.Cmp.Lexicographic.{pointwise, bytes_decides}
-use Rattle.std.proofs.lemmas.Bool.{and_parts, false≢true}
+use Rattle.std.proofs.lemmas.Bool.{and_parts, false≢true, not-true}
 use Rattle.dt_lists.specs.Lists.{AllIn, Distinct}
 use Rattle.dt_text.specs.Texts.{is_name_byte}
 use Rattle.dt_proc.specs.declared.error.ProcError.TheVariants as fault
@@ -67,11 +67,7 @@ are_apart [] = true
 are_apart (n ∷ ns) = list_all (λ m. not (pointwise nat_eq n m)) ns && are_apart ns
 
 differ : (n m : List ℕ) → not (pointwise nat_eq n m) ≡ true → ¬ (n ≡ m)
-differ n m e is = clash (pointwise nat_eq n m) e ((bytes_decides n m).1 is)
-  where
-    clash : (b : Bool) → not b ≡ true → b ≡ true → ⊥
-    clash true e t = false≢true e
-    clash false e t = false≢true t
+differ n m e is = false≢true (sym (not-true (pointwise nat_eq n m) e) ∙ (bytes_decides n m).1 is)
 
 other_names : (n : List ℕ) (ns : List (List ℕ)) → list_all (λ m. not (pointwise nat_eq n m)) ns ≡ true → AllIn (λ m. ¬ (n ≡ m)) ns
 other_names n [] e = tt

@@ -13,7 +13,7 @@ use Rattle.dt_proc.specs.Names.{Scope, meaning_in}
 use Rattle.dt_proc.specs.SecondPass.{Checked, Typed, after_ok, with_new_variable, as_new, as_written, needs, check, check_all_items, check_block, check_statement}
 use Rattle.dt_proc.specs.declared.tree.Sort.TheVariants as sort
 use Rattle.dt_proc.specs.WalkInner.{WalkAnswers, StartsBlock, StartsElse, StartsIf}
-use Rattle.dt_syntax.specs.FrontsInner.{NoElse, EndsBlock}
+use Rattle.dt_syntax.specs.Fronts.{NoElse, EndsBlock}
 use Rattle.dt_syntax.specs.Grammar.{at, Syntax, syntax_tokens, IsLevel, Statement, let_new, set_key, clear_key, when, choose, abort, give, Statements, nothing, first, statement_tokens, statements_tokens, IsStatement, AreStatements}
 use Rattle.dt_proc.proofs.ExprSorts.{Holds, holds_ok, holds_after, stored_fits}
 use Rattle.dt_syntax.proofs.Callers.{begins_other, no_else}

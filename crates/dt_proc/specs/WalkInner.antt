@@ -26,7 +26,7 @@ use Rattle.dt_proc.specs.declared.expressions.Reading.TheVariants as reading
 use Rattle.dt_proc.specs.declared.tree.Sort.TheVariants as sort
 use Rattle.dt_proc.specs.Tree as tree
 use Rattle.std.specs.List.{flat_map}
-use Rattle.dt_syntax.specs.FrontsInner.{FrontStops, NoElse, comma_param, joined_part}
+use Rattle.dt_syntax.specs.Fronts.{FrontStops, NoElse, comma_param, joined_part}
 use Rattle.dt_syntax.specs.Grammar.{param_kinds, at, level_of, KeySyntax, Params, ProcSyntax, IsProc, proc_tokens, AreProcSyntaxes, procs_tokens}
 use Rattle.dt_syntax.specs.Grammar.{Bracketed, bracketed_tokens, KeyPart, part_tokens, key_tokens, kind_token, Param, param_tokens, params_tokens}
 use Rattle.dt_syntax.specs.Grammar.{Syntax, syntax_tokens, IsLevel, Links, links_tokens, AreLinks, Item, IsItem, item_tokens, items_tokens}

@@ -9,7 +9,7 @@ ghost use Rattle.dt_proc.specs.Sound as sound;
 ghost use Rattle.dt_proc.specs.SecondPass.{after_ok};
 ghost use Rattle.dt_proc.specs.SecondPass as checked;
 ghost use Rattle.dt_proc.specs.WalkInner as walked;
-ghost use Rattle.dt_syntax.specs.FrontsInner as fronts;
+ghost use Rattle.dt_syntax.specs.Fronts as fronts;
 ghost use Rattle.dt_proc.specs.TreeViews.{expr_tree};
 
 use crate::builtin::binary;

@@ -11,7 +11,7 @@ ghost use Rattle.dt_syntax.specs.declared.kinds.Kind.{Kind};
 ghost use Rattle.dt_proc.specs.SecondPass.{after_ok};
 ghost use Rattle.dt_proc.specs.SecondPass as checked;
 ghost use Rattle.dt_proc.specs.WalkInner as walked;
-ghost use Rattle.dt_syntax.specs.FrontsInner as fronts;
+ghost use Rattle.dt_syntax.specs.Fronts as fronts;
 
 use crate::error::ProcError;
 use crate::fronts::{after_join, after_one, bracketed, named};

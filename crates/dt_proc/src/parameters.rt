@@ -10,7 +10,7 @@ ghost use Rattle.dt_proc.specs.Sound.{sort_of};
 ghost use Rattle.dt_syntax.specs.declared.kinds.Kind.{Kind};
 ghost use Rattle.dt_proc.specs.SecondPass as checked;
 ghost use Rattle.dt_proc.specs.WalkInner as walked;
-ghost use Rattle.dt_syntax.specs.FrontsInner as fronts;
+ghost use Rattle.dt_syntax.specs.Fronts as fronts;
 
 use crate::error::ProcError;
 use crate::fronts::{after_close, after_comma, after_one, named};

@@ -2,7 +2,7 @@
 use Rattle.std.proofs.Common.{◌≡◌, ◌≢◌, ℕ, ◌<◌, ◌≤◌, Bool, true, false, cond, not, ◌==◌, ◌&&◌, ◌||◌, eqb-true, lt-ltb}
 use Rattle.std.proofs.Common.{nat_lt, List, [], ◌∷◌, map, Some, refl, ap, sym, subst, inl, inr, arith, ◌∙◌}
 use Rattle.std.specs.List.{filter, list_any}
-use Rattle.std.proofs.lemmas.Bool.{and_from, and_parts}
+use Rattle.std.proofs.lemmas.Bool.{and_from, and_parts, false≢true, not-true}
 use Rattle.slab.specs.Slab.{Slab, get}
 use Rattle.dt_lists.specs.Lists.{EachThen, Has}
 use Rattle.dt_lists.proofs.Callers.{all_get, all_map, all_put, any_of_test, any_put, any_get, test_of_any, filter_none}
@@ -134,17 +134,13 @@ module _ (names : List (ℕ × Bytes)) where
   abbrev pub IsFreeOfBoth : ℕ × Cell → List (ℕ × Cell) → ℕ × Cell → Type 0
   IsFreeOfBoth x B b = (m : ℕ × Cell) → Has B m → b.1.number < m.1.number → meets b m ≡ true → ¬ (meets m x ≡ true)
 
-  not_true : (t : Bool) → not t ≡ true → t ≡ true → ⊥
-  not_true true e f = cc
-  not_true false e f = cc
-
   true_of_not : (t : Bool) → ¬ (t ≡ true) → not t ≡ true
   true_of_not true ne = absurd (ne refl)
   true_of_not false ne = refl
 
   free_of : (x b : ℕ × Cell) (later : List (ℕ × Cell)) → is_free x b later ≡ true → (m : ℕ × Cell) → Has later m → meets b m ≡ true → ¬ (meets m x ≡ true)
   free_of x b later e m h s t =
-      not_true _ e (test_of_any (λ m. meets b m && meets m x) later (any_put (λ m. (meets b m && meets m x) ≡ true) later m h (and_from (meets b m) (meets m x) s t)))
+      false≢true (sym (not-true _ e) ∙ test_of_any (λ m. meets b m && meets m x) later (any_put (λ m. (meets b m && meets m x) ≡ true) later m h (and_from (meets b m) (meets m x) s t)))
 
   free_to : (x b : ℕ × Cell) (later : List (ℕ × Cell)) → ((m : ℕ × Cell) → Has later m → meets b m ≡ true → ¬ (meets m x ≡ true)) → is_free x b later ≡ true
   free_to x b later f = true_of_not _ (λ e. let r = any_get (λ m. (meets b m && meets m x) ≡ true) later (any_of_test (λ m. meets b m && meets m x) later e) in

@@ -13,7 +13,7 @@ use Rattle.dt_access.specs.declared.access.Mode.TheVariants.{Read, Write, Whole}
 use Rattle.dt_queue.specs.declared.cell.Cell.{Cell}
 use Rattle.dt_queue.specs.declared.mark.Mark.{Mark}
 use Rattle.dt_queue.specs.declared.kept.Kept.{Kept}
-use Rattle.dt_queue.specs.KeptInner.{CellsClash, AreQueuesKept, HasOneNear, IsNearInMode, IsNearMark, IsNearOf, lane, mark_of}
+use Rattle.dt_queue.specs.KeptInner.{CellsClash, AreQueuesKept, HasOneNear, IsNearInMode, IsNearMark, IsNearOf, lane, mark_of, newest_at}
 use Rattle.dt_queue.specs.LanesInner.{AreMarks, HasRisingNumbers, IsBetween, IsLastBetween, IsLastIn, IsNearInRow, is_between, number_or}
 use Rattle.dt_queue.specs.ListedInner.{rows_at}
 use Rattle.dt_queue.specs.RowsInner.{granule_at, links}
@@ -351,3 +351,17 @@ pub near_or_taker : (k : Kept) → AreQueuesKept k → (x : Cell) (o : Option Ma
     → (w : Option Mark) → AreMarks (IsNearInMode k x (number_or o 0)) (option_to_list w) → AreMarks (IsNearMark k x) (option_to_list (option_or w o))
 near_or_taker k kept x o last None marks = near_taker k kept x o last marks
 near_or_taker k kept x o last (Some w) marks = near_marks k kept x o last (w ∷ []) w (inl refl) marks
+
+-- where all that reads or writes rows of its granule was pushed before a number, nothing after the number is near to what takes it whole
+pub none_after : (k : Kept) → AreQueuesKept k → (x : Cell) (low : ℕ) → x.mode ≡ Whole → newest_at k (granule_at (links k.rows) x.row) ≤ low → AreMarks (IsNearInMode k x low) []
+none_after k kept x low is le = record { numbered = tt; members = λ m. (λ h. absurd h, λ near. none m (subst (λ d. IsNearOf d k x.row low x.number m) is near)) }
+  where
+    none : (m : Mark) → IsNearOf Whole k x.row low x.number m → ⊥
+    none m near =
+        let g = granule_at (links k.rows) x.row in
+        let r = any_get (λ r. IsNearInRow (lane k Read r) (lane k Write r) low x.number m) (rows_at k.listed g) near in
+        let c = cell_in_row k kept r.0 m (one_use r.2.1) in
+        let p = narrow_cell k kept r.0 m c.0 c.1 (one_use r.2.1) in
+        let at : granule_at (links k.rows) c.0.row ≡ g = ap (granule_at (links k.rows)) p.1 ∙ (kept.listed.own g r.0 r.1).1 in
+        let noted : c.0.number ≤ newest_at k g = subst (λ h. c.0.number ≤ newest_at k h) at (kept.newest m.slot c.0 c.1.there p.0) in
+        omega (arith, le, noted, r.2.0.0, number_of_mark k m c.0 c.1)

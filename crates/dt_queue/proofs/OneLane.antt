@@ -4,7 +4,7 @@ use Rattle.std.proofs.Common.{◌∷◌, ◌++◌, length, drop, map, not, is_so
 use Rattle.std.proofs.Common.{Box, Global, refl, ap, sym, subst, inl, inr, arith, ◌∙◌}
 use Rattle.std.specs.List.{filter}
 use Rattle.dt_lists.specs.Lists.{AllIn, Has}
-use Rattle.dt_lists.proofs.Callers.{all_get, all_map, either_nat, filter_each}
+use Rattle.dt_lists.proofs.Callers.{all_get, all_map, either_nat, filter_all, filter_each}
 use Rattle.dt_queue.specs.declared.lane.Further.{Further}
 use Rattle.dt_queue.specs.declared.lane.Further.TheVariants as further
 use Rattle.dt_queue.specs.declared.mark.Mark.{Mark}
@@ -59,20 +59,12 @@ pub lane_pushed : {A E : Type 0} (r : Result A E) (f : Mark) (t new : List Mark)
 lane_pushed (Ok a) f t new m one some all ok err = subst (IsOneLane f) (sym ok) (lane_more f t m one some all)
 lane_pushed (Err e) f t new m one some all ok err = subst (IsOneLane f) (sym err) one
 
-all_filtered : (P : Mark → Type 0) (p : Mark → Bool) (ms : List Mark) → AllIn P ms → AllIn P (filter p ms)
-all_filtered P p [] all = tt
-all_filtered P p (m ∷ ms) all = by (p m) (all_filtered P p ms all.1)
-  where
-    by : (b : Bool) → AllIn P (filter p ms) → AllIn P (cond b (m ∷ filter p ms) (filter p ms))
-    by true rest = (all.0, rest)
-    by false rest = rest
-
 -- the first mark stays, and one after it was taken out
 pub lane_less : (f : Mark) (t : List Mark) (n : ℕ) → IsOneLane f t → f.number ≢ n → IsOneLane f (filter (is_not n) t)
 lane_less f t n one other = elim (either_nat f.number 0) [
   | inl e ↦ (subst HasRisingNumbers (sym (no_marks f (filter (is_not n) t) e)) tt, λ g. ap (filter (is_not n)) (one.1 e))
   | inr ne ↦ let num = subst HasRisingNumbers (some_marks f t ne) one.0 in
-      rising f (filter (is_not n) t) ne (all_filtered (λ m. f.number < m.number) (is_not n) t num.0, filter_each (λ m k. m.number < k.number) (is_not n) t num.1)
+      rising f (filter (is_not n) t) ne (filter_all (λ m. f.number < m.number) (is_not n) t num.0, filter_each (λ m k. m.number < k.number) (is_not n) t num.1)
 ]
 
 -- the first mark was taken out, where it has the number

@@ -124,12 +124,6 @@ module _ (lists : List (List ℕ)) (granule row : ℕ) (within : granule < lengt
 pub true_no : true ≡ false → ⊥
 true_no e = cc
 
--- what all items of a list have, one at a place has
-pub all_or : {A : Type 0} (P : A → Type 0) (xs : List A) (i : ℕ) (d : A) → AllIn P xs → i < length xs → P (get_or xs i d)
-all_or P [] i d all lt = absurd (omega (arith, lt))
-all_or P (x ∷ xs) zero d all lt = all.0
-all_or P (x ∷ xs) (suc i) d all lt = all_or P xs i d all.1 (omega (arith, lt))
-
 -- one more row has got its flag
 pub flags_more : (done : List ℕ) (row : ℕ) (reads writes : List (List Mark)) (old now : List Bool) → row < length now → FlagsUsed done reads writes old now
     → FlagsUsed (done ++ row ∷ []) reads writes old (set now row (is_used reads writes row))

@@ -1,5 +1,5 @@
 -- Rows in use: they are listed, also after a mark was added, taken out or renumbered.
-use Rattle.std.proofs.Common.{◌≡◌, ◌⊎◌, ◌↔◌, ℕ, ◌<◌, Bool, true, false, not, ◌==◌, ◌||◌, List, [], ◌∷◌, ◌++◌, get_or, map, Result, Ok, Err, OnOk, OnErr}
+use Rattle.std.proofs.Common.{◌≡◌, ◌⊎◌, ◌↔◌, ℕ, ◌<◌, ◌≤◌, Bool, true, false, not, ◌==◌, ◌||◌, List, [], ◌∷◌, ◌++◌, get_or, map, Result, Ok, Err, OnOk, OnErr}
 use Rattle.std.proofs.Common.{◌+◌, ◌^◌, length, None, Some, refl, ap, sym, subst, inl, inr, arith, ◌∙◌}
 use Rattle.std.specs.List.{filter}
 use Rattle.slab.specs.Slab.{Updates, get}
@@ -12,7 +12,7 @@ use Rattle.dt_queue.specs.declared.cell.Cell.{Cell}
 use Rattle.dt_queue.specs.declared.mark.Mark.{Mark}
 use Rattle.dt_queue.specs.declared.kept.Kept.{Kept}
 use Rattle.dt_queue.specs.ListedInner.{ListsRow, SameRows, Tidies, is_used, rows_at}
-use Rattle.dt_queue.specs.KeptInner.{AreQueuesKept, AreRowsListed, ChangesLaneOf, IsInUse, lane, mark_of, place_at}
+use Rattle.dt_queue.specs.KeptInner.{AreQueuesKept, AreRowsListed, ChangesLaneOf, IsInUse, lane, mark_of, newest_at, place_at}
 use Rattle.dt_queue.specs.TableInner.{lanes_read, lanes_written}
 use Rattle.dt_queue.specs.RowsInner.{AreRowsLinked, KeepsRows, RowLinks, granule_at, links}
 use Rattle.dt_queue.proofs.LanesOfCells.{either_place, kept_pushed, rows_refl}
@@ -118,8 +118,9 @@ pub push_steps : (k mid marked n : Kept) (slot : ℕ) (c : Cell) → AreQueuesKe
     → (links n.rows) ≡ (links marked.rows) → n.listed ≡ marked.listed → ((m : Mode) (p : ℕ) → lane n m p ≡ lane marked m p) → Updates marked.cells n.cells slot (Some c) → get marked.cells slot ≡ None
     → c.number ≡ k.next_number → n.next_number ≡ c.number + 1 → n.next_number < 2 ^ 64 → c.row < length (links mid.rows).names
     → (IsPart c.mode → Has (rows_at mid.listed (granule_at (links mid.rows) c.row)) c.row)
+    → ((g : ℕ) → newest_at k g ≤ newest_at n g) → (IsPart c.mode → c.number ≤ newest_at n (granule_at (links mid.rows) c.row))
     → AreQueuesKept n × Updates k.cells n.cells slot (Some c) × (get k.cells slot ≡ None)
-push_steps k mid marked n slot c kept listed linked keeps cells lanes change rows list same up vacant number next within row entered =
+push_steps k mid marked n slot c kept listed linked keeps cells lanes change rows list same up vacant number next within row entered grows noted =
     let moved : (links n.rows) ≡ (links mid.rows) = rows ∙ change.rows in
     let old : (s : ℕ) → get marked.cells s ≡ get k.cells s = λ s. ap (λ x. get x s) change.cells ∙ cells s in
     let updates : Updates k.cells n.cells slot (Some c) = record { changed = up.changed; others = λ s ne. up.others s ne ∙ old s } in
@@ -130,7 +131,8 @@ push_steps k mid marked n slot c kept listed linked keeps cells lanes change row
     (same c.mode (place_at (links mid.rows) c.mode c.row) ∙ change.changed ∙ ap (λ l. l ++ mark_of slot c ∷ []) (lanes c.mode (place_at (links mid.rows) c.mode c.row))) in
     let others : AreOthers k n c.mode (place_at (links n.rows) c.mode c.row) =
     λ m p ne. same m p ∙ change.others m p (λ b. ne (b.0, b.1 ∙ ap (λ (r : RowLinks). place_at r c.mode c.row) (sym moved))) ∙ lanes m p in (
-      kept_pushed k n slot c kept (subst AreRowsLinked (sym moved) linked) longer updates empty number next within (subst (λ (r : RowLinks). c.row < length r.names) (sym moved) row) changed others
+      kept_pushed k n slot c kept (subst AreRowsLinked (sym moved) linked) longer updates empty number next within (subst (λ (r : RowLinks). c.row < length r.names) (sym moved) row) changed others grows
+          (subst (λ (r : RowLinks). IsPart c.mode → c.number ≤ newest_at n (granule_at r c.row)) (sym moved) noted)
           (rows_pushed mid n c.mode c.row listed moved (list ∙ change.listed) (λ m p ne. same m p ∙ change.others m p ne) entered),
       updates,
       empty,

@@ -31,7 +31,3 @@ lane_stays f (z ∷ zs) zero x y lt is e zero = e ∙ ap f is
 lane_stays f (z ∷ zs) zero x y lt is e (suc j) = refl
 lane_stays f (z ∷ zs) (suc i) x y lt is e zero = refl
 lane_stays f (z ∷ zs) (suc i) x y lt is e (suc j) = lane_stays f zs i x y (omega (arith, lt)) is e j
-
--- lanes that stayed, and then one was changed
-pub lane_after : (old mid new : List (List Mark)) (i : ℕ) (marks : List Mark) → SameLanes old mid → ChangesLane mid i marks new → ChangesLane old i marks new
-lane_after old mid new i marks same change = record { changed = change.changed; others = λ j ne. change.others j ne ∙ same j }

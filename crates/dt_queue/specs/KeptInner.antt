@@ -2,7 +2,7 @@
 -- and it has a mark in the lane of its mode, that of its row, or for the mode Whole that of its granule. `waiting_of` is the
 -- list of entries that is kept so, and `AreQueuesKept` what all queues keep. Read next: `LanesInner`, then `RowsInner`, `ListedInner` and
 -- `WholesInner`.
-use Rattle.std.specs.Prelude.{◌≡◌, ℕ, ◌<◌, ◌↔◌, ◌⊎◌, ◌^◌, nat_lt, true, List, [], ◌∷◌, map, get_or, length, if◌then◌else◌, None, Some}
+use Rattle.std.specs.Prelude.{◌≡◌, ℕ, ◌<◌, ◌≤◌, ◌↔◌, ◌⊎◌, ◌^◌, nat_lt, true, false, List, [], ◌∷◌, map, get_or, length, if◌then◌else◌, None, Some}
 use Rattle.slab.specs.Slab.{Slab, Updates, get, entries}
 use Rattle.dt_lists.specs.Lists.{AnyIn, Has}
 use Rattle.dt_access.specs.Clash.{Bytes, is_whole, may_change}
@@ -64,13 +64,17 @@ pub record IsLane (cells : Slab Cell) (P : Cell → Type 0) (marks : List Mark) 
 abbrev pub IsInUse : Kept → ℕ → Type 0
 IsInUse k row = (m : Mark) × (Has (lane k Read row) m ⊎ Has (lane k Write row) m)
 
+-- the greatest number that was noted of what came to read or write a row of a granule
+abbrev pub newest_at : Kept → ℕ → ℕ
+newest_at k g = get_or k.newest.items g 0
+
 -- listed rows are known, and listed of their granules; and all rows in use are listed
 pub record AreRowsListed (k : Kept) : Type 0 where
   pub own : (g row : ℕ) → Has (rows_at k.listed g) row → (row < length (links k.rows).names) × (granule_at (links k.rows) row ≡ g)
   pub used : (row : ℕ) → IsInUse k row → Has (rows_at k.listed (granule_at (links k.rows) row)) row
 
--- what all queues keep: a cell has a number that was given, no other has it, and its row is known; its mark is in its lane; and
--- the rows in use are listed
+-- what all queues keep: a cell has a number that was given, no other has it, and its row is known; its mark is in its lane; its
+-- number is noted for its granule, or a greater one, where it reads or writes a row; and the rows in use are listed
 pub record AreQueuesKept (k : Kept) : Type 0 where
   pub linked : AreRowsLinked (links k.rows)
   pub first : 0 < k.next_number
@@ -79,6 +83,7 @@ pub record AreQueuesKept (k : Kept) : Type 0 where
   pub alone : (s t : ℕ) (c d : Cell) → get k.cells s ≡ Some c → get k.cells t ≡ Some d → c.number ≡ d.number → s ≡ t
   pub known : (slot : ℕ) (c : Cell) → get k.cells slot ≡ Some c → c.row < length (links k.rows).names
   pub lanes : (mode : Mode) (place : ℕ) → IsLane k.cells (IsInLane (links k.rows) mode place) (lane k mode place)
+  pub newest : (slot : ℕ) (c : Cell) → get k.cells slot ≡ Some c → is_whole c.mode ≡ false → c.number ≤ newest_at k (granule_at (links k.rows) c.row)
   pub listed : AreRowsListed k
 
 -- one lane has become another, and all other lanes and all else are as before

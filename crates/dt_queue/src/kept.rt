@@ -1,4 +1,4 @@
-ghost use Rattle.std.specs.Prelude.{◌≡◌, ◌<◌, ◌==◌, ◌-◌, ◌^◌, false, [], ◌∷◌, ◌++◌, length, not, option_to_list, IsTrue, None, IfOk, OnOk, OnErr};
+ghost use Rattle.std.specs.Prelude.{◌≡◌, ◌<◌, ◌≤◌, ◌==◌, ◌-◌, ◌^◌, false, [], ◌∷◌, ◌++◌, length, not, nat_lt, option_to_list, ℕ, IsTrue, None, IfOk, OnOk, OnErr};
 ghost use Rattle.std.specs.List.{filter};
 ghost use Rattle.slab.specs.Slab.{ContainsKey, Updates};
 ghost use Rattle.dt_lists.specs.Lists.{AllIn, Has, IsFront};
@@ -9,6 +9,7 @@ use crate::cell::Cell;
 use crate::listed::ListedRows;
 use crate::mark::{Mark, Marks};
 use crate::nearest::{near_row, near_rows, near_write, number_or, only};
+use crate::newest::{newest_of, note};
 use crate::next::NextMarks;
 use crate::row::{has_no_read, last_write, push_read, push_write, remove_read, remove_write};
 use crate::rows::Rows;
@@ -16,6 +17,7 @@ use crate::wholes::Wholes;
 use dt_access::Mode;
 use dt_text::{Key, NoMemory};
 use slab::Slab;
+use smallvec::SmallVec;
 use std::alloc::Global;
 
 /// All entries that wait, as they are kept: a cell for each at its slot, its row, and a mark in the lane of its mode at the
@@ -26,12 +28,14 @@ pub struct Kept {
     pub rows: Rows,
     pub listed: ListedRows,
     pub wholes: Wholes,
+    /// Of each granule the number of the last entry that came to read or write a row of it, or more.
+    pub newest: Vec<u64>,
     pub next_number: u64,
 }
 
 impl Kept {
     ghost use Rattle.dt_access.specs.Clash.{is_whole};
-    ghost use Rattle.dt_queue.specs.KeptInner.{AddsCell, ChangesLaneOf, AreQueuesKept, AreRowsListed, HasOneNear, IsNearInMode, IsNearMark, IsNextMark, KeepsLanes, lane, place_at};
+    ghost use Rattle.dt_queue.specs.KeptInner.{AddsCell, ChangesLaneOf, AreQueuesKept, AreRowsListed, HasOneNear, IsNearInMode, IsNearMark, IsNextMark, KeepsLanes, lane, newest_at, place_at};
     ghost use Rattle.dt_queue.specs.ListedInner.{rows_at};
     ghost use Rattle.dt_queue.specs.RowsInner.{AreRowsLinked, granule_at, links};
 
@@ -45,6 +49,7 @@ impl Kept {
             rows: Rows::new(alloc),
             listed: ListedRows::new(alloc),
             wholes: Wholes::new(alloc),
+            newest: Vec::new(alloc),
             next_number: 1,
         }
     }
@@ -173,16 +178,32 @@ impl Kept {
         requires row_in { row < length self.old.rows.names.keys }
         ensures listed { AreRowsListed self.new }
         ensures entered { OnOk result (is_whole mode ≡ false → Has (rows_at self.new.listed (granule_at (links self.new.rows) row)) row) }
-        ensures same { self.new ≡ record self.old { listed = self.new.listed } }
+        ensures noted { OnOk result (is_whole mode ≡ false → self.old.next_number ≤ newest_at self.new (granule_at (links self.old.rows) row)) }
+        ensures grows { (g : ℕ) → newest_at self.old g ≤ newest_at self.new g }
+        ensures same { self.new ≡ record self.old { listed = self.new.listed; newest = self.new.newest } }
     {
         let granule = self.rows.granule_of(row);
         match mode {
-            Mode::Read | Mode::Write => self.listed.add(alloc, granule, row),
+            Mode::Read | Mode::Write => {
+                note(&mut self.newest, granule, self.next_number)?;
+                self.listed.add(alloc, granule, row)
+            }
             Mode::Whole => {
-                self.listed.tidy(granule, self.rows.table.as_slice());
+                let whole = self.wholes.last_between(granule, 0, u64::MAX);
+                if self.has_after(granule, number_or(whole, 0)) {
+                    self.listed.tidy(granule, self.rows.table.as_slice());
+                }
                 Ok(())
             }
         }
+    }
+
+    /// Whether something may wait to read or write a row of a granule that was pushed after a number. So what was pushed before an
+    /// entry that takes the granule whole is not looked at for the next one that does.
+    fn has_after(&self, granule: usize, number: u64) -> bool
+        ensures { result ≡ nat_lt number (newest_at self.now granule) }
+    {
+        number < newest_of(self.newest.as_slice(), granule)
     }
 
     /// Adds a mark at the back of the lane of its mode and row; after `NoMemory` all lanes are as before.
@@ -198,6 +219,7 @@ impl Kept {
         requires last { AllIn (λ m. m.number < mark.number) (lane self.old mode (place_at (links self.old.rows) mode row)) }
         ensures added { OnOk result (ChangesLaneOf self.old mode (place_at (links self.old.rows) mode row) (lane self.old mode (place_at (links self.old.rows) mode row) ++ mark ∷ []) self.new) }
         ensures same { OnErr result (KeepsLanes self.old self.new) }
+        ensures newest { (g : ℕ) → newest_at self.new g ≡ newest_at self.old g }
     {
         match mode {
             Mode::Read => push_read(alloc, &mut self.rows.table, row, mark),
@@ -209,7 +231,8 @@ impl Kept {
     /// Takes a mark out of the lane of its mode and row. Takes no memory.
     fn remove_mark(&mut self, row: usize, mode: Mode, number: u64)
         requires { row < length self.old.rows.table.items }
-        ensures { ChangesLaneOf self.old mode (place_at (links self.old.rows) mode row) (filter (λ m. not (m.number == number)) (lane self.old mode (place_at (links self.old.rows) mode row))) self.new }
+        ensures change { ChangesLaneOf self.old mode (place_at (links self.old.rows) mode row) (filter (λ m. not (m.number == number)) (lane self.old mode (place_at (links self.old.rows) mode row))) self.new }
+        ensures newest { (g : ℕ) → newest_at self.new g ≡ newest_at self.old g }
     {
         match mode {
             Mode::Read => remove_read(&mut self.rows.table, row, number),
@@ -229,7 +252,11 @@ impl Kept {
             Mode::Read => near_write(alloc, table, cell.row, low, cell.number),
             Mode::Write => near_row(alloc, table, cell.row, low, cell.number),
             Mode::Whole => {
-                let rows = self.listed.of_granule(self.rows.granule_of(cell.row));
+                let granule = self.rows.granule_of(cell.row);
+                if !self.has_after(granule, low) {
+                    return Ok(SmallVec::new(alloc));
+                }
+                let rows = self.listed.of_granule(granule);
                 near_rows(alloc, table, rows, low, cell.number)
             }
         }

@@ -16,6 +16,7 @@ mod lanes;
 mod listed;
 mod mark;
 mod nearest;
+mod newest;
 mod next;
 mod numbers;
 mod queues;

@@ -1,4 +1,4 @@
-ghost use Rattle.std.specs.Prelude.{◌<◌, ◌≤◌, ◌+◌, ◌-◌, ◌^◌, Some, length, map, OnOk};
+ghost use Rattle.std.specs.Prelude.{◌<◌, ◌≤◌, ◌+◌, ◌-◌, ◌^◌, ◌≡◌, ℕ, Some, length, map, OnOk};
 ghost use Rattle.dt_lists.specs.Lists.{AllIn};
 ghost use Rattle.dt_queue.specs.NumbersInner.{IsFirstFrom, IsGap, IsNumberAt, Renumbers, ShowsSame, renumbered};
 
@@ -8,7 +8,7 @@ use dt_access::Mode;
 use dt_text::NoMemory;
 
 impl Kept {
-    ghost use Rattle.dt_queue.specs.KeptInner.{AreQueuesKept, ChangesLaneOf, lane, place_at, waiting_of};
+    ghost use Rattle.dt_queue.specs.KeptInner.{AreQueuesKept, ChangesLaneOf, lane, newest_at, place_at, waiting_of};
     ghost use Rattle.dt_queue.specs.RowsInner.{links};
 
     /// Sees to it that a number is left. Where none is, all entries are numbered anew, in the order of their pushes; so a push
@@ -90,7 +90,8 @@ impl Kept {
         requires positive { 0 < new }
         requires lesser { new ≤ number }
         requires gap { AllIn (IsGap number new) (lane self.old mode (place_at (links self.old.rows) mode row)) }
-        ensures { ChangesLaneOf self.old mode (place_at (links self.old.rows) mode row) (map (renumbered number new) (lane self.old mode (place_at (links self.old.rows) mode row))) self.new }
+        ensures change { ChangesLaneOf self.old mode (place_at (links self.old.rows) mode row) (map (renumbered number new) (lane self.old mode (place_at (links self.old.rows) mode row))) self.new }
+        ensures newest { (g : ℕ) → newest_at self.new g ≡ newest_at self.old g }
     {
         match mode {
             Mode::Read => renumber_read(&mut self.rows.table, row, number, new),

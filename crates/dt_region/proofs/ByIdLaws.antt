@@ -6,7 +6,7 @@ use Rattle.std.specs.Map.{lookup}
 use Rattle.std.proofs.lemmas.List.{map-append}
 use Rattle.std.proofs.lemmas.Option.{same_Some}
 use Rattle.dt_lists.specs.Lists.{Distinct, Has}
-use Rattle.dt_lists.proofs.Callers.{all_get, distinct_push, has_map, has_place, place_in_longer, place_in_more}
+use Rattle.dt_lists.proofs.Callers.{all_get, distinct_push, has_map, has_place, place_in_more}
 use Rattle.dt_access.specs.Ids.{same_id}
 use Rattle.dt_access.specs.declared.TxnId.{TxnId}
 use Rattle.dt_access.proofs.Callers.{id_of_test, test_of_id, test_of_other}
@@ -89,14 +89,6 @@ module _ {V L : Type 0} {entries : List (TxnId × V)} {lists : List L} {items : 
           (subst (λ n. (led_to later items id ≡ Some n) ⊎ (lookup (same_id id) beside ≡ Some n)) (sym last.0) here)
     ];
   }
-
--- more lists lead wherever these do
-pub led_longer : {L : Type 0} (lists : List L) (items : L → List ℕ) (more : List L) (id : TxnId) (place : ℕ) → led_to lists items id ≡ Some place → led_to (lists ++ more) items id ≡ Some place
-led_longer {L} lists items more id place e = go (slice_get lists id.region) refl e
-  where
-    go : (o : Option L) → slice_get lists id.region ≡ o → option_and_then (λ list. slice_get (items list) id.seq) o ≡ Some place → led_to (lists ++ more) items id ≡ Some place
-    go None at e = cc
-    go (Some list) at e = rw (place_in_longer lists more id.region list at) e
 
 module _ {L : Type 0} (items : L → List ℕ) where
   -- what stands at a place of one of the lists

@@ -2,6 +2,7 @@
 pub use Rattle.dt_region.proofs.Find.{held_own}
 pub use Rattle.dt_region.proofs.HeldTransactions.{held_id}
 pub use Rattle.dt_region.proofs.Logs.{fronts_few, fronts_length, log_few, parts_none}
+pub use Rattle.dt_region.proofs.OpeningRegion.{no_rows_fit}
 pub use Rattle.dt_region.proofs.Rule3Deliver.{all_drop}
 pub use Rattle.dt_region.proofs.Rule6Execute.{executable_held}
 pub use Rattle.dt_region.proofs.Stamps.{kept_more, latest_more}

@@ -1,5 +1,5 @@
--- Before anything happens a region is sound, and its scheduler has nothing.
-use Rattle.std.proofs.Common.{◌≡◌, ◌<◌, ◌≤◌, ℕ, List, [], replicate, sym, subst, ◌∙◌, arith}
+-- Before anything happens a region is sound, and its scheduler has nothing. A table without rows is one for each number of regions.
+use Rattle.std.proofs.Common.{◌≡◌, ◌<◌, ◌≤◌, ℕ, List, [], replicate, refl, sym, subst, ◌∙◌, arith}
 use Rattle.std.specs.Prelude.{slice_index}
 use Rattle.std.proofs.lemmas.List.{length-replicate}
 use Rattle.dt_lists.specs.Lists.{AllIn, Distinct}
@@ -8,7 +8,8 @@ use Rattle.dt_sched.specs.Views.{View, ids_of}
 use Rattle.dt_sched.specs.Decide.{IsSound}
 use Rattle.dt_sched.specs.Sched.{Sched, nothing_yet}
 use Rattle.dt_sched.proofs.Callers.{sound_at_first, empty_log}
-use Rattle.dt_table.specs.Table.{Table}
+use Rattle.dt_table.specs.Table.{Table, opening}
+use Rattle.dt_table.proofs.Callers.{moves_of-opening}
 use Rattle.dt_txn.specs.declared.txn.Txn.{Txn}
 use Rattle.dt_txn.specs.declared.outcome.Outcome.{Outcome}
 use Rattle.dt_access.specs.declared.TxnId.{TxnId}
@@ -18,6 +19,13 @@ use Rattle.dt_region.specs.Conditions.{IsTableFor}
 use Rattle.dt_region.specs.Sound.{IsSoundRegion, IsHeldPart}
 use Rattle.dt_region.specs.RegionInner.{AreWell}
 use Rattle.dt_region.proofs.Logs.{parts_none, fronts_none}
+
+pub no_rows_fit : (regions : ℕ) → IsTableFor regions (opening 1 regions [] [])
+no_rows_fit regions = record {
+  sized = refl;
+  homes = tt;
+  moves = λ key. subst (AllIn (λ moved. moved.target < regions)) (sym (moves_of-opening 1 regions [] [] key)) tt;
+}
 
 pub opening_sound : (number regions : ℕ) (table : Table) → number < regions → regions ≤ 8 → IsTableFor regions table → IsSoundRegion (opening_state number regions table)
 opening_sound number regions table below few fits = record {

@@ -16,19 +16,6 @@ stock_kept stock here kept grown =
       finishes = omega (arith, a, grown);
     }
 
--- places were made for an event, and no event is kept
-pub stock_made : {room before made done changes finished later : ℕ} → HasStock room before done changes finished → before ≤ made → finished ≤ later → HasStock room made done changes later
-stock_made stock made grown =
-    let a = stock.finishes in
-    let b = stock.events in
-    record {
-      events = omega (arith, b, made);
-      done = stock.done;
-      changes = stock.changes;
-      few = stock.few;
-      finishes = omega (arith, a, grown);
-    }
-
 -- an execution is finished: one event, one id and at most 17 changes more
 pub stock_spent : {room events done changes finished events' done' changes' finished' spent : ℕ} → HasStock room events done changes finished → 1 ≤ room
     → events ≤ events' + 1 → done ≤ done' + 1 → changes ≤ changes' + spent → spent ≤ 17 → finished ≤ finished' + 1 → HasStock (room - 1) events' done' changes' finished'

@@ -3,7 +3,7 @@ use Rattle.std.proofs.Common.{◌≡◌, ◌≢◌, ◌<◌, ◌≤◌, ◌+◌,
 use Rattle.std.proofs.Common.{Bool, Some, None, refl, sym, ap, subst, ◌∙◌, inl, inr, arith, append-nil, append_assoc, eq-eqb, cond}
 use Rattle.std.proofs.lemmas.List.{map-append}
 use Rattle.dt_lists.specs.Lists.{AnyIn, Has}
-use Rattle.dt_lists.proofs.Callers.{Spot, all_append_left, any_get, spot}
+use Rattle.dt_lists.proofs.Callers.{Spot, all_append_left, any_get, same_rest, spot}
 use Rattle.dt_events.specs.declared.Event.{Event}
 use Rattle.dt_events.specs.declared.Event.TheVariants.{Submit, Append, Deliver, Insert, Resolve, Execute, Answer}
 use Rattle.dt_events.specs.declared.Stamped.{Stamped}
@@ -60,10 +60,6 @@ module _ {cluster : Cluster} (ok : IsValidCluster cluster) {workload : Workload}
         -- the cut is within the shorter list
         let tail : m ++ more ≡ rest = same_rest front (m ++ more) rest (sym (append_assoc front m more) ∙ ap (λ l. l ++ more) (sym is) ∙ cut) in
         supplied front m is (all_append_left (λ y. region_at y ≡ q → stamp < y.stamp) m more (subst (AreLater q stamp) (sym tail) later))
-      where
-        same_rest : (xs ys zs : List Stamped) → xs ++ ys ≡ xs ++ zs → ys ≡ zs
-        same_rest [] ys zs e = e
-        same_rest (y ∷ xs) ys zs e = same_rest xs ys zs (cc)
     at_cut front rest cut later (inl (m, is)) =
         subst (λ l. IsSupplied (world_after cluster workload (events_of l)) x.event) (sym is)
         (supply_lasts legal_there.0 reached (world_after cluster workload (events_of (all ++ m))) x.event q legal_there.1 good_w good_v from (grown q) (supplied all [] (sym (append-nil all)) tt))

@@ -1,6 +1,5 @@
 -- What other regions do leaves a node where it stands, and what packets say stays so.
 use Rattle.std.proofs.Common.{◌≡◌, ◌≢◌, ◌<◌, ◌≤◌, ◌+◌, ℕ, List, [], ◌∷◌, length, set, drop, take, Some, option_map, refl, sym, ap, subst, ◌∙◌, arith}
-use Rattle.std.specs.Prelude.{unwrap_or}
 use Rattle.std.proofs.lemmas.List.{take-append-le}
 use Rattle.dt_lists.specs.Lists.{AllIn, IsFront}
 use Rattle.dt_lists.proofs.Callers.{all_map}
@@ -14,7 +13,7 @@ use Rattle.dt_packet.specs.declared.packet.Packet.{Packet}
 use Rattle.dt_cluster.specs.declared.Cluster.{Cluster}
 use Rattle.dt_workload.specs.declared.Workload.{Workload}
 use Rattle.dt_session.specs.Sessions.{SessionsView}
-use Rattle.dt_session.specs.World.{World, Node, node_at, asked_of, log_of, logs_of, attempt_of, find_submission, received_lengths, received_logs, received_of, session_at, taken_of, txn_of}
+use Rattle.dt_session.specs.World.{World, Node, node_at, asked_of, log_of, logs_of, received_lengths, received_logs, received_of, session_at, taken_of, txn_of}
 use Rattle.dt_session.specs.Step.{next}
 use Rattle.dt_session.specs.Run.{AreLegalFrom, world_from}
 use Rattle.dt_agreement.proofs.Callers.{next_txns, next_keeps, ordered}
@@ -27,7 +26,7 @@ use Rattle.dt_site.specs.Site.{SiteView}
 use Rattle.dt_site.specs.StandsIn.{StandsIn}
 use Rattle.dt_site.proofs.Callers.{seat_alike}
 use Rattle.dt_node.specs.Packets.{IsToldOf}
-use Rattle.dt_run.proofs.Laws.{asked_front, found_own, frame, front_length, grown_refl, grown_trans, legal_grows, local, received_up}
+use Rattle.dt_run.proofs.Laws.{asked_front, attempt_same, found_own, frame, front_length, grown_refl, grown_trans, legal_grows, local, received_up}
 
 -- some world goes on to another by legal events of one region
 pub record WorldGoesOn (cluster : Cluster) (workload : Workload) (region : ℕ) (w v : World) : Type 0 where
@@ -75,9 +74,6 @@ module _ {cluster : Cluster} {workload : Workload} {w v : World} {changed region
     node = s.node ∙ sym node_same;
   }
 
-  attempt_same : (id : TxnId) → id.region ≡ region → attempt_of w id ≡ attempt_of v id
-  attempt_same id is = ap (λ (n : Node). unwrap_or (option_map (λ x. x.attempt) (find_submission n.submitted id)) 0) (subst (λ r. node_at w r ≡ node_at v r) (sym is) (sym node_same))
-
   found_same : (name : Bytes) → session_at workload.sessions w.places region name ≡ session_at workload.sessions v.places region name
   found_same name =
       found_own workload.sessions w.places region name ∙ ap (λ (o : Own). session_at (local region workload.sessions) o.places region name) (sym (goes.others region apart))
@@ -86,7 +82,8 @@ module _ {cluster : Cluster} {workload : Workload} {w v : World} {changed region
   pub sessions_still : {s : SessionsView} → SessionsStandIn cluster workload w region s → SessionsStandIn cluster workload v region s
   sessions_still s = record {
     tries = s.tries;
-    seats = λ name. s.seats name ∙ seat_alike goes.before.inv v lr (λ id x found own. attempt_same id own) name (session_at workload.sessions w.places region name) refl ∙ ap (option_map (seat_in v)) (found_same name);
+    seats = λ name. s.seats name ∙ seat_alike goes.before.inv v lr (λ id x found own. attempt_same w v region (sym node_same) id own) name (session_at workload.sessions w.places region name) refl
+        ∙ ap (option_map (seat_in v)) (found_same name);
   }
 
 -- what a packet says stays so

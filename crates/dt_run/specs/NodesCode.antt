@@ -1,5 +1,5 @@
 -- The toolchain asks for these; skip them. They are the codes by which proofs tell seats, and the nodes of a cluster, apart. Read
--- `NodesView` for what they are.
+-- next: `NodesView`, for what they are.
 use Rattle.std.specs.Prelude.{ℕ, List, Bool, refl}
 use Rattle.std.specs.Coded.{Coded, code_by, coded×, coded_ℕ, coded_list, coded_bool}
 use Rattle.dt_packet.specs.contracts.packet.Packet as packet

@@ -12,7 +12,7 @@
 //!   unit, so that it may execute (`holds_valid`, `can_move`);
 //! - after its call answers that it was made, it stands in the world after the event, and so do all other sites.
 //!
-//! What the tables of all regions have at first, they share ([`opening_of`], [`first_table`], [`first_site`]). What became of a
+//! What the tables of all regions have at first, they share ([`opening_of`], [`first_site`]). What became of a
 //! session's attempt, its region says ([`last_outcome_at`]).
 //!
 //! The proofs speak of one site and a world, not of how the others are held. So they serve a world that holds all sites, as
@@ -25,4 +25,4 @@ mod tables;
 
 pub use outcome::last_outcome_at;
 pub use site::{Origin, Site, first_site};
-pub use tables::{first_table, opening_of};
+pub use tables::opening_of;

@@ -15,7 +15,7 @@ use Rattle.dt_syntax.specs.Grammar.{maker_token, Bracketed, bracketed_tokens, ki
 use Rattle.dt_syntax.specs.Grammar.{text_part, name_part, show_part, part_tokens, mode_token, KeySyntax, key_tokens, Item, row_item, value_item, item_tokens}
 use Rattle.dt_syntax.specs.Grammar.{items_tokens, Statement, let_new, set_key, clear_key, when, choose, abort, give, Statements, nothing, first}
 use Rattle.dt_syntax.specs.Grammar.{statement_tokens, statements_tokens, ProcSyntax, proc_tokens, procs_tokens}
-use Rattle.dt_syntax.specs.FrontsInner.{comma_param, joined_part}
+use Rattle.dt_syntax.specs.Fronts.{comma_param, joined_part}
 use Rattle.dt_syntax.specs.Limits.{IsSmall}
 use Rattle.dt_syntax.specs.FirstPass.{is_proc, is_mode, is_comma, is_close, procs_begun, in_proc, is_proc_too_many, is_param_too_many, is_key_too_many}
 use Rattle.dt_syntax.specs.FirstPass.{is_token_too_many, is_bracket_too_many, is_too_many, NoneTooMany, backwards}

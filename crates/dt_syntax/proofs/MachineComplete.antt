@@ -20,7 +20,7 @@ use Rattle.dt_syntax.specs.Grammar.{kind_token, Params, no_param, params, params
 use Rattle.dt_syntax.specs.Grammar.{KeySyntax, key_tokens, mode_token, Item, row_item, value_item, item_tokens, items_tokens, Statement, let_new, set_key}
 use Rattle.dt_syntax.specs.Grammar.{clear_key, when, choose, abort, give, Statements, nothing, first, statement_tokens, statements_tokens, IsItem, IsStatement}
 use Rattle.dt_syntax.specs.Grammar.{AreStatements, ProcSyntax, proc_tokens, procs_tokens, IsProc, AreProcSyntaxes, InGrammar, Begins}
-use Rattle.dt_syntax.specs.FrontsInner.{Stops, FrontStops, comma_param, joined_part}
+use Rattle.dt_syntax.specs.Fronts.{Stops, FrontStops, comma_param, joined_part}
 use Rattle.dt_syntax.proofs.Shapes.{links_stop, six_stop, next_item, items_stop}
 
 some_front : (n : ℕ) (ts : List Placed) → FrontStops n ts → 0 < length ts

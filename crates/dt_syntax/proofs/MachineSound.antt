@@ -19,7 +19,7 @@ use Rattle.dt_syntax.specs.Grammar.{kind_token, Params, no_param, params, params
 use Rattle.dt_syntax.specs.Grammar.{KeySyntax, key_tokens, Item, row_item, value_item, item_tokens, let_new, set_key, clear_key, when, choose, abort, give}
 use Rattle.dt_syntax.specs.Grammar.{Statements, nothing, first, statements_tokens, IsItem, AreStatements, ProcSyntax, procs_tokens, AreProcSyntaxes, InGrammar}
 use Rattle.dt_syntax.specs.Grammar.{Begins}
-use Rattle.dt_syntax.specs.FrontsInner.{comma_param, joined_part}
+use Rattle.dt_syntax.specs.Fronts.{comma_param, joined_part}
 use Rattle.dt_syntax.proofs.Shapes.{next_item}
 
 -- what stands from the keys of a procedure on

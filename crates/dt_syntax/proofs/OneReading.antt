@@ -7,7 +7,7 @@ use Rattle.dt_syntax.specs.declared.token.Placed.{Placed}
 use Rattle.dt_syntax.specs.declared.kinds.Kind.{Kind}
 use Rattle.dt_syntax.specs.declared.kinds.Kind.TheVariants as kind
 use Rattle.dt_syntax.specs.declared.operator.Op.TheVariants as op
-use Rattle.dt_syntax.specs.FrontsInner.{comma_param, joined_part}
+use Rattle.dt_syntax.specs.Fronts.{comma_param, joined_part}
 use Rattle.dt_syntax.specs.Grammar.{at, bracketed_tokens, Param, kind_token, param_tokens, Params, no_param, params, params_tokens, KeyPart, text_part}
 use Rattle.dt_syntax.specs.Grammar.{name_part, show_part, part_tokens, KeySyntax, mode_token, key_tokens, statements_tokens, ProcSyntax, proc_tokens}
 use Rattle.dt_syntax.specs.Grammar.{procs_tokens, IsProc, AreProcSyntaxes}

@@ -7,7 +7,7 @@ use Rattle.dt_syntax.specs.declared.token.Token.TheVariants as tok
 use Rattle.dt_syntax.specs.declared.token.Placed.{Placed}
 use Rattle.dt_syntax.specs.declared.operator.Op.{Op}
 use Rattle.dt_syntax.specs.declared.operator.Op.TheVariants as op
-use Rattle.dt_syntax.specs.FrontsInner.{FrontStops, NoElse}
+use Rattle.dt_syntax.specs.Fronts.{FrontStops, NoElse}
 use Rattle.dt_syntax.specs.Grammar.{at, Bracketed, bracketed_tokens, Syntax, chain, minus, denial, int, text, truth, name, parens, of_key, made, Links, no_link}
 use Rattle.dt_syntax.specs.Grammar.{link, syntax_tokens, links_tokens, level_of, IsLevel, AreLinks, reads_int, reads_text, reads_presence, makes_length}
 use Rattle.dt_syntax.specs.Grammar.{makes_text, Item, row_item, value_item, item_tokens, items_tokens, IsItem, Statement, let_new, set_key, clear_key, when}

@@ -12,7 +12,7 @@ use Rattle.dt_syntax.specs.Grammar.{Links, no_link, link, syntax_tokens, links_t
 use Rattle.dt_syntax.specs.Grammar.{makes_length, makes_text, Item, item_tokens, items_tokens, IsItem, KeyPart, text_part, name_part, show_part, part_tokens}
 use Rattle.dt_syntax.specs.Grammar.{KeySyntax, key_tokens, mode_token, params_tokens, statements_tokens, ProcSyntax, proc_tokens, Statement, let_new}
 use Rattle.dt_syntax.specs.Grammar.{set_key, clear_key, when, choose, abort, give, Statements, nothing, first, statement_tokens, IsStatement, AreStatements}
-use Rattle.dt_syntax.specs.FrontsInner.{Stops, FrontStops, joined_part, NoElse}
+use Rattle.dt_syntax.specs.Fronts.{Stops, FrontStops, joined_part, NoElse}
 use Rattle.std.specs.List.{flat_map}
 use Rattle.dt_lists.specs.Lists.{AllIn}
 use Rattle.dt_lists.proofs.Callers.{same_head, same_tail}

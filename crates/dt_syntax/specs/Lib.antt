@@ -1,6 +1,6 @@
 pub mod CountsInner
 pub mod FirstPass
-pub mod FrontsInner
+pub mod Fronts
 pub mod Grammar
 pub mod Limits
 pub mod MachineInner

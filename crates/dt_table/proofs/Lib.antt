@@ -3,7 +3,7 @@ pub mod Entries
 pub mod ByBytes
 pub mod MoveHistories
 pub mod StoredUnits
-pub mod NotedUnits
+pub mod NotedPlaces
 pub mod OpeningTable
 pub mod SortedEntries
 pub mod ShownKeys

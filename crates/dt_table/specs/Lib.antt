@@ -1,6 +1,6 @@
 pub mod Table
 pub mod TableCode
 pub mod RowsInner
-pub mod MovedUnitsInner
+pub mod MovedPlacesInner
 pub mod StoredUnitInner
 pub mod StoredMovesInner

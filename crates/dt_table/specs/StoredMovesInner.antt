@@ -13,7 +13,7 @@ use Rattle.dt_access.specs.Clash.{Bytes}
 use Rattle.dt_access.specs.declared.TxnId.{TxnId}
 use Rattle.dt_text.specs.Texts.{IsKey}
 use Rattle.dt_table.specs.Table.{Moved, TableView, opening_home, home_after}
-use Rattle.dt_table.specs.MovedUnitsInner.{IsNoted}
+use Rattle.dt_table.specs.MovedPlacesInner.{AreNoted}
 use Rattle.dt_table.specs.StoredUnitInner.{by_bytes}
 use Rattle.dt_table.specs.declared.stored.StoredMove.{StoredMove}
 use Rattle.dt_table.specs.declared.stored.StoredUnit.{StoredUnit}
@@ -84,4 +84,4 @@ pub record IsSoundTable (a : Inside) : Type 0 where
   pub regions : 0 < a.regions
   pub linked : AreLinked 0 a.moves.items
   pub units : AllIn (FitsMoves a.version a.regions a.homes a.moves.items) (by_bytes a.units.entries)
-  pub noted : AllIn (λ e. IsNoted a.noted e.0) (by_bytes a.units.entries)
+  pub noted : AreNoted a.noted (by_bytes a.units.entries)

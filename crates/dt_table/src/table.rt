@@ -7,12 +7,12 @@ ghost use Rattle.dt_table.specs.Table.{value_of, home_of, counter_of, next_mover
 
 use crate::effect::{Effect, UnitName};
 use crate::homes::Homes;
-use crate::moved::MovedUnits;
+use crate::moved::MovedPlaces;
 use crate::opening::Opening;
 use crate::rows::Rows;
 use crate::shown::{Shown, ShownList, add_moved_units};
 use crate::stored::{StoredMove, StoredUnit, mover_of, next_mover_of};
-use crate::units::{put_unit, stored_or_fresh, stored_unit};
+use crate::units::{note_stored, put_unit, stored_or_fresh, stored_unit};
 use dt_access::{TxnId, unit_bytes};
 use dt_text::{Key, NoMemory, Value};
 use indexmap::IndexMap;
@@ -49,8 +49,8 @@ pub struct Table {
     homes: Homes,
     values: Rows,
     units: IndexMap<Vec<u8>, StoredUnit>,
-    /// The stored units are noted here.
-    noted: MovedUnits,
+    /// The places of the stored units are noted here.
+    noted: MovedPlaces,
     moves: Vec<StoredMove>,
 }
 
@@ -100,7 +100,7 @@ impl Table {
             homes: first.homes.share()?,
             values: Rows::of(alloc, &first.rows)?,
             units: IndexMap::new(alloc),
-            noted: MovedUnits::none(),
+            noted: MovedPlaces::new(alloc),
             moves: Vec::new(alloc),
         })
     }
@@ -186,6 +186,7 @@ impl Table {
         self.values.reserve(places)?;
         self.units.reserve(places)?;
         self.moves.reserve(places)?;
+        note_stored(&self.units, &mut self.noted);
         Ok(())
     }
 
@@ -272,8 +273,7 @@ impl Table {
             counter: before.counter + 1,
             last: Some(self.moves.len()),
         };
-        self.noted.note(bytes.as_slice());
-        put_unit(&mut self.units, bytes, stored);
+        put_unit(&mut self.units, &mut self.noted, bytes, stored);
         let added = StoredMove {
             target,
             by,

@@ -5,14 +5,13 @@ ghost use Rattle.std.specs.Map.{lookup};
 ghost use Rattle.indexmap.specs.IndexMap.{insert_entry, spare};
 ghost use Rattle.dt_access.specs.Clash.{same_key};
 ghost use Rattle.dt_access.specs.Orders.{HasDistinctKeys};
-ghost use Rattle.dt_lists.specs.Lists.{AllIn};
-ghost use Rattle.dt_table.specs.MovedUnitsInner.{IsNoted};
+ghost use Rattle.dt_table.specs.MovedPlacesInner.{AreNoted};
 ghost use Rattle.dt_table.specs.Table.{opening_home as opening_home_of};
 ghost use Rattle.dt_table.specs.StoredUnitInner.{by_bytes, stored_of};
 
-use crate::moved::MovedUnits;
+use crate::moved::{MovedPlaces, number_of};
 use crate::stored::StoredUnit;
-use dt_text::{Key, NoMemory};
+use dt_text::{Key, NoMemory, are_same};
 use indexmap::IndexMap;
 use std::alloc::Global;
 
@@ -51,21 +50,26 @@ fn listed_home<'a>(homes: &'a IndexMap<Vec<u8>, u8>, unit: &[u8]) -> Option<&'a 
     homes.get(unit)
 }
 
-/// The stored unit of these bytes, if it is stored. Where none is that shares its bit, the bytes are not hashed.
+/// The stored unit of these bytes, if it is stored. They are hashed only where another unit stands at the place that is guessed.
 #[tactic(auto, using(crate::proofs::ByBytes::none_of_none))]
 pub fn stored_unit<'a>(
     units: &'a IndexMap<Vec<u8>, StoredUnit>,
-    moved: &MovedUnits,
+    moved: &MovedPlaces,
     unit: &[u8],
 ) -> Option<&'a StoredUnit>
-    requires { AllIn (λ e. IsNoted moved.now e.0) (by_bytes units.now.entries) }
+    requires { AreNoted moved.now (by_bytes units.now.entries) }
     ensures { option_copied result ≡ lookup (same_key unit.now) (by_bytes units.now.entries) }
 {
     if units.is_empty() {
         return None;
     }
-    if !moved.may_have(unit) {
+    let Some(place) = moved.guess(number_of(unit)) else {
         return None;
+    };
+    if let Some((known, stored)) = units.get_index(place) {
+        if are_same(known.as_slice(), unit) {
+            return Some(stored);
+        }
     }
     units.get(unit)
 }
@@ -73,11 +77,11 @@ pub fn stored_unit<'a>(
 /// The stored unit of these bytes, or else a fresh one with this home.
 pub fn stored_or_fresh(
     units: &IndexMap<Vec<u8>, StoredUnit>,
-    moved: &MovedUnits,
+    moved: &MovedPlaces,
     unit: &[u8],
     home: u8,
 ) -> StoredUnit
-    requires { AllIn (λ e. IsNoted moved.now e.0) (by_bytes units.now.entries) }
+    requires { AreNoted moved.now (by_bytes units.now.entries) }
     ensures { result ≡ stored_of (by_bytes units.now.entries) unit.now home }
 {
     match stored_unit(units, moved, unit) {
@@ -90,14 +94,36 @@ pub fn stored_or_fresh(
     }
 }
 
-/// Puts a unit in its place, which takes no memory where there is room.
-pub fn put_unit(units: &mut IndexMap<Vec<u8>, StoredUnit>, unit: Vec<u8>, stored: StoredUnit)
-    requires { 0 < spare units.old }
+/// Makes the list of places when units are stored for the first time, and notes them. Where there is no memory for it, it stays
+/// unmade, which costs only time.
+pub fn note_stored(units: &IndexMap<Vec<u8>, StoredUnit>, moved: &mut MovedPlaces)
+    requires { AreNoted moved.old (by_bytes units.now.entries) }
+    ensures { AreNoted moved.new (by_bytes units.now.entries) }
+{
+    if units.is_empty() || moved.is_made() || moved.make().is_err() {
+        return;
+    }
+    for (place, (unit, _)) in units.iter().enumerate() {
+        moved.note(number_of(unit.as_slice()), place);
+    }
+}
+
+/// Puts a unit in its place and notes it, which takes no memory where there is room.
+pub fn put_unit(
+    units: &mut IndexMap<Vec<u8>, StoredUnit>,
+    moved: &mut MovedPlaces,
+    unit: Vec<u8>,
+    stored: StoredUnit,
+)
+    requires room { 0 < spare units.old }
+    requires noted { AreNoted moved.old (by_bytes units.old.entries) }
     ensures units { by_bytes units.new.entries ≡ insert_entry same_key (by_bytes units.old.entries) unit.items stored }
+    ensures noted { AreNoted moved.new (by_bytes units.new.entries) }
     ensures room { spare units.old ≤ spare units.new + 1 }
 {
-    match units.insert(unit, stored) {
-        Ok(_) => (),
+    let number = number_of(unit.as_slice());
+    match units.insert_full(unit, stored) {
+        Ok((place, _)) => moved.note(number, place),
         Err(_) => unreachable!(),
     }
 }

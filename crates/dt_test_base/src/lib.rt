@@ -41,6 +41,4 @@ mod shelves;
 #[cfg(test)]
 mod sources;
 #[cfg(test)]
-mod summaries;
-#[cfg(test)]
 mod transactions;

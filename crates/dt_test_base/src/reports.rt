@@ -12,7 +12,7 @@ use std::mem::forget;
 use std::test::Fail;
 
 /// A report of nothing.
-pub(crate) fn empty_report(alloc: Global) -> Report {
+fn empty_report(alloc: Global) -> Report {
     Report {
         replies: Replies::new(alloc),
         order: Rans::new(alloc),
@@ -22,7 +22,7 @@ pub(crate) fn empty_report(alloc: Global) -> Report {
 }
 
 /// The text of a few bytes.
-pub(crate) fn text_of(alloc: Global, bytes: &[u8]) -> Result<Str, Fail> {
+fn text_of(alloc: Global, bytes: &[u8]) -> Result<Str, Fail> {
     if bytes.len() > Str::LONGEST {
         return Err(Fail::from("a text has few bytes"));
     }

@@ -6,21 +6,12 @@ use Rattle.std.proofs.Math.Nat.{max-eq_right}
 use Rattle.dt_lists.specs.Lists.{AllIn, Has}
 use Rattle.dt_events.specs.Stamps.{last_stamp}
 use Rattle.dt_sched.specs.Sched.{parts_in, with_part}
-use Rattle.dt_table.specs.Table.{Table, opening}
-use Rattle.dt_table.proofs.Callers.{moves_of-opening}
+use Rattle.dt_table.specs.Table.{Table}
 use Rattle.dt_txn.specs.declared.txn.Txn.{Txn}
 use Rattle.dt_txn.specs.Transaction.{homes_of, part_of}
-use Rattle.dt_region.specs.Conditions.{CanAppend, IsTableFor}
+use Rattle.dt_region.specs.Conditions.{CanAppend}
 use Rattle.dt_region.specs.Region.{HasStamp, RegionView, latest_stamp}
 use Rattle.dt_region.specs.Rules.{MakesAppend, opening_state}
-
--- the table without rows is one for two regions
-pub no_rows_fit : IsTableFor 2 (opening 1 2 [] [])
-no_rows_fit = record {
-  sized = refl;
-  homes = tt;
-  moves = λ key. subst (AllIn (λ moved. moved.target < 2)) (sym (moves_of-opening 1 2 [] [] key)) tt;
-}
 
 -- region 0 of two, before anything happens, may be asked to place a transaction of region 1 whose homes are the two
 pub may_be_asked : (table : Table) (source number : ℕ) (txn : Txn) → homes_of txn ≡ 0 ∷ 1 ∷ [] → txn.id.region ≢ 0 → CanAppend (opening_state 0 2 table) source number txn

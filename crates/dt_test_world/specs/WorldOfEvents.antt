@@ -1,5 +1,5 @@
 -- For the tests: how a world and the events that led to it belong together, as the report of a world wants them. Read
--- Run.antt of dt_session for what a legal list of events is, and the world after it.
+-- next: Run.antt of dt_session, for what a legal list of events is, and the world after it.
 use Rattle.std.specs.Prelude.{◌≡◌, List}
 use Rattle.dt_events.specs.declared.Event.{Event}
 use Rattle.dt_session.specs.Run.{AreLegal, world_after}

@@ -1,7 +1,10 @@
 -- The first line of bytes, and the lines after it.
-use Rattle.std.proofs.Common.{◌≡◌, ℕ, suc, ◌+◌, ◌<◌, ◌≤◌, Bool, true, false, not, cond, ◌==◌, nat_lt, List, [], ◌∷◌, length, take, drop, Some, None, ◌⊎◌, inl, inr, refl, ap, arith}
+use Rattle.std.proofs.Common.{◌≡◌, ℕ, suc, ◌+◌, ◌<◌, ◌≤◌, Bool, true, false, not, cond, ◌==◌, nat_lt, List, [], ◌∷◌, length, take, drop, Option, Some, None, ◌⊎◌, inl, inr, refl, ap, arith}
+use Rattle.std.proofs.lemmas.Bool.{false_from_ne_true}
 use Rattle.std.proofs.lemmas.Bool.Decides.{nat_tests}
+use Rattle.std.proofs.lemmas.List.Sums.{position_or_len_is}
 use Rattle.std.specs.List.{onto_first, prefix_len, position}
+use Rattle.memchr.specs.Find.{IsFirstByte, is_byte}
 use Rattle.dt_text.specs.Lines.{cut_lines}
 
 -- how many bytes stand before the first 10
@@ -41,6 +44,20 @@ some_place a n k h = grind (arith, nat_tests)
 
 no_place : (a n : ℕ) → cond (nat_lt a n) (Some a) None ≡ None → n ≤ a
 no_place a n h = grind (arith, nat_tests)
+
+here : (a n k : ℕ) → a ≡ k → k < n → Some k ≡ cond (nat_lt a n) (Some a) None
+here a n k is lt = grind (arith, nat_tests)
+
+past : (a n : ℕ) → a ≡ n → None ≡ cond (nat_lt a n) (Some a) None
+past a n is = grind (arith, nat_tests)
+
+-- the first place with a byte 10 is the position of the first such byte
+pub first_end : (bs : List ℕ) (r : Option ℕ) → IsFirstByte (is_byte 10) bs r → r ≡ position (λ b. b == 10) bs
+first_end bs None nowhere =
+    past _ _ (position_or_len_is (λ b. b == 10) bs (length bs) 0 (omega arith) (λ k lt. false_from_ne_true _ (nowhere k (omega arith) lt)) (λ lt. absurd (omega (arith, lt))))
+first_end bs (Some k) at =
+    here _ _ k (position_or_len_is (λ b. b == 10) bs k 0 (let lt : k < length bs = at.0.high in omega (arith, lt))
+    (λ j lt. false_from_ne_true _ (at.0.before j (omega arith) lt)) (λ lt. at.1)) at.0.high
 
 -- where a line ends at a place, the first line is what stands before it
 pub cut_at_end : (bs : List ℕ) (k : ℕ) → position (λ b. b == 10) bs ≡ Some k → cut_lines bs ≡ take k bs ∷ cut_lines (drop (k + 1) bs)

@@ -20,7 +20,7 @@ mod text;
 mod value;
 mod word;
 
-pub use bytes::{are_same, is_key_byte, is_name_byte, is_text_byte};
+pub use bytes::{are_same, is_name_byte, is_text_byte};
 pub use common::Common;
 pub use errors::{KeyError, StrError};
 pub use key::Key;

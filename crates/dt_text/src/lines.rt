@@ -1,6 +1,7 @@
 ghost use Rattle.std.specs.Prelude.{◌≡◌, ◌+◌, ◌<◌, ◌^◌, ◌==◌, List, [], ◌∷◌, length, position, MatchOption};
 ghost use Rattle.dt_text.specs.Lines.{FileLine, cut_lines, is_skipped, kept_lines, lines_of};
 
+use memchr::memchr;
 use std::marker::Model;
 
 /// A line of a file.
@@ -76,10 +77,11 @@ fn split_line(bytes: &[u8]) -> (&[u8], &[u8])
 }
 
 /// The place of the first byte that ends a line.
+#[tactic(auto, using(crate::proofs::Cuts::first_end))]
 fn line_end(bytes: &[u8]) -> Option<usize>
     ensures { result ≡ position (λ b. b == 10) bytes.now }
 {
-    bytes.iter().position(|byte| *byte == b'\n')
+    memchr(b'\n', bytes)
 }
 
 /// Whether a line has nothing but spaces, or `#` first after them.

@@ -54,6 +54,14 @@ impl Str {
         }
     }
 
+    /// Whether the bytes are those of a text.
+    #[tactic(auto, using(crate::proofs::FirstBadByte::none_outside, crate::proofs::FirstBadByte::byte_outside))]
+    pub fn is_str(bytes: &[u8]) -> bool
+        ensures { IsTrue result ↔ IsStr bytes.now }
+    {
+        bytes.len() <= Str::LONGEST && first_bad(bytes).is_none()
+    }
+
     /// The text that has these bytes.
     pub fn new(alloc: Global, bytes: &[u8]) -> Result<Self, NoMemory>
         requires { IsStr bytes.now }

@@ -1,5 +1,5 @@
 -- Scaffolding: what `execute` reads in a table before it runs a body. Only a private function of this crate cites this. Read
--- Execution for what a transaction comes to.
+-- next: Execution, for what a transaction comes to.
 use Rattle.std.specs.Prelude.{◌≡◌, List, Option, Some, None, Result, Ok, Err}
 use Rattle.dt_access.specs.Clash.{Bytes}
 use Rattle.dt_access.specs.declared.Access.{Access}

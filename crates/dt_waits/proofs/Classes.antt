@@ -221,11 +221,8 @@ module _ (view : View) (resolved : List (List TxnId)) (done : List TxnId) (k : I
             let w : (w : ℕ) × (slice_get list b ≡ Some w) × Reaches view (id_at g.ids w) (id_at g.ids v) = place_leads list once (λ u m. (all u).0 m) graph blocked a leads v e in
             let o : (w : ℕ) × (slice_get list b ≡ Some w) × WaitsOutside g.waiting list w = (a.are_blocked b).0 m in
             let s : (w.0 < length g.ids) × IsStuck view resolved done (id_at g.ids w.0) = stuck_at list once (λ u m. (all u).0 m) graph blocked a b w.0 w.1 in
-            outside w.0 s.0 (subst (WaitsOutside g.waiting list) (same (sym o.1 ∙ w.1)) o.2) (stuck_member (id_at g.ids w.0) (id_at g.ids v) s.1 h w.2)
+            outside w.0 s.0 (subst (WaitsOutside g.waiting list) (some_same (sym o.1 ∙ w.1)) o.2) (stuck_member (id_at g.ids w.0) (id_at g.ids v) s.1 h w.2)
           where
-            same : {y z : ℕ} → Some y ≡ Some z → y ≡ z
-            same s = cc
-
             outside : (w : ℕ) → w < length g.ids → WaitsOutside g.waiting list w → Has ids (id_at g.ids w) → ⊥
             outside w lw o h =
                 let m : Has ids (id_at g.ids o.0) = neighbour_member o.0 w lw o.1 h in

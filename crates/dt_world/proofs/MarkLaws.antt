@@ -2,7 +2,7 @@
 use Rattle.std.proofs.Common.{◌≡◌, ◌<◌, ◌⊎◌, ℕ, zero, suc, Bool, true, false, ◌&&◌, ◌||◌, ◌==◌, List, [], ◌∷◌, ◌++◌, length, map, set, get_or, refl, sym, ap, subst, ◌∙◌, inl, inr, arith}
 use Rattle.std.proofs.lemmas.Bool.{cases_Bool}
 use Rattle.std.proofs.lemmas.Bool.Decides.{nat_tests}
-use Rattle.std.proofs.lemmas.List.{get_or-map, length-map, map-append, map-set}
+use Rattle.std.proofs.lemmas.List.{get_or-map, length-map, map-set}
 use Rattle.std.proofs.lemmas.List.Folds.{list_any-append}
 use Rattle.dt_access.specs.Ids.{is_among, same_id}
 use Rattle.dt_access.specs.declared.TxnId.{TxnId}
@@ -12,18 +12,6 @@ use Rattle.dt_world.specs.MarksInner.{AreMarkedIds, is_marked}
 -- where none is marked, these are no ids
 pub none_marked : {marks : List (List Bool)} → marks ≡ [] → AreMarkedIds marks []
 none_marked none id = ap (λ l. is_marked l id) none
-
-one_list_more : (marks : List (List Bool)) (region : ℕ) → get_or (marks ++ [] ∷ []) region [] ≡ get_or marks region []
-one_list_more [] zero = refl
-one_list_more [] (suc region) = refl
-one_list_more (x ∷ marks) zero = refl
-one_list_more (x ∷ marks) (suc region) = one_list_more marks region
-
--- with an empty list more, the same ids are marked
-pub marked_wider : {L : Type 0} (items : L → List Bool) (lists : List L) (more : L) → items more ≡ [] → (id : TxnId) → is_marked (map items (lists ++ more ∷ [])) id ≡ is_marked (map items lists) id
-marked_wider items lists more none id =
-    ap (λ l. is_marked l id) (map-append items lists (more ∷ [])) ∙ ap (λ x. is_marked (map items lists ++ x ∷ []) id) none
-    ∙ ap (λ list. get_or list id.seq false) (one_list_more (map items lists) id.region)
 
 -- with one number more marked in the list of a region, its id is marked too
 marked_at : (marks : List (List Bool)) (region number : ℕ) (later : List Bool) → region < length marks

@@ -1,9 +1,9 @@
 -- The world before anything happens.
-use Rattle.std.proofs.Common.{◌≡◌, ◌<◌, ◌≤◌, ◌+◌, ℕ, zero, suc, List, [], ◌∷◌, ◌++◌, length, map, get_or, replicate, refl, sym, ap, ap₂, subst, ◌∙◌, arith}
+use Rattle.std.proofs.Common.{◌≡◌, ◌<◌, ◌≤◌, ◌+◌, ℕ, zero, suc, List, [], ◌∷◌, ◌++◌, length, map, replicate, refl, sym, ap, ap₂, subst, ◌∙◌, arith}
 use Rattle.std.specs.List.{range_with_len}
 use Rattle.std.proofs.lemmas.List.FromFn.{get_or-map-range_with_len, length-map-range_with_len, map-range_with_len_more}
 use Rattle.dt_lists.specs.Lists.{AllIn}
-use Rattle.dt_lists.proofs.Callers.{all_get as all_in}
+use Rattle.dt_lists.proofs.Callers.{all_get as all_in, all_or}
 use Rattle.std.proofs.lemmas.List.{length-map}
 use Rattle.dt_session.specs.Sessions.{SessionsView, all_idle}
 use Rattle.dt_site.specs.SessionsStandIn.{SessionsStandIn, no_sessions}
@@ -51,11 +51,6 @@ sessions_more cluster workload n items new s before is now =
 abbrev idle : Cluster → Workload → WorldSessions
 idle cluster workload = record { workload = workload; by_region = opening_sessions cluster workload }
 
-get_all : {A : Type 0} (P : A → Type 0) (xs : List A) (i : ℕ) (d : A) → AllIn P xs → i < length xs → P (get_or xs i d)
-get_all P [] i d a lt = absurd (omega arith)
-get_all P (x ∷ xs) zero d a lt = a.0
-get_all P (x ∷ xs) (suc i) d a lt = get_all P xs i d a.1 (omega arith)
-
 module _ (cluster : Cluster) (workload : Workload) (fits : IsValidWorkload cluster workload) where
   opened_at : (region : ℕ) → region < cluster.regions → SessionsStandIn cluster workload (opening_world cluster workload) region (sessions_of (opening_sessions cluster workload) region)
   opened_at region lr = subst (SessionsStandIn cluster workload (opening_world cluster workload) region)
@@ -77,7 +72,7 @@ module _ (cluster : Cluster) (workload : Workload) (fits : IsValidWorkload clust
         let opened : ℕ → SiteView = λ number. opening_site number cluster.regions (opening_table cluster) in
         let is : site_at (opening_sites cluster) region ≡ opened region = get_or-map-range_with_len opened 0 cluster.regions region region no_site lr (omega arith) in
         let within : region < length (opening_sites cluster) = subst (λ n. region < n) (sym (length-map-range_with_len opened 0 cluster.regions)) lr in
-        let s : IsSoundRegion (site_at (opening_sites cluster) region).region.state = get_all (λ (p : SiteView). IsSoundRegion p.region.state) (opening_sites cluster) region no_site sound within in
+        let s : IsSoundRegion (site_at (opening_sites cluster) region).region.state = all_or (λ (p : SiteView). IsSoundRegion p.region.state) (opening_sites cluster) region no_site sound within in
         subst (λ w. StandsIn cluster.regions w region (site_at (opening_sites cluster) region)) (sym begun)
         (subst (StandsIn cluster.regions (opening_world cluster workload) region) (sym is)
         (opening_stands cluster workload region lr (subst (λ (p : SiteView). IsSoundRegion p.region.state) is s)));

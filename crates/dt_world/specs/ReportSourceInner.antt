@@ -1,5 +1,5 @@
 -- Only proofs need this file, and the private calls of a report: what a report is made from, as the code holds it. Read
--- `SitesAfter` for what is to hold of it, and `WorldReport` for what the report says.
+-- next: `SitesAfter`, for what is to hold of it, and `WorldReport`, for what the report says.
 use Rattle.std.specs.Prelude.{List}
 use Rattle.dt_events.specs.declared.Event.{Event}
 use Rattle.dt_cluster.specs.declared.Cluster.{Cluster}

@@ -1,5 +1,5 @@
 -- The toolchain asks for these; skip them. They are the codes by which proofs tell worlds apart, each by its fields. Read
--- `WorldView` for what they are.
+-- next: `WorldView`, for what they are.
 use Rattle.std.specs.Prelude.{ℕ, List, Option, refl}
 use Rattle.std.specs.Coded.{Coded, code_by, coded×, coded_ℕ, coded_list, coded_option}
 use Rattle.dt_access.specs.Clash.{Bytes}

@@ -4,7 +4,7 @@ use Rattle.std.proofs.lemmas.Result.{err_from_is_err_and}
 use Rattle.dt_syntax.specs.declared.token.Token.TheVariants as tok
 use Rattle.dt_syntax.specs.declared.operator.Op.TheVariants as op
 use Rattle.dt_syntax.specs.Grammar.{at, part_tokens}
-use Rattle.dt_syntax.specs.FrontsInner.{joined_part}
+use Rattle.dt_syntax.specs.Fronts.{joined_part}
 use Rattle.dt_proc.proofs.ExprWalk.{told_right}
 use Rattle.dt_proc.proofs.HeadWalk.{parts_told, parts_fault, parts_none}
 use Rattle.dt_syntax.proofs.Callers.{more_next, more_end, no_join_semicolon}

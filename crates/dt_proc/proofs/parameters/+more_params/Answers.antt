@@ -3,7 +3,7 @@ use Rattle.std.specs.List.{flat_map}
 use Rattle.std.proofs.lemmas.Result.{err_from_is_err_and}
 use Rattle.dt_syntax.specs.declared.token.Token.TheVariants as tok
 use Rattle.dt_syntax.specs.Grammar.{at, param_tokens}
-use Rattle.dt_syntax.specs.FrontsInner.{comma_param}
+use Rattle.dt_syntax.specs.Fronts.{comma_param}
 use Rattle.dt_proc.proofs.HeadWalk.{more_params_told, params_fault, params_none}
 use Rattle.dt_syntax.proofs.Callers.{more_next, more_end, no_comma_close}
 use Rattle.dt_proc.proofs.parameters.+more_params.Goals as goal

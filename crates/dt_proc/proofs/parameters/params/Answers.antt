@@ -5,7 +5,7 @@ use Rattle.dt_syntax.specs.declared.token.Token.TheVariants as tok
 use Rattle.dt_syntax.specs.Grammar.{at}
 use Rattle.dt_proc.specs.SecondPass.{check_param}
 use Rattle.dt_proc.specs.WalkInner.{WalkAnswers}
-use Rattle.dt_syntax.specs.FrontsInner.{comma_param}
+use Rattle.dt_syntax.specs.Fronts.{comma_param}
 use Rattle.dt_proc.proofs.Rooms.{room_new}
 use Rattle.dt_proc.proofs.HeadWalk.{params_first, params_first_fault, params_more_fault, params_told_is}
 use Rattle.dt_proc.proofs.parameters.params.Goals as goal

@@ -1,7 +1,8 @@
 use Rattle.std.proofs.Common.{◌<◌, length, get_or, take, arith}
 use Rattle.std.proofs.lemmas.List.{take_more}
 use Rattle.dt_queue.specs.TableInner.{lanes_read, lanes_written}
-use Rattle.dt_queue.proofs.RowSets.{all_or, flags_more}
+use Rattle.dt_lists.proofs.Callers.{all_or}
+use Rattle.dt_queue.proofs.RowSets.{flags_more}
 use Rattle.dt_queue.proofs.listed.flag_used.Goals as goal
 
 pub loop-row-preserved : goal.loop-row-preserved

@@ -16,6 +16,7 @@ pub returns-in-Read : goal.returns-in-Read
 returns-in-Read c = record {
   added = on_ok_weaker c.push_read.result (λ change. changed_read c.args.self.now _ (λ l. l ++ c.args.mark ∷ []) c.args.mode c.args.row c.in-Read.is change
       (links_same c.args.self.now.rows _ c.push_read.ensures.heads) refl refl refl c.push_read.ensures.writes refl) c.push_read.ensures.added;
+  newest = λ g. refl;
   same = on_err_weaker c.push_read.result (λ same. keeps_lanes c.args.self.now _ same c.push_read.ensures.writes (same_self _) (links_same c.args.self.now.rows _ c.push_read.ensures.heads) refl refl refl) c.push_read.ensures.same;
 }
 
@@ -23,6 +24,7 @@ pub returns-in-Write : goal.returns-in-Write
 returns-in-Write c = record {
   added = on_ok_weaker c.push_write.result (λ change. changed_write c.args.self.now _ (λ l. l ++ c.args.mark ∷ []) c.args.mode c.args.row c.in-Write.is change
       (links_same c.args.self.now.rows _ c.push_write.ensures.heads) refl refl refl c.push_write.ensures.reads refl) c.push_write.ensures.added;
+  newest = λ g. refl;
   same = on_err_weaker c.push_write.result (λ same. keeps_lanes c.args.self.now _ c.push_write.ensures.reads same (same_self _) (links_same c.args.self.now.rows _ c.push_write.ensures.heads) refl refl refl) c.push_write.ensures.same;
 }
 
@@ -30,5 +32,6 @@ pub returns-in-Whole : goal.returns-in-Whole
 returns-in-Whole c = record {
   added = on_ok_weaker c.push.result (λ change. changed_whole c.args.self.now _
       (λ l. l ++ c.args.mark ∷ []) c.args.mode c.args.row c.granule_of.result c.in-Whole.is c.granule_of.ensures change refl refl refl refl refl) c.push.ensures.added;
+  newest = λ g. refl;
   same = on_err_weaker c.push.result (λ same. keeps_lanes c.args.self.now _ (same_self _) (same_self _) same refl refl refl refl) c.push.ensures.same;
 }

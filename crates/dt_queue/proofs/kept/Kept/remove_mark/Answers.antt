@@ -4,14 +4,14 @@ use Rattle.dt_queue.specs.declared.mark.Mark.{Mark}
 use Rattle.dt_queue.proofs.LanesOfCells.{changed_read, changed_whole, changed_write, links_same}
 use Rattle.dt_queue.proofs.kept.Kept.remove_mark.Goals as goal
 
-pub returns-in-Read : goal.returns-in-Read
-returns-in-Read c = changed_read c.args.self.now _ (filter (λ (m : Mark). not (m.number == c.args.number))) c.args.mode c.args.row c.in-Read.is c.remove_read.ensures.reads
+pub returns-in-Read-clause-change : goal.returns-in-Read-clause-change
+returns-in-Read-clause-change c = changed_read c.args.self.now _ (filter (λ (m : Mark). not (m.number == c.args.number))) c.args.mode c.args.row c.in-Read.is c.remove_read.ensures.reads
     (links_same c.args.self.now.rows _ c.remove_read.ensures.heads) refl refl refl c.remove_read.ensures.writes refl
 
-pub returns-in-Write : goal.returns-in-Write
-returns-in-Write c = changed_write c.args.self.now _ (filter (λ (m : Mark). not (m.number == c.args.number))) c.args.mode c.args.row c.in-Write.is c.remove_write.ensures.writes
+pub returns-in-Write-clause-change : goal.returns-in-Write-clause-change
+returns-in-Write-clause-change c = changed_write c.args.self.now _ (filter (λ (m : Mark). not (m.number == c.args.number))) c.args.mode c.args.row c.in-Write.is c.remove_write.ensures.writes
     (links_same c.args.self.now.rows _ c.remove_write.ensures.heads) refl refl refl c.remove_write.ensures.reads refl
 
-pub returns-in-Whole : goal.returns-in-Whole
-returns-in-Whole c =
+pub returns-in-Whole-clause-change : goal.returns-in-Whole-clause-change
+returns-in-Whole-clause-change c =
     changed_whole c.args.self.now _ (filter (λ (m : Mark). not (m.number == c.args.number))) c.args.mode c.args.row c.granule_of.result c.in-Whole.is c.granule_of.ensures c.remove.ensures refl refl refl refl refl

@@ -9,5 +9,5 @@ use Rattle.dt_table.proofs.table.Table.of.Goals as goal
 pub returns : goal.returns
 returns c =
     let values = ap (from_entries {R = slice_cmp nat_cmp}) c.in_ok-of.ensures in
-    let moves = ap₂ histories_of c.new-2.ensures.items (ap by_bytes c.new.ensures.empty) in
+    let moves = ap₂ histories_of c.new-3.ensures.items (ap by_bytes c.new.ensures.empty) in
     rw (← c.first.view_is) (λ i. record { version = c.args.version; regions = c.args.regions; homes = c.in_ok-share.ensures i; values = values i; moves = moves i })

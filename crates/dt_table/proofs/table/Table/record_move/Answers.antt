@@ -1,16 +1,12 @@
 use Rattle.std.proofs.Common.{◌≡◌, ◌+◌, ◌<◌, ◌^◌, ◌∷◌, [], ◌++◌, Some, ap, ap₂, sym, subst, ◌∙◌, arith, length}
-use Rattle.std.specs.Cmp.Lexicographic.{bytes_decides}
 use Rattle.indexmap.specs.IndexMap.{insert_entry}
-use Rattle.dt_lists.proofs.Callers.{all_map}
 use Rattle.dt_access.specs.Granules.{IsUnit}
 use Rattle.dt_access.specs.Clash.{Bytes, same_key}
 use Rattle.dt_table.specs.Table.{TableView, counter_of}
-use Rattle.dt_table.specs.MovedUnitsInner.{IsNoted}
 use Rattle.dt_table.specs.StoredUnitInner.{by_bytes, stored_of}
 use Rattle.dt_table.specs.StoredMovesInner.{AreLinked, histories_of, table_view}
 use Rattle.dt_table.specs.declared.stored.StoredUnit.{StoredUnit}
-use Rattle.dt_table.proofs.Entries.{AllIn-insert_entry}
-use Rattle.dt_table.proofs.StoredUnits.{counter-stored, linked-moved, moved_unit, units-moved, histories-moved}
+use Rattle.dt_table.proofs.StoredUnits.{counter-stored, linked-moved, units-moved, histories-moved}
 use Rattle.dt_table.proofs.table.Table.record_move.Goals as goal
 
 pub overflow_add-stored : goal.overflow_add-stored
@@ -36,14 +32,11 @@ invariant_of-self c =
     let pushed = c.in-Ok.ensures.items ∙ ap (λ (s : StoredUnit). a.moves.items ++ record { target = c.args.target; by = c.args.by; before = s.last } ∷ []) stored in
     let put = c.put_unit.ensures.units
     ∙ (λ i. insert_entry same_key (by_bytes a.units.entries) (c.into_bytes-bytes.ensures.same i) (record { home = c.args.target; counter = (stored i).counter + 1; last = Some c.len.result })) in
-    let noted_bytes = c.as_slice-2.ensures.value ∙ c.into_bytes-bytes.ensures.same in
-    let noted = AllIn-insert_entry same_key (λ e. IsNoted c.note.new.self e.0) (λ x y. (bytes_decides x y).0) (by_bytes a.units.entries) unit (moved_unit a unit c.args.target c.len.result)
-    (all_map _ _ (by_bytes a.units.entries) (λ e h. c.note.ensures.others e.0 h) sound.noted) (subst (IsNoted c.note.new.self) noted_bytes c.note.ensures.unit) in
     record {
       regions = sound.regions;
       linked = subst (AreLinked 0) (sym pushed) (linked-moved a unit c.args.target c.args.by sound is_unit);
       units = rw (put, pushed) (units-moved a unit c.args.target c.args.by sound is_unit c.len.result at c.requires.key few);
-      noted = rw put noted;
+      noted = c.put_unit.ensures.noted;
     }
 
 pub returns-clause-state : goal.returns-clause-state

@@ -1,10 +1,14 @@
 use Rattle.std.proofs.Common.{◌≡◌, ◌++◌, ◌∙◌, List, ap, map, subst, IsPermutation}
+use Rattle.dt_lists.proofs.Callers.{all_map}
 use Rattle.dt_access.specs.Clash.{Bytes}
 use Rattle.dt_table.specs.Table.{TableView, shown, shown_at}
 use Rattle.dt_table.specs.StoredUnitInner.{by_bytes, moved_without_value}
 use Rattle.dt_table.specs.StoredMovesInner.{table_view}
 use Rattle.dt_table.proofs.ShownKeys.{shown_in_order}
 use Rattle.dt_table.proofs.table.Table.shown_keys.Goals as goal
+
+pub add_moved_units-requires : goal.add_moved_units-requires
+add_moved_units-requires c = all_map _ _ (by_bytes c.self.inside.units.entries) (λ e fits. fits.key) c.self.invariant.units
 
 pub returns : goal.returns
 returns c =

@@ -1,6 +1,9 @@
--- Scaffolding of the two passes: what may come first where a part of the grammar ends. A walk down the grammar has to
--- know where a part ends, and it sees the next token alone. No public statement speaks of it; read Grammar for the
--- grammar.
+-- Where a part of the grammar ends. Whoever reads tokens from the front sees one behind the part that is read, and has to tell by
+-- it alone whether the part goes on: an expression goes on with each operator of its own level and of those that bind closer, and
+-- ends before any other token; an `if` goes on with an `else`; the statements of a block go on until a `}`; parameters go on with
+-- a `,`, and the parts of a key with a `++`. Where these words say of the tokens behind a part that it ends there, it has one
+-- syntax tree, which a walk from the front finds. No public call promises anything in them. Read next: WalkInner of dt_proc, for
+-- such walks.
 use Rattle.std.specs.Prelude.{◌≡◌, ◌<◌, ℕ, Bool, true, List, [], ◌∷◌, MatchBool}
 use Rattle.dt_syntax.specs.declared.token.Token.{Token}
 use Rattle.dt_syntax.specs.declared.token.Token.TheVariants as tok
