@@ -96,23 +96,27 @@ module _ {cluster : Cluster} {workload : Workload} {w : World} {order : List Txn
 -- the same of legal lists of events
 
 module _ {cluster : Cluster} {workload : Workload} {events : List Event} (run : IsLegalRun cluster workload events) where
-  i : Inv cluster workload (world_after cluster workload events) (order_of events)
+  -- the world at the end
+  abbrev final : World
+  final = world_after cluster workload events
+
+  i : Inv cluster workload final (order_of events)
   i = legal_keeps run
 
-  rooted : Rooted cluster (world_after cluster workload events) (order_of events)
+  rooted : Rooted cluster final (order_of events)
   rooted = legal_roots run
 
   pub executed_outcome : (a : TxnId) → Has (order_of events) a → (o : Outcome) × Has (serial_outcomes cluster workload events) (a, o) × (serial_outcome cluster workload events a ≡ Some o)
   executed_outcome a h = outcome_of_executed i rooted a h
 
   pub legal_across : (a b : TxnId) (x y : Txn) → a ≢ b → Has (order_of events) a → Has (order_of events) b
-      → txn_of (world_after cluster workload events) a ≡ Some x → txn_of (world_after cluster workload events) b ≡ Some y
+      → txn_of final a ≡ Some x → txn_of final b ≡ Some y
       → ¬ (IsStale (serial_outcome cluster workload events a)) → ¬ (IsStale (serial_outcome cluster workload events b))
-      → clash (uses_in x) (uses_in y) ≡ true → Ordered (Precedes (logs_of (world_after cluster workload events))) a b
+      → clash (uses_in x) (uses_in y) ≡ true → Ordered (Precedes (logs_of final)) a b
   legal_across a b x y ne ha hb ea eb na nb c = ordered_across i rooted a b x y ne (run_of i rooted a x ha ea na) (run_of i rooted b y hb eb nb) c
 
   pub legal_fewer : (a b : TxnId) (x y : Txn) → Has (order_of events) a → Has (order_of events) b
-      → txn_of (world_after cluster workload events) a ≡ Some x → txn_of (world_after cluster workload events) b ≡ Some y
+      → txn_of final a ≡ Some x → txn_of final b ≡ Some y
       → ¬ (IsStale (serial_outcome cluster workload events a))
-      → (k l : Access) → Has x.access k → Has y.access l → unit_of cluster.version k.key ≡ unit_of cluster.version l.key → k.counter < l.counter → Precedes (logs_of (world_after cluster workload events)) a b
+      → (k l : Access) → Has x.access k → Has y.access l → unit_of cluster.version k.key ≡ unit_of cluster.version l.key → k.counter < l.counter → Precedes (logs_of final) a b
   legal_fewer a b x y ha hb ea eb na k l hk hl unit fewer = fewer_precedes i rooted a b x y (run_of i rooted a x ha ea na) hb eb k l hk hl unit fewer

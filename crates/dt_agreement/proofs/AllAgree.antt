@@ -279,52 +279,56 @@ answered_done cluster w region (Some (session, place)) a m f = go (outcome_at w 
     go None e l = absurd l
     go (Some outcome) e l = has_map (λ d. d.0) (node_at w region).here.done (a, outcome) (lookup_has (node_at w region).here.done a outcome e)
 
--- what was answered before another attempt was submitted stands earlier
-real_time_at : {cluster : Cluster} {workload : Workload} (first : List Event) (region : ℕ) (session : Bytes) (middle : List Event) (other : ℕ) (name : Bytes) (last : List Event) (a : TxnId)
-    → IsLegalRun cluster workload (first ++ Answer region session ∷ middle ++ Submit other name ∷ last)
-    → IsAwaited cluster workload first region session a
-    → Has (order_of (first ++ Answer region session ∷ middle ++ Submit other name ∷ last)) (upcoming_id (world_after cluster workload (first ++ Answer region session ∷ middle)) other)
-    → StandsBefore (order_of (first ++ Answer region session ∷ middle ++ Submit other name ∷ last)) a (upcoming_id (world_after cluster workload (first ++ Answer region session ∷ middle)) other)
-real_time_at {cluster = cluster} {workload = workload} first region session middle other name last a run awaited executed =
-    subst (λ l. StandsBefore l a b) front.1 (some_across (λ x y. (x ≡ a) × (y ≡ b)) (order_of before) front.0 a b
-    (any_front (λ y. y ≡ a) (order_of first) (order_of before) (order_front first (Answer region session ∷ middle)) answered)
-    (elim (any_append (λ y. y ≡ b) (order_of before) front.0 (subst (λ l. Has l b) (sym front.1) executed)) [
-      | inl h ↦ absurd (new h)
-      | inr h ↦ h
-    ]) (refl, refl))
-  where
-    before : List Event
-    before = first ++ Answer region session ∷ middle
+-- an attempt that is submitted after a session was answered
+module _ (cluster : Cluster) (workload : Workload) (first : List Event) (region : ℕ) (session : Bytes) (middle : List Event) (other : ℕ) (name : Bytes) (last : List Event) where
+  -- what happened before it was submitted
+  abbrev before : List Event
+  before = first ++ Answer region session ∷ middle
 
-    early : World
-    early = world_after cluster workload first
+  -- all that happened
+  abbrev whole_run : List Event
+  whole_run = first ++ Answer region session ∷ middle ++ Submit other name ∷ last
 
-    late : World
-    late = world_after cluster workload before
+  -- its id
+  abbrev later_id : TxnId
+  later_id = upcoming_id (world_after cluster workload before) other
 
-    b : TxnId
-    b = upcoming_id late other
+  -- what was answered stands earlier
+  real_time_at : (a : TxnId) → IsLegalRun cluster workload whole_run → IsAwaited cluster workload first region session a → Has (order_of whole_run) later_id → StandsBefore (order_of whole_run) a later_id
+  real_time_at a run awaited executed =
+      subst (λ l. StandsBefore l a later_id) front.1 (some_across (λ x y. (x ≡ a) × (y ≡ later_id)) (order_of before) front.0 a later_id
+      (any_front (λ y. y ≡ a) (order_of first) (order_of before) (order_front first (Answer region session ∷ middle)) answered)
+      (elim (any_append (λ y. y ≡ later_id) (order_of before) front.0 (subst (λ l. Has l later_id) (sym front.1) executed)) [
+        | inl h ↦ absurd (new h)
+        | inr h ↦ h
+      ]) (refl, refl))
+    where
+      early : World
+      early = world_after cluster workload first
 
-    front : IsFront (order_of before) (order_of (first ++ Answer region session ∷ middle ++ Submit other name ∷ last))
-    front = order_front before (Submit other name ∷ last)
+      late : World
+      late = world_after cluster workload before
 
-    outer : IsLegalRun cluster workload before × AreLegalFrom cluster workload late (Submit other name ∷ last)
-    outer = run_front before (Submit other name ∷ last) run
+      front : IsFront (order_of before) (order_of whole_run)
+      front = order_front before (Submit other name ∷ last)
 
-    inner : IsLegalRun cluster workload first × AreLegalFrom cluster workload early (Answer region session ∷ middle)
-    inner = run_front first (Answer region session ∷ middle) outer.0
+      outer : IsLegalRun cluster workload before × AreLegalFrom cluster workload late (Submit other name ∷ last)
+      outer = run_front before (Submit other name ∷ last) run
 
-    i : Inv cluster workload early (order_of first)
-    i = legal_keeps inner.0
+      inner : IsLegalRun cluster workload first × AreLegalFrom cluster workload early (Answer region session ∷ middle)
+      inner = run_front first (Answer region session ∷ middle) outer.0
 
-    j : Inv cluster workload late (order_of before)
-    j = legal_keeps outer.0
+      i : Inv cluster workload early (order_of first)
+      i = legal_keeps inner.0
 
-    answered : Has (order_of first) a
-    answered = (i.ordered.executed a).1 (region, inner.1.0.regions, answered_done cluster early region (session_at workload.sessions early.places region session) a inner.1.0.allowed awaited)
+      j : Inv cluster workload late (order_of before)
+      j = legal_keeps outer.0
 
-    new : ¬ (Has (order_of before) b)
-    new h = next_unknown j other (all_get (WasSubmitted late) (order_of before) (order_known j) b h)
+      answered : Has (order_of first) a
+      answered = (i.ordered.executed a).1 (region, inner.1.0.regions, answered_done cluster early region (session_at workload.sessions early.places region session) a inner.1.0.allowed awaited)
+
+      new : ¬ (Has (order_of before) later_id)
+      new h = next_unknown j other (all_get (WasSubmitted late) (order_of before) (order_known j) later_id h)
 
 -- all regions agree
 pub legal_agree : {cluster : Cluster} {workload : Workload} {events : List Event} → IsLegalRun cluster workload events → Agree cluster workload events
@@ -332,9 +336,9 @@ legal_agree {cluster = cluster} {workload = workload} {events = events} run = re
   outcomes = outcomes_agree i rooted;
   tables = tables_agree i rooted;
   real_time = λ first region session middle other name last a split awaited executed.
-      let b : TxnId = upcoming_id (world_after cluster workload (first ++ Answer region session ∷ middle)) other in
+      let b : TxnId = later_id cluster workload first region session middle other name last in
       subst (λ l. StandsBefore (order_of l) a b) (sym split)
-      (real_time_at first region session middle other name last a (subst (IsLegalRun cluster workload) split run) awaited (subst (λ l. Has (order_of l) b) split executed));
+      (real_time_at cluster workload first region session middle other name last a (subst (IsLegalRun cluster workload) split run) awaited (subst (λ l. Has (order_of l) b) split executed));
   causes = causes_agree run;
   drained = λ region other lr lo d e alike. drained_agree i rooted region other lr lo d e alike;
 }

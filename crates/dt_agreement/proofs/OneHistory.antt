@@ -201,12 +201,15 @@ module _ {cluster : Cluster} {workload : Workload} {first : List Event} {region 
         ))))
 
 -- of a legal list, in which an execution stands
-pub legal_sees : {cluster : Cluster} {workload : Workload} (first : List Event) (region : ℕ) (id : TxnId) (last : List Event)
-    → IsLegalRun cluster workload (first ++ Execute region id ∷ last) → (x : Txn) → txn_of (world_after cluster workload first) id ≡ Some x
-    → AllIn (SeesMover cluster (world_after cluster workload (first ++ Execute region id ∷ last)) (order_of (first ++ Execute region id ∷ last))
-    (node_at (world_after cluster workload first) region).here.table id) x.access
-legal_sees {cluster = cluster} {workload = workload} first region id last run x found =
-    let whole : IsLegalRun cluster workload (first ++ Execute region id ∷ [] ++ last) = subst (IsLegalRun cluster workload) (sym (append_assoc first (Execute region id ∷ []) last)) run in
-    let before : IsLegalRun cluster workload first × IsLegal cluster workload (world_after cluster workload first) (Execute region id) = run_more (run_front (first ++ Execute region id ∷ []) last whole).0 in
-    subst (λ l. AllIn (SeesMover cluster (world_after cluster workload l) (order_of l) (node_at (world_after cluster workload first) region).here.table id) x.access)
-    (append_assoc first (Execute region id ∷ []) last) (sees_mover before.0 before.1 x found last whole)
+module _ (first : List Event) (region : ℕ) (id : TxnId) (last : List Event) where
+  -- the whole list
+  abbrev executing : List Event
+  executing = first ++ Execute region id ∷ last
+
+  pub legal_sees : {cluster : Cluster} {workload : Workload} → IsLegalRun cluster workload executing → (x : Txn) → txn_of (world_after cluster workload first) id ≡ Some x
+      → AllIn (SeesMover cluster (world_after cluster workload executing) (order_of executing) (node_at (world_after cluster workload first) region).here.table id) x.access
+  legal_sees {cluster = cluster} {workload = workload} run x found =
+      let whole : IsLegalRun cluster workload (first ++ Execute region id ∷ [] ++ last) = subst (IsLegalRun cluster workload) (sym (append_assoc first (Execute region id ∷ []) last)) run in
+      let before : IsLegalRun cluster workload first × IsLegal cluster workload (world_after cluster workload first) (Execute region id) = run_more (run_front (first ++ Execute region id ∷ []) last whole).0 in
+      subst (λ l. AllIn (SeesMover cluster (world_after cluster workload l) (order_of l) (node_at (world_after cluster workload first) region).here.table id) x.access)
+      (append_assoc first (Execute region id ∷ []) last) (sees_mover before.0 before.1 x found last whole)

@@ -100,8 +100,22 @@ module _ {cluster : Cluster} {workload : Workload} {w : World} {order : List Txn
     unfolding u
     formed = placed_well_formed i home source lh ls txn request.number request.request request.found
 
+    -- a log before, and after
+    abbrev log_was : ℕ → List Part
+    log_was h = log_at (logs_of w) h
+
+    abbrev log_now : ℕ → List Part
+    log_now h = log_at (logs_of u) h
+
+    -- the moves of an entry's unit, and its home before the first
+    abbrev moves : Access → List Moved
+    moves a = history_of cluster w order a.key
+
+    abbrev first_home : Access → ℕ
+    first_home a = opening_home cluster.regions cluster.homes (unit_of cluster.version a.key)
+
     -- a log: as before, or with the part at its end
-    log_cases : (h : ℕ) → (log_at (logs_of u) h ≡ log_at (logs_of w) h) ⊎ (log_at (logs_of u) h ≡ log_at (logs_of w) h ++ part_of txn home ∷ [])
+    log_cases : (h : ℕ) → (log_now h ≡ log_was h) ⊎ (log_now h ≡ log_was h ++ part_of txn home ∷ [])
     unfolding u
     log_cases h = by (either_nat h home) (either_le (suc home) (length (logs_of w)))
       where
@@ -120,34 +134,34 @@ module _ {cluster : Cluster} {workload : Workload} {w : World} {order : List Txn
         by (inl e) (inr n) = inl (is ∙ ap (λ l. log_at l h) (set_past (logs_of w) home longer_log (omega arith)))
 
     -- the mover before an entry's number has its part in the log of the entry's home
-    mover_there : (a : Access) (c : ℕ) (m : Moved) → slice_get (history_of cluster w order a.key) c ≡ Some m → IsClosed (logs_of w) m.by
-        → a.home ≡ home_after (opening_home cluster.regions cluster.homes (unit_of cluster.version a.key)) (take (suc c) (history_of cluster w order a.key)) → HasPart (log_at (logs_of w) a.home) m.by
+    mover_there : (a : Access) (c : ℕ) (m : Moved) → slice_get (moves a) c ≡ Some m → IsClosed (logs_of w) m.by
+        → a.home ≡ home_after (first_home a) (take (suc c) (moves a)) → HasPart (log_was a.home) m.by
     mover_there a c m e closed homed =
         let x : (y : Txn) × (txn_of w m.by ≡ Some y) × (y.body ≡ Move (unit_of cluster.version a.key) m.target) × IsValid cluster.procs cluster.version cluster.regions y = maker_found i a.key c m e in
-        let target : a.home ≡ m.target = homed ∙ home_after_last (opening_home cluster.regions cluster.homes (unit_of cluster.version a.key)) (history_of cluster w order a.key) c m e in
-        subst (λ h. HasPart (log_at (logs_of w) h) m.by) (sym target) (parts_of_closed i m.by x.0 m.target closed x.1 (home_of_target x.0 (unit_of cluster.version a.key) m.target x.2))
+        let target : a.home ≡ m.target = homed ∙ home_after_last (first_home a) (moves a) c m e in
+        subst (λ h. HasPart (log_was h) m.by) (sym target) (parts_of_closed i m.by x.0 m.target closed x.1 (home_of_target x.0 (unit_of cluster.version a.key) m.target x.2))
 
-    stands : (t : TxnId) (h : ℕ) (by : TxnId) → HasPart (log_at (logs_of w) h) by → (HasPart (log_at (logs_of w) h) t → StandsBefore (ids_of (log_at (logs_of w) h)) by t)
-        → HasPart (log_at (logs_of u) h) t → StandsBefore (ids_of (log_at (logs_of u) h)) by t
+    stands : (t : TxnId) (h : ℕ) (by : TxnId) → HasPart (log_was h) by → (HasPart (log_was h) t → StandsBefore (ids_of (log_was h)) by t)
+        → HasPart (log_now h) t → StandsBefore (ids_of (log_now h)) by t
     stands t h by there before now = at (log_cases h)
       where
-        last : HasPart (part_of txn home ∷ []) t → StandsBefore (ids_of (log_at (logs_of w) h) ++ txn.id ∷ []) by t
-        last (inl e) = subst (StandsBefore (ids_of (log_at (logs_of w) h) ++ txn.id ∷ []) by) e (has_before by txn.id (ids_of (log_at (logs_of w) h)) [] (any_image (λ y. y ≡ by) (λ p. p.id) (log_at (logs_of w) h) there))
+        last : HasPart (part_of txn home ∷ []) t → StandsBefore (ids_of (log_was h) ++ txn.id ∷ []) by t
+        last (inl e) = subst (StandsBefore (ids_of (log_was h) ++ txn.id ∷ []) by) e (has_before by txn.id (ids_of (log_was h)) [] (any_image (λ y. y ≡ by) (λ p. p.id) (log_was h) there))
         last (inr f) = absurd f
 
-        at : (log_at (logs_of u) h ≡ log_at (logs_of w) h) ⊎ (log_at (logs_of u) h ≡ log_at (logs_of w) h ++ part_of txn home ∷ []) → StandsBefore (ids_of (log_at (logs_of u) h)) by t
+        at : (log_now h ≡ log_was h) ⊎ (log_now h ≡ log_was h ++ part_of txn home ∷ []) → StandsBefore (ids_of (log_now h)) by t
         at (inl e) = subst (λ l. StandsBefore (ids_of l) by t) (sym e) (before (subst (λ l. HasPart l t) e now))
-        at (inr e) = subst (λ l. StandsBefore (ids_of l) by t) (sym e) (subst (λ l. StandsBefore l by t) (sym (map_push (λ p. p.id) (log_at (logs_of w) h) (part_of txn home)))
-            (elim (any_append (λ p. p.id ≡ t) (log_at (logs_of w) h) (part_of txn home ∷ []) (subst (λ l. HasPart l t) e now)) [
-              | inl k ↦ some_append_left _ (ids_of (log_at (logs_of w) h)) (txn.id ∷ []) (before k)
+        at (inr e) = subst (λ l. StandsBefore (ids_of l) by t) (sym e) (subst (λ l. StandsBefore l by t) (sym (map_push (λ p. p.id) (log_was h) (part_of txn home)))
+            (elim (any_append (λ p. p.id ≡ t) (log_was h) (part_of txn home ∷ []) (subst (λ l. HasPart l t) e now)) [
+              | inl k ↦ some_append_left _ (ids_of (log_was h)) (txn.id ∷ []) (before k)
               | inr k ↦ last k
             ]))
 
-    root_placed : (t : TxnId) (a : Access) → IsRooted cluster (logs_of w) (history_of cluster w order a.key) t a → IsRooted cluster (logs_of u) (history_of cluster w order a.key) t a
+    root_placed : (t : TxnId) (a : Access) → IsRooted cluster (logs_of w) (moves a) t a → IsRooted cluster (logs_of u) (moves a) t a
     root_placed t a r = record { home = r.home; root = go a.counter r.home r.root }
       where
-        go : (c : ℕ) → a.home ≡ home_after (opening_home cluster.regions cluster.homes (unit_of cluster.version a.key)) (take c (history_of cluster w order a.key)) → HasRoot (logs_of w) t a.home (history_of cluster w order a.key) c
-            → HasRoot (logs_of u) t a.home (history_of cluster w order a.key) c
+        go : (c : ℕ) → a.home ≡ home_after (first_home a) (take c (moves a)) → HasRoot (logs_of w) t a.home (moves a) c
+            → HasRoot (logs_of u) t a.home (moves a) c
         go zero e x = tt
         go (suc c) e x = (
           x.0,

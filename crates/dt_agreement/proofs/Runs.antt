@@ -85,9 +85,6 @@ firsts_more : (xs : List TxnId) (y : TxnId) → firsts (xs ++ y ∷ []) ≡ with
 firsts_more [] y = refl
 firsts_more (x ∷ xs) y = go (cases_Bool (is_among (firsts xs) y)) (cases_Bool (same_id x y)) (firsts_more xs y)
   where
-    rest : List TxnId
-    rest = without x (firsts xs)
-
     kept_here : same_id x y ≡ false → without x (y ∷ []) ≡ y ∷ []
     kept_here n = rw n refl
 
@@ -100,11 +97,14 @@ firsts_more (x ∷ xs) y = go (cases_Bool (is_among (firsts xs) y)) (cases_Bool 
     joined : without x (firsts xs ++ y ∷ []) ≡ without x (firsts xs) ++ without x (y ∷ [])
     joined = filter-append (λ other. not (same_id x other)) (firsts xs) (y ∷ [])
 
-    there : Has (x ∷ without x (firsts xs)) y → with_executed (x ∷ without x (firsts xs)) (Some y) ≡ x ∷ without x (firsts xs)
-    there h = rw (among_of_has (x ∷ without x (firsts xs)) y h) refl
+    now : List TxnId
+    now = x ∷ without x (firsts xs)
 
-    absent : ¬ (Has (x ∷ without x (firsts xs)) y) → with_executed (x ∷ without x (firsts xs)) (Some y) ≡ (x ∷ without x (firsts xs)) ++ y ∷ []
-    absent n = rw (not_among (x ∷ without x (firsts xs)) y n) refl
+    there : Has now y → with_executed now (Some y) ≡ now
+    there h = rw (among_of_has now y h) refl
+
+    absent : ¬ (Has now y) → with_executed now (Some y) ≡ now ++ y ∷ []
+    absent n = rw (not_among now y n) refl
 
     before : is_among (firsts xs) y ≡ true → firsts (xs ++ y ∷ []) ≡ with_executed (firsts xs) (Some y) → firsts (xs ++ y ∷ []) ≡ firsts xs
     before p ih = ih ∙ rw p refl
@@ -122,7 +122,7 @@ firsts_more (x ∷ xs) y = go (cases_Bool (is_among (firsts xs) y)) (cases_Bool 
     go (inr n) (inl q) ih = shorter (firsts xs ++ y ∷ []) (after n ih) ∙ ap (λ l. x ∷ l) (joined ∙ ap (λ l. without x (firsts xs) ++ l) (gone_here q) ∙ append-nil (without x (firsts xs))) ∙ sym (there (inl (id_of_test x y q)))
     go (inr n) (inr q) ih = shorter (firsts xs ++ y ∷ []) (after n ih) ∙ ap (λ l. x ∷ l) (joined ∙ ap (λ l. without x (firsts xs) ++ l) (kept_here q)) ∙ sym (absent new)
       where
-        new : ¬ (Has (x ∷ without x (firsts xs)) y)
+        new : ¬ (Has now y)
         new (inl e) = cc (test_of_id x y e)
         new (inr h) = cc (among_of_has (firsts xs) y (has_of_filtered (λ other. not (same_id x other)) (firsts xs) y h).0)
 
