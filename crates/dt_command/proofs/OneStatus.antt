@@ -132,6 +132,14 @@ no_file word n is spelled file =
     let colon : slice_get word 0 ≡ Some 58 = ap (λ (w : Bytes). slice_get w 0) (spelled ∙ two_bytes n is) in file.1 colon
 
 module _ (files : Files) where
+  -- a task's word, if it has one, names this cluster
+  abbrev Names : Option Bytes → Cluster → Type 0
+  Names word cluster = IsSomeAnd word (λ w. HasCluster (Some files) w cluster)
+
+  -- or the file of a cluster that has this fault
+  abbrev NamesFaulty : Option Bytes → ClusterFault → Type 0
+  NamesFaulty word fault = IsSomeAnd word (λ w. IsClusterFile w × HasFile (Some files) w (AreBadCluster fault))
+
   -- a word names one cluster
   same_cluster : (word : Bytes) (c d : Cluster) → HasCluster (Some files) word c → HasCluster (Some files) word d → c ≡ d
   same_cluster word c d (inl (m, few, is, made)) (inl (n, many, too, also)) =
@@ -142,18 +150,18 @@ module _ (files : Files) where
       let (bytes, a, b) = both_files files word (HoldCluster c) (HoldCluster d) one other in one_cluster bytes c d a.form b.form
 
   -- if a task has a word for a cluster, it has one cluster
-  same_named : (word : Option Bytes) (c d : Cluster) → IsSomeAnd word (λ w. HasCluster (Some files) w c) → IsSomeAnd word (λ w. HasCluster (Some files) w d) → c ≡ d
+  same_named : (word : Option Bytes) (c d : Cluster) → Names word c → Names word d → c ≡ d
   same_named None c d is also = absurd is
   same_named (Some word) c d is also = same_cluster word c d is also
 
   -- which is valid
-  valid_cluster : (word : Option Bytes) (c : Cluster) → IsSomeAnd word (λ w. HasCluster (Some files) w c) → IsValidCluster c
+  valid_cluster : (word : Option Bytes) (c : Cluster) → Names word c → IsValidCluster c
   valid_cluster None c is = absurd is
   valid_cluster (Some word) c (inl (n, (some, few), is, made)) = subst IsValidCluster (sym made) (builtin_valid n some few)
   valid_cluster (Some word) c (inr (file, content)) = cluster_valid content.0 c content.2.form
 
   -- the word of a cluster's file that has a fault names no cluster
-  no_named : (word : Option Bytes) (c : Cluster) (f : ClusterFault) → IsSomeAnd word (λ w. HasCluster (Some files) w c) → IsSomeAnd word (λ w. IsClusterFile w × HasFile (Some files) w (AreBadCluster f)) → ⊥
+  no_named : (word : Option Bytes) (c : Cluster) (f : ClusterFault) → Names word c → NamesFaulty word f → ⊥
   no_named None c f is bad = is
   no_named (Some word) c f (inl (m, few, is, made)) (file, bad) = no_file word m few is file
   no_named (Some word) c f (inr (_, one)) (file, bad) =
@@ -164,8 +172,7 @@ module _ (files : Files) where
       go bytes is (inr (short, has)) = no_cluster_fault bytes c f is.form has
 
   -- a cluster's file has one fault
-  one_named : (word : Option Bytes) (f g : ClusterFault) → IsSomeAnd word (λ w. IsClusterFile w × HasFile (Some files) w (AreBadCluster f))
-      → IsSomeAnd word (λ w. IsClusterFile w × HasFile (Some files) w (AreBadCluster g)) → f ≡ g
+  one_named : (word : Option Bytes) (f g : ClusterFault) → NamesFaulty word f → NamesFaulty word g → f ≡ g
   one_named None f g bad worse = absurd bad
   one_named (Some word) f g (file, bad) (also, worse) =
       let (bytes, a, b) = both_files files word (AreBadCluster f) (AreBadCluster g) bad worse in go bytes a b

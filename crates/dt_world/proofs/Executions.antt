@@ -57,45 +57,59 @@ executed_next cluster workload w order region id l i =
 
 -- one more event, in the order of first executions
 module _ (events : List Event) where
-  pub order_other : (i : ℕ) (event : Event) → slice_get events i ≡ Some event → executed_id event ≡ None → order_of (take (i + 1) events) ≡ order_of (take i events)
-  order_other i event e none = ap order_of (split_at events i event e).1 ∙ order_of_more (take i events) event ∙ ap (with_executed (order_of (take i events))) none
+  -- the order before an event
+  abbrev order_to : ℕ → List TxnId
+  order_to i = order_of (take i events)
 
-  pub order_again : (i region : ℕ) (id : TxnId) → slice_get events i ≡ Some (Execute region id) → is_among (order_of (take i events)) id ≡ true → order_of (take (i + 1) events) ≡ order_of (take i events)
-  order_again i region id e there = ap order_of (split_at events i (Execute region id) e).1 ∙ order_of_more (take i events) (Execute region id) ∙ ap (λ b. cond b (order_of (take i events)) (order_of (take i events) ++ id ∷ [])) there
+  pub order_other : (i : ℕ) (event : Event) → slice_get events i ≡ Some event → executed_id event ≡ None → order_to (i + 1) ≡ order_to i
+  order_other i event e none = ap order_of (split_at events i event e).1 ∙ order_of_more (take i events) event ∙ ap (with_executed (order_to i)) none
 
-  pub order_new : (i region : ℕ) (id : TxnId) → slice_get events i ≡ Some (Execute region id) → is_among (order_of (take i events)) id ≡ false → order_of (take (i + 1) events) ≡ order_of (take i events) ++ id ∷ []
-  order_new i region id e new = ap order_of (split_at events i (Execute region id) e).1 ∙ order_of_more (take i events) (Execute region id) ∙ ap (λ b. cond b (order_of (take i events)) (order_of (take i events) ++ id ∷ [])) new
+  pub order_again : (i region : ℕ) (id : TxnId) → slice_get events i ≡ Some (Execute region id) → is_among (order_to i) id ≡ true → order_to (i + 1) ≡ order_to i
+  order_again i region id e there = ap order_of (split_at events i (Execute region id) e).1 ∙ order_of_more (take i events) (Execute region id) ∙ ap (λ b. cond b (order_to i) (order_to i ++ id ∷ [])) there
+
+  pub order_new : (i region : ℕ) (id : TxnId) → slice_get events i ≡ Some (Execute region id) → is_among (order_to i) id ≡ false → order_to (i + 1) ≡ order_to i ++ id ∷ []
+  order_new i region id e new = ap order_of (split_at events i (Execute region id) e).1 ∙ order_of_more (take i events) (Execute region id) ∙ ap (λ b. cond b (order_to i) (order_to i ++ id ∷ [])) new
 
 module _ {cluster : Cluster} {workload : Workload} {events : List Event} (run : IsLegalRun cluster workload events) where
-  -- what was executed early is executed at the end
-  pub still_executed : (i region : ℕ) (id : TxnId) → IsExecutedAt (world_after cluster workload (take i events)) region id → IsExecutedAt (world_after cluster workload events) region id
-  still_executed i region id h =
-      let g : IsFront (node_at (world_after cluster workload (take i events)) region).here.done (node_at (world_after cluster workload events) region).here.done = (grows_to cluster workload events i region).done in
-      any_image (λ y. y ≡ id) (λ d. d.0) (node_at (world_after cluster workload events) region).here.done
-      (any_front (λ d. d.0 ≡ id) (node_at (world_after cluster workload (take i events)) region).here.done (node_at (world_after cluster workload events) region).here.done g
-      (any_of_image (λ y. y ≡ id) (λ d. d.0) (node_at (world_after cluster workload (take i events)) region).here.done h))
+  -- the world at the end
+  abbrev final : World
+  final = world_after cluster workload events
 
-  pub executed_at : (i region : ℕ) (id : TxnId) → slice_get events i ≡ Some (Execute region id) → (region < cluster.regions) × IsExecutedAt (world_after cluster workload events) region id
+  -- the world before an event
+  abbrev world_before : ℕ → World
+  world_before i = world_after cluster workload (take i events)
+
+  -- what was executed early is executed at the end
+  pub still_executed : (i region : ℕ) (id : TxnId) → IsExecutedAt (world_before i) region id → IsExecutedAt final region id
+  still_executed i region id h =
+      let early : List (TxnId × Outcome) = (node_at (world_before i) region).here.done in
+      let late : List (TxnId × Outcome) = (node_at final region).here.done in
+      let g : IsFront early late = (grows_to cluster workload events i region).done in
+      any_image (λ y. y ≡ id) (λ d. d.0) late (any_front (λ d. d.0 ≡ id) early late g (any_of_image (λ y. y ≡ id) (λ d. d.0) early h))
+
+  pub executed_at : (i region : ℕ) (id : TxnId) → slice_get events i ≡ Some (Execute region id) → (region < cluster.regions) × IsExecutedAt final region id
   executed_at i region id e =
-      let l : IsLegalRun cluster workload (take i events) × IsLegal cluster workload (world_after cluster workload (take i events)) (Execute region id) = legal_at run i (Execute region id) e in
-      let h : IsExecutedAt (next cluster workload (world_after cluster workload (take i events)) (Execute region id)) region id =
-      executed_next cluster workload (world_after cluster workload (take i events)) (order_of (take i events)) region id l.1 (legal_keeps l.0) in (
+      let l : IsLegalRun cluster workload (take i events) × IsLegal cluster workload (world_before i) (Execute region id) = legal_at run i (Execute region id) e in
+      let h : IsExecutedAt (next cluster workload (world_before i) (Execute region id)) region id =
+      executed_next cluster workload (world_before i) (order_of (take i events)) region id l.1 (legal_keeps l.0) in (
         l.1.regions,
         still_executed (i + 1) region id (subst (λ x. IsExecutedAt (world_after cluster workload x) region id) (sym (split_at events i (Execute region id) e).1)
             (subst (λ w. IsExecutedAt w region id) (sym (world_after_more cluster workload (take i events) (Execute region id))) h)),
       )
 
   -- the outcome that a region keeps is the serial one
-  pub serial_is : (region : ℕ) (id : TxnId) → region < cluster.regions → IsExecutedAt (world_after cluster workload events) region id
-      → (o : Outcome) × (outcome_at (world_after cluster workload events) region id ≡ Some o) × (serial_outcome cluster workload events id ≡ Some o)
-  serial_is region id lr h =
-      let o : (o : Outcome) × (outcome_at (world_after cluster workload events) region id ≡ Some o) = outcome_there (node_at (world_after cluster workload events) region).here.done id h in
-      (o.0, o.1, (legal_agree run).outcomes region id o.0 lr (lookup_has (node_at (world_after cluster workload events) region).here.done id o.0 o.1))
+  abbrev HasSerial : ℕ → TxnId → Type 0
+  HasSerial region id = (o : Outcome) × (outcome_at final region id ≡ Some o) × (serial_outcome cluster workload events id ≡ Some o)
 
-  pub ran_is : (region : ℕ) (id : TxnId) → region < cluster.regions → IsExecutedAt (world_after cluster workload events) region id → ran_at (world_after cluster workload events) region id ≡ ran_of cluster workload events id
+  pub serial_is : (region : ℕ) (id : TxnId) → region < cluster.regions → IsExecutedAt final region id → HasSerial region id
+  serial_is region id lr h =
+      let o : (o : Outcome) × (outcome_at final region id ≡ Some o) = outcome_there (node_at final region).here.done id h in
+      (o.0, o.1, (legal_agree run).outcomes region id o.0 lr (lookup_has (node_at final region).here.done id o.0 o.1))
+
+  pub ran_is : (region : ℕ) (id : TxnId) → region < cluster.regions → IsExecutedAt final region id → ran_at final region id ≡ ran_of cluster workload events id
   ran_is region id lr h =
-      let s : (o : Outcome) × (outcome_at (world_after cluster workload events) region id ≡ Some o) × (serial_outcome cluster workload events id ≡ Some o) = serial_is region id lr h in
-      ap (λ o. option_and_then (λ x. option_map (ran id x) o) (submission_of (world_after cluster workload events) id)) (s.1 ∙ sym s.2)
+      let s : HasSerial region id = serial_is region id lr h in
+      ap (λ o. option_and_then (λ x. option_map (ran id x) o) (submission_of final id)) (s.1 ∙ sym s.2)
 
   -- one more event, in the order of what is reported
 
@@ -105,45 +119,47 @@ module _ {cluster : Cluster} {workload : Workload} {events : List Event} (run : 
       one_more : (o : Option Ran) → o ≡ Some r → filter_map (λ (x : TxnId). o) (id ∷ []) ≡ r ∷ []
       one_more o is = rw is refl
 
-  pub rans_more : (i region : ℕ) (id : TxnId) (r : Ran) → slice_get events i ≡ Some (Execute region id) → is_among (order_of (take i events)) id ≡ false → ran_at (world_after cluster workload events) region id ≡ Some r
+  pub rans_more : (i region : ℕ) (id : TxnId) (r : Ran) → slice_get events i ≡ Some (Execute region id) → is_among (order_of (take i events)) id ≡ false → ran_at final region id ≡ Some r
       → filter_map (ran_of cluster workload events) (order_of (take (i + 1) events)) ≡ filter_map (ran_of cluster workload events) (order_of (take i events)) ++ r ∷ []
   rans_more i region id r e new is =
-      let x : (region < cluster.regions) × IsExecutedAt (world_after cluster workload events) region id = executed_at i region id e in
+      let x : (region < cluster.regions) × IsExecutedAt final region id = executed_at i region id e in
       ap (filter_map (ran_of cluster workload events)) (order_new events i region id e new) ∙ order_pushed (order_of (take i events)) id r (sym (ran_is region id x.0 x.1) ∙ is)
 
   -- some region has executed the attempt
   abbrev IsExecuted : TxnId → Type 0
-  IsExecuted id = (region : ℕ) × (region < cluster.regions) × IsExecutedAt (world_after cluster workload events) region id
+  IsExecuted id = (region : ℕ) × (region < cluster.regions) × IsExecutedAt final region id
+
+  -- what is reported of an attempt is the outcome that its regions keep
+  abbrev IsKept : Ran → Type 0
+  IsKept r = IsOutcomeOf cluster.regions final r.id r.outcome
 
   -- every reported outcome is the one that all regions keep that executed the attempt
-  pub outcomes_kept : AllIn (λ (r : Ran). IsOutcomeOf cluster.regions (world_after cluster workload events) r.id r.outcome) (rans_of cluster workload events)
+  pub outcomes_kept : AllIn IsKept (rans_of cluster workload events)
   outcomes_kept = each (order_of events) (all_put _ (order_of events) (λ id h. ((legal_keeps run).ordered.executed id).0 h))
     where
       is_outcome : (id : TxnId) (o : Outcome) → IsExecuted id → serial_outcome cluster workload events id ≡ Some o
-          → IsOutcomeOf cluster.regions (world_after cluster workload events) id o
+          → IsOutcomeOf cluster.regions final id o
       is_outcome id o x e =
-          let s : (p : Outcome) × (outcome_at (world_after cluster workload events) x.0 id ≡ Some p) × (serial_outcome cluster workload events id ≡ Some p) = serial_is x.0 id x.1 x.2 in
+          let s : HasSerial x.0 id = serial_is x.0 id x.1 x.2 in
           let both : Some s.0 ≡ Some o = sym s.2 ∙ e in
           let same : s.0 ≡ o = cc in
           record {
-            executed = (x.0, x.1, subst (λ p. Has (node_at (world_after cluster workload events) x.0).here.done (id, p)) same (lookup_has (node_at (world_after cluster workload events) x.0).here.done id s.0 s.1));
+            executed = (x.0, x.1, subst (λ p. Has (node_at final x.0).here.done (id, p)) same (lookup_has (node_at final x.0).here.done id s.0 s.1));
             kept = λ region other lr h. let twice : Some other ≡ Some o = sym ((legal_agree run).outcomes region id other lr h) ∙ e in cc;
           }
 
       here : (id : TxnId) → IsExecuted id
           → (s : Option Submission) (o : Option Outcome) → serial_outcome cluster workload events id ≡ o
-          → AllIn (λ (r : Ran). IsOutcomeOf cluster.regions (world_after cluster workload events) r.id r.outcome) (option_to_list (option_and_then (λ x. option_map (ran id x) o) s))
+          → AllIn IsKept (option_to_list (option_and_then (λ x. option_map (ran id x) o) s))
       here id x None o e = tt
       here id x (Some s) None e = tt
       here id x (Some s) (Some o) e = (is_outcome id o x e, tt)
 
-      each : (ids : List TxnId) → AllIn IsExecuted ids
-          → AllIn (λ (r : Ran). IsOutcomeOf cluster.regions (world_after cluster workload events) r.id r.outcome) (filter_map (ran_of cluster workload events) ids)
+      each : (ids : List TxnId) → AllIn IsExecuted ids → AllIn IsKept (filter_map (ran_of cluster workload events) ids)
       each [] a = tt
-      each (id ∷ ids) a = joined (ran_of cluster workload events id) (here id a.0 (submission_of (world_after cluster workload events) id) (serial_outcome cluster workload events id) refl) (each ids a.1)
+      each (id ∷ ids) a = joined (ran_of cluster workload events id) (here id a.0 (submission_of final id) (serial_outcome cluster workload events id) refl) (each ids a.1)
         where
-          joined : (o : Option Ran) → AllIn (λ (r : Ran). IsOutcomeOf cluster.regions (world_after cluster workload events) r.id r.outcome) (option_to_list o)
-              → AllIn (λ (r : Ran). IsOutcomeOf cluster.regions (world_after cluster workload events) r.id r.outcome) (filter_map (ran_of cluster workload events) ids)
-              → AllIn (λ (r : Ran). IsOutcomeOf cluster.regions (world_after cluster workload events) r.id r.outcome) (cons_option o (filter_map (ran_of cluster workload events) ids))
+          joined : (o : Option Ran) → AllIn IsKept (option_to_list o) → AllIn IsKept (filter_map (ran_of cluster workload events) ids)
+              → AllIn IsKept (cons_option o (filter_map (ran_of cluster workload events) ids))
           joined None a b = b
           joined (Some r) a b = (a.0, b)
