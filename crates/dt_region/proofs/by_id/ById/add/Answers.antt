@@ -1,17 +1,16 @@
-use Rattle.std.proofs.Common.{◌≡◌, ◌⊎◌, Some, length, map, sym, subst, ◌∙◌}
-use Rattle.std.specs.Map.{lookup}
+use Rattle.std.proofs.Common.{◌≡◌, length, map, Some, sym, subst, ◌∙◌}
 use Rattle.dt_lists.specs.Lists.{Has}
-use Rattle.dt_access.specs.Ids.{same_id}
+use Rattle.dt_index.specs.Index.{place_of}
 use Rattle.dt_region.specs.ByIdInner.{ByIdView}
-use Rattle.dt_region.specs.ByIdInner.{led_to}
-use Rattle.dt_region.proofs.ByIdLaws.{led_more}
+use Rattle.dt_region.proofs.ByIdLaws.{leads_more}
 use Rattle.dt_region.proofs.by_id.ById.add.Goals as goal
 
 pub invariant_of-self : goal.invariant_of-self
 invariant_of-self g c =
     let id = c.args.id in
-    let new : ¬ (Has (map (λ e. e.0) c.self.inside.entries.items) id) = subst (λ (v : ByIdView _). ¬ (Has (map (λ e. e.0) v.entries) id)) (sym c.self.view_is) c.requires.waiting in
-    let at : c.len-place.result ≡ length c.self.inside.entries.items = c.len-place.ensures ∙ c.self.inside.entries.ok.0 in
-    let here = subst (λ n. (led_to c.point.new.lists.items (λ list. list.items) id ≡ Some n) ⊎ (lookup (same_id id) c.point.new.others.entries ≡ Some n)) at c.point.ensures.led in
+    let entries = c.self.inside.entries.items in
+    let new : ¬ (Has (map (λ e. e.0) entries) id) = subst (λ (v : ByIdView _). ¬ (Has (map (λ e. e.0) v.entries) id)) (sym c.self.view_is) c.requires.waiting in
+    let at : c.len.result ≡ length entries = c.len.ensures ∙ c.self.inside.entries.ok.0 in
+    let here = subst (λ n. place_of c.put.new.self id ≡ Some n) at c.put.ensures.put in
     rw c.push_reserved.ensures.items
-    (led_more c.self.invariant id c.args.value new c.point.new.lists.items c.point.new.others.entries here c.point.ensures.lists c.point.ensures.others)
+    (leads_more c.self.inside.index c.put.new.self entries id c.args.value c.self.invariant new here c.put.ensures.others)
