@@ -11,7 +11,7 @@ use Rattle.std.specs.Cmp.Lexicographic.{slice_cmp, bytes_decides, texts_ties, na
 use Rattle.std.proofs.lemmas.Bool.{or_left, or_right}
 use Rattle.std.proofs.lemmas.Option.{slice_get_within}
 use Rattle.dt_lists.specs.Lists.{AnyIn, AllIn}
-use Rattle.dt_lists.proofs.Callers.{all_map, pairwise_length}
+use Rattle.dt_lists.proofs.Callers.{all_map, from_item, pairwise_length}
 use Rattle.dt_text.specs.declared.Value.{Value}
 use Rattle.dt_access.specs.Clash.{Bytes, is_whole}
 use Rattle.dt_access.specs.Orders.{KeyBefore, HasAscendingKeys}
@@ -29,7 +29,6 @@ use Rattle.dt_eval.specs.FrameInner.{IsItemWithin}
 use Rattle.dt_eval.specs.Meaning.{Fits, IsOfKind}
 use Rattle.dt_text.specs.Texts.{IsKey}
 use Rattle.dt_eval.specs.Keys.{HasKeys, IsFirstBadKey, distinct_uses, key_text, mode_of, names_given, names_of, use_of, placed_use, with_modes, with_use, keys_of}
-use Rattle.dt_eval.proofs.KeyFronts.{from_item}
 
 -- keys that compare as equal are the same
 pub same_by_cmp : (a b : Bytes) → slice_cmp nat_cmp a b ≡ Equal → a ≡ b

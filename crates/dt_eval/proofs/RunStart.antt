@@ -3,7 +3,7 @@ use Rattle.std.proofs.Common.{◌≡◌, ◌<◌, ◌+◌, ℕ, List, [], ◌∷
 use Rattle.std.proofs.Common.{refl, sym, ap, ap₂, subst, ◌∙◌, inl, inr}
 use Rattle.std.specs.Prelude.{Option}
 use Rattle.std.proofs.lemmas.List.{length-map, map-append}
-use Rattle.dt_lists.proofs.Callers.{all_more}
+use Rattle.dt_lists.proofs.Callers.{all_more, from_item}
 use Rattle.dt_lists.specs.Lists.{AnyIn, AllIn, Has, EachThen, Pairwise}
 use Rattle.dt_lists.proofs.Callers.{any_image, any_of_image, all_put, each_image}
 use Rattle.dt_text.specs.declared.Value.{Value}
@@ -22,7 +22,6 @@ use Rattle.dt_eval.specs.Data.{datum_of, sort_of_datum, keys_in, names_at}
 use Rattle.dt_eval.specs.FrameInner.{ArePlaces, IsItemWithin, IsSoundBlock}
 use Rattle.dt_eval.specs.Keys.{key_text, keys_of, names_given, names_of, use_of}
 use Rattle.dt_eval.specs.Meaning.{Fits, IsOfKind, unchanged}
-use Rattle.dt_eval.proofs.KeyFronts.{from_item}
 use Rattle.dt_eval.proofs.KeyLaws.{keys_ascend, keys_there}
 use Rattle.dt_eval.proofs.RowLaws.{opening_keys}
 
