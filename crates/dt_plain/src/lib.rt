@@ -16,4 +16,5 @@ mod plain;
 mod ranks;
 mod search;
 
-pub use plain::PlainSched;
+pub use complete::is_at;
+pub use plain::{PlainSched, empty_logs};

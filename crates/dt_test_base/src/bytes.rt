@@ -2,8 +2,7 @@
 ghost use Rattle.std.specs.Prelude.{◌<◌, ◌^◌, length};
 
 use crate::calls::repeated;
-use crate::parts::key_of;
-use crate::wrong;
+use dt_test_texts::{key_of, wrong};
 use dt_text::{
     Key, KeyError, Lines, Listed, Name, NoMemory, Str, Value, Word, put_i64, put_text, put_u64,
     put_value, read_i64, read_u32, words,

@@ -1,11 +1,11 @@
 //! Calls: which keys they use, and how they end.
 ghost use Rattle.std.specs.Prelude.{◌≡◌, IfOk, map};
 
-use crate::rows::{put_number, put_option};
-use crate::wrong;
+use crate::rows::put_option;
 use dt_access::{Keys, Mode, TryCopy, Writes};
 use dt_eval::{Args, Cause, Finish, Reads, Values, fits, keys_of, run};
 use dt_proc::{Proc, Procs, builtin_procs, read_procs};
+use dt_test_texts::{put_number, wrong};
 use dt_text::{Key, NoMemory, Str, Value, read_i64};
 use std::alloc::Global;
 use std::mem::forget;

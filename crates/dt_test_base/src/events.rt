@@ -1,7 +1,7 @@
 //! Events: what a file of them is read as, and what is printed of it.
 use crate::calls::repeated;
-use crate::wrong;
 use dt_events::{Event, EventsError, NumberedEvents, Stamped, put_event, read_events};
+use dt_test_texts::wrong;
 use std::alloc::Global;
 use std::mem::size_of;
 use std::test::Fail;

@@ -1,6 +1,6 @@
 //! Loss plans: which packets are lost, and which come twice.
-use crate::wrong;
 use dt_packet::{LossPlan, Verdict};
+use dt_test_texts::wrong;
 use std::test::Fail;
 
 /// A number to lose, a number to repeat, the number of a packet, and what becomes of it.

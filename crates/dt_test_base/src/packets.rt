@@ -1,8 +1,7 @@
 //! Packets: their copies.
-use crate::parts::key_of;
-use crate::wrong;
 use dt_access::{Access, Mode, TxnId, put_id};
 use dt_packet::Packet;
+use dt_test_texts::{key_of, wrong};
 use dt_text::{Common, Key, NoMemory, put_u64};
 use dt_txn::{Accesses, Body, Entries, Entry, Txn, Txns, part_at};
 use std::alloc::Global;

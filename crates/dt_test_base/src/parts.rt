@@ -3,23 +3,15 @@ ghost use Rattle.std.specs.Prelude.{IsTrue};
 ghost use Rattle.dt_lists.specs.Lists.{AllIn};
 ghost use Rattle.dt_access.specs.Orders.{KeyBefore};
 
-use crate::wrong;
 use dt_access::{
     Access, Homes, Ids, Keys, Mode, Part, TryCopy, TxnId, Writes, clash, granule, is_granule,
     put_id, read_id,
 };
+use dt_test_texts::{key_of, wrong};
 use dt_text::{Key, Value};
 use std::alloc::Global;
 use std::cmp::Ordering;
 use std::test::Fail;
-
-/// A short key.
-pub(crate) fn key_of(alloc: Global, bytes: &[u8]) -> Result<Key, Fail> {
-    if bytes.len() > Key::LONGEST {
-        return Err(Fail::from("a key has few bytes"));
-    }
-    Ok(Key::read(alloc, bytes)?)
-}
 
 /// Whether the key is greater than all of the keys.
 fn is_above(keys: &[(Key, Mode)], key: &Key) -> bool

@@ -1,6 +1,7 @@
 //! Trees as texts: each operation stands in brackets, and what is named is shown by its number.
 
 use dt_proc::{Expr, Give, KeyDecl, KeyItem, Kind, Op, Proc, ProcError, Procs, Stmt};
+use dt_test_texts::put_number;
 use dt_text::{NoMemory, put_i64, put_text, put_u64};
 use std::alloc::Global;
 
@@ -59,8 +60,8 @@ fn put_key(alloc: Global, out: &mut Vec<u8>, key: &KeyDecl) -> Result<(), NoMemo
 fn put_item(alloc: Global, out: &mut Vec<u8>, item: &KeyItem) -> Result<(), NoMemory> {
     match item {
         KeyItem::Text(text) => put_text(alloc, out, text),
-        KeyItem::Param(param) => put_number(alloc, out, b"p", *param),
-        KeyItem::Show(param) => put_number(alloc, out, b"s", *param),
+        KeyItem::Param(param) => put_number(alloc, out, b"p", u64::from(*param)),
+        KeyItem::Show(param) => put_number(alloc, out, b"s", u64::from(*param)),
     }
 }
 
@@ -116,10 +117,10 @@ fn put_plain(alloc: Global, out: &mut Vec<u8>, stmt: &Stmt) -> Result<(), NoMemo
     match stmt {
         Stmt::Let(value) => put_word(alloc, out, b"let ", value)?,
         Stmt::Set(key, value) => {
-            put_number(alloc, out, b"set ", *key)?;
+            put_number(alloc, out, b"set ", u64::from(*key))?;
             put_word(alloc, out, b" ", value)?;
         }
-        Stmt::Clear(key) => put_number(alloc, out, b"clear ", *key)?,
+        Stmt::Clear(key) => put_number(alloc, out, b"clear ", u64::from(*key))?,
         Stmt::If(_, _, _) => return put(out, b"if"),
         Stmt::Abort(text) => {
             put(out, b"abort ")?;
@@ -135,7 +136,7 @@ fn put_gives(alloc: Global, out: &mut Vec<u8>, gives: &[Give]) -> Result<(), NoM
     for (i, give) in gives.iter().enumerate() {
         separate(out, i, b", ")?;
         match give {
-            Give::Row(key) => put_number(alloc, out, b"row", *key)?,
+            Give::Row(key) => put_number(alloc, out, b"row", u64::from(*key))?,
             Give::Value(value) => put_expr(alloc, out, value)?,
         }
     }
@@ -148,10 +149,10 @@ fn put_expr(alloc: Global, out: &mut Vec<u8>, expr: &Expr) -> Result<(), NoMemor
         Expr::Text(text) => put_text(alloc, out, text.get()),
         Expr::Bool(true) => put(out, b"true"),
         Expr::Bool(false) => put(out, b"false"),
-        Expr::Var(variable) => put_number(alloc, out, b"v", *variable),
-        Expr::IntOf(key) => put_number(alloc, out, b"i", *key),
-        Expr::TextOf(key) => put_number(alloc, out, b"t", *key),
-        Expr::Has(key) => put_number(alloc, out, b"h", *key),
+        Expr::Var(variable) => put_number(alloc, out, b"v", u64::from(*variable)),
+        Expr::IntOf(key) => put_number(alloc, out, b"i", u64::from(*key)),
+        Expr::TextOf(key) => put_number(alloc, out, b"t", u64::from(*key)),
+        Expr::Has(key) => put_number(alloc, out, b"h", u64::from(*key)),
         Expr::Len(text) => {
             put(out, b"len(")?;
             put_expr(alloc, out, text)?;
@@ -199,11 +200,6 @@ fn op_word(op: Op) -> &'static [u8] {
         Op::Div => b" / ",
         Op::Rem => b" % ",
     }
-}
-
-fn put_number(alloc: Global, out: &mut Vec<u8>, front: &[u8], number: u32) -> Result<(), NoMemory> {
-    put(out, front)?;
-    put_u64(alloc, out, number as u64)
 }
 
 /// What stands in front of a member of a list that is not the first.

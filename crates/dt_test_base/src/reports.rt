@@ -1,11 +1,10 @@
 //! Reports: the words of each outcome, and reports of hundreds of lines.
-use crate::parts::key_of;
-use crate::wrong;
 use dt_access::TxnId;
 use dt_eval::{Cause, Values};
 use dt_report::{EventList, Ran, Rans, Replies, Reply, Report, Tables, print};
 use dt_table::{Shown, ShownList};
-use dt_text::{Common, Name, NoMemory, Str, Value};
+use dt_test_texts::{key_of, name_of, wrong};
+use dt_text::{Common, NoMemory, Str, Value};
 use dt_txn::Outcome;
 use std::alloc::Global;
 use std::mem::forget;
@@ -27,14 +26,6 @@ fn text_of(alloc: Global, bytes: &[u8]) -> Result<Str, Fail> {
         return Err(Fail::from("a text has few bytes"));
     }
     Ok(Str::read(alloc, bytes)?)
-}
-
-/// The name of a few bytes.
-fn name_of(alloc: Global, bytes: &[u8]) -> Result<Name, Fail> {
-    if bytes.len() > Name::LONGEST {
-        return Err(Fail::from("a name has few bytes"));
-    }
-    Ok(Name::read(alloc, bytes)?)
 }
 
 /// An outcome of a test.

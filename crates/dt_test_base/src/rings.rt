@@ -2,9 +2,9 @@
 ghost use Rattle.dt_ring.specs.Rings.{AreEnds, SameIn, SameOut};
 
 use crate::ends::{put, stamped, take};
-use crate::wrong;
 use dt_packet::{Inlet, Outlet};
 use dt_ring::{RingIn, RingOut, beside, ring};
+use dt_test_texts::wrong;
 use dt_text::{NoMemory, put_u64};
 use std::alloc::Global;
 use std::test::Fail;

@@ -1,10 +1,9 @@
 //! Rows: their values, homes and moves after changes, and which of them are shown.
 
-use crate::parts::key_of;
-use crate::wrong;
 use dt_access::{TxnId, Writes, is_unit};
 use dt_table::{Effect, Shown, Table, UnitName};
-use dt_text::{Key, NoMemory, Value, put_u64, put_value};
+use dt_test_texts::{key_of, put_all, put_number, wrong};
+use dt_text::{Key, NoMemory, Value, put_value};
 use std::alloc::Global;
 use std::mem::forget;
 use std::test::Fail;
@@ -82,25 +81,6 @@ pub(crate) fn put_option(
         None => out.extend_from_slice(b"none")?,
     }
     Ok(())
-}
-
-/// Adds these pieces.
-pub(crate) fn put_all(out: &mut Vec<u8>, pieces: &[&[u8]]) -> Result<(), NoMemory> {
-    for piece in pieces {
-        out.extend_from_slice(*piece)?;
-    }
-    Ok(())
-}
-
-/// Adds a few bytes and a number behind them.
-pub(crate) fn put_number(
-    alloc: Global,
-    out: &mut Vec<u8>,
-    before: &[u8],
-    number: u64,
-) -> Result<(), NoMemory> {
-    out.extend_from_slice(before)?;
-    put_u64(alloc, out, number)
 }
 
 /// Adds who made a move, or `-`.

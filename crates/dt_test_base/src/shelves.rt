@@ -1,7 +1,7 @@
 //! Shelves: what is put on them, and what is taken from them.
 use crate::ends::{put, stamped, take};
-use crate::wrong;
 use dt_packet::{Inlet, Outlet, Shelf};
+use dt_test_texts::wrong;
 use std::alloc::Global;
 use std::test::Fail;
 

@@ -1,8 +1,8 @@
 //! Texts of procedures: what they mean, or the first fault in them.
 use crate::calls::repeated;
 use crate::printed::{put_body, put_fault, put_procs};
-use crate::wrong;
 use dt_proc::{ProcError, Procs, builtin_procs, read_procs};
+use dt_test_texts::wrong;
 use dt_text::NoMemory;
 use std::alloc::Global;
 use std::mem::forget;

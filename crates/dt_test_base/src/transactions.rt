@@ -4,12 +4,11 @@
 ghost use Rattle.std.specs.Prelude.{IfOk};
 ghost use Rattle.dt_txn.specs.Transaction.{CanRun, HasItsUses};
 
-use crate::parts::key_of;
-use crate::rows::{move_to, opened, put_all, put_number, put_option};
-use crate::wrong;
+use crate::rows::{move_to, opened, put_option};
 use dt_access::{Mode, Part, TxnId, put_id};
 use dt_proc::{Procs, builtin_procs};
 use dt_table::{Effect, Table};
+use dt_test_texts::{key_of, put_all, put_number, wrong};
 use dt_text::{Key, NoMemory};
 use dt_txn::{
     Body, Outcome, Seen, Txn, annotate, execute, execute_seen, homes, part_at, parts, see,

@@ -1,7 +1,8 @@
 //! Cluster files: the cluster that each is, or its first fault.
-use crate::pieces::{put_all, put_number, put_numbers, wrong};
+use crate::pieces::put_numbers;
 use dt_cluster::{Cluster, builtin};
 use dt_cluster_file::{ClusterCause, ClusterError, ClusterPlace, Label, read_cluster};
+use dt_test_texts::{put_all, put_number, wrong};
 use dt_text::{Key, NoMemory, Value, put_value};
 use std::alloc::Global;
 use std::mem::forget;

@@ -4,8 +4,8 @@ ghost use Rattle.dt_outside.specs.Faults.{Rose};
 ghost use Rattle.dt_outside.specs.Folder.{Files};
 
 use crate::devices::Narrow;
-use crate::pieces::wrong;
 use dt_outside::{DiskFolder, Folder, LoadError, MemoryFolder, read_within};
+use dt_test_texts::wrong;
 use std::alloc::Global;
 use std::mem::forget;
 use std::test::Fail;

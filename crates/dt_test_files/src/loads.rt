@@ -2,10 +2,11 @@
 //! in another language, from the description alone.
 
 use crate::clusters::put_row;
-use crate::pieces::{put_number, put_numbers, wrong};
+use crate::pieces::put_numbers;
 use crate::workloads::put_session;
 use dt_cluster::Cluster;
 use dt_gen::generate;
+use dt_test_texts::{put_number, wrong};
 use dt_text::NoMemory;
 use dt_workload::Workload;
 use std::alloc::Global;

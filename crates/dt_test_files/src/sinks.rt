@@ -3,8 +3,8 @@ ghost use Rattle.std.specs.Prelude.{◌++◌};
 ghost use Rattle.dt_outside.specs.Sink.{Writes};
 
 use crate::devices::Narrow;
-use crate::pieces::wrong;
 use dt_outside::{Failed, MemorySink, Sink, StdSink, write_all};
+use dt_test_texts::wrong;
 use std::alloc::Global;
 use std::test::Fail;
 

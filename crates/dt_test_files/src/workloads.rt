@@ -1,11 +1,11 @@
 //! Workload files: the sessions of each, or its first fault.
 
-ghost use Rattle.std.specs.Prelude.{IfOk};
 ghost use Rattle.dt_cluster.specs.Valid.{IsValidCluster};
 
-use crate::pieces::{is_long, put_all, put_number, wrong};
+use crate::pieces::is_long;
 use dt_cluster::{Cluster, builtin};
-use dt_cluster_file::{ClusterError, read_cluster};
+use dt_test_inputs::cluster_of;
+use dt_test_texts::{put_all, put_number, wrong};
 use dt_text::{NoMemory, Value, put_value};
 use dt_workload::{Ranked, Session, Wanted, Workload, WorkloadError, read_workload};
 use std::alloc::Global;
@@ -111,20 +111,6 @@ fn told_in(alloc: Global, cluster: &Cluster, file: &[u8]) -> Result<Vec<u8>, Fai
             Ok(fault.as_bytes().to_vec(alloc)?)
         }
         Err(WorkloadError::NoMemory) => Err(Fail::from(NoMemory)),
-    }
-}
-
-/// The cluster of a file.
-fn cluster_of(alloc: Global, file: &[u8]) -> Result<Cluster, Fail>
-    ensures { IfOk result IsValidCluster }
-{
-    if file.len() > MANY {
-        return Err(Fail::from("a test reads few bytes"));
-    }
-    match read_cluster(alloc, file) {
-        Ok(cluster) => Ok(cluster),
-        Err(ClusterError::Fault(_)) => Err(Fail::from("the file is a cluster")),
-        Err(ClusterError::NoMemory) => Err(Fail::from(NoMemory)),
     }
 }
 

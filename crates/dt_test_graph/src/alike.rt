@@ -1,12 +1,12 @@
 //! The scheduler with queues beside the plain one: after each call both answer alike, and what they have to where that is known.
-ghost use Rattle.std.specs.Prelude.{◌≡◌, [], IfOk, replicate};
+ghost use Rattle.std.specs.Prelude.{◌≡◌, [], replicate};
 
 use crate::calls::{Call, make, ready};
 use dt_access::{Part, TxnId, are_ascending, put_id};
 use dt_graph::QueueSched;
-use dt_plain::PlainSched;
+use dt_plain::{PlainSched, empty_logs};
 use dt_sched::Scheduler;
-use dt_text::{Listed, NoMemory};
+use dt_text::NoMemory;
 use std::alloc::Global;
 use std::mem::forget;
 use std::test::Fail;
@@ -185,17 +185,6 @@ fn answer(
         ),
         Then::Asks(choices) => same_classes(alloc, plain, queue, ids, choices),
     }
-}
-
-/// An empty log for each region.
-fn empty_logs(alloc: Global, regions: u8) -> Result<Vec<Listed<Part>>, NoMemory>
-    ensures { IfOk result (λ logs. logs.items ≡ replicate regions []) }
-{
-    let mut logs = Vec::new(alloc);
-    for _region in 0..regions {
-        logs.push(Listed::new(alloc))?;
-    }
-    Ok(logs)
 }
 
 /// Whether both answer alike after each call, and what they have to.

@@ -2,8 +2,8 @@
 ghost use Rattle.std.specs.Prelude.{◌≡◌, ◌<◌, IfOk};
 ghost use Rattle.dt_lists.specs.Lists.{AllIn};
 
-use crate::wrong;
 use dt_class::Adj;
+use dt_test_texts::wrong;
 use std::alloc::Global;
 use std::test::Fail;
 

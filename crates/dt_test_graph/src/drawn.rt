@@ -4,8 +4,8 @@ ghost use Rattle.std.specs.Prelude.{◌<◌};
 use crate::alike::{Run, Step, Then, are_alike};
 use crate::calls::Call;
 use crate::parts::{Use, Wide};
-use crate::wrong;
 use dt_access::{Mode, TxnId};
+use dt_test_texts::wrong;
 use std::alloc::Global;
 use std::test::Fail;
 

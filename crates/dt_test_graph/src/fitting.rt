@@ -1,54 +1,13 @@
 //! Whether a part may be inserted after those that were.
-ghost use Rattle.std.specs.Prelude.{◌≡◌, ◌<◌, ◌↔◌, IsTrue};
-ghost use Rattle.dt_lists.specs.Lists.{AllIn, Has};
-ghost use Rattle.dt_sched.specs.Views.{HasPart, log_at};
+ghost use Rattle.std.specs.Prelude.{◌≡◌, ◌↔◌, IsTrue};
+ghost use Rattle.dt_lists.specs.Lists.{AllIn};
 ghost use Rattle.dt_sched.specs.Sched.{CanInsert};
 ghost use Rattle.dt_test_graph.specs.PartConditions.{IsAlike, IsShort};
 
-use dt_access::{Part, TxnId};
+use dt_access::Part;
+use dt_plain::is_at;
+use dt_test_texts::{are_below, has_home};
 use dt_text::Listed;
-
-fn has_part(log: &[Part], id: TxnId) -> bool
-    ensures { IsTrue result ↔ HasPart log.now id }
-{
-    for part in log {
-        if part.id == id {
-            return true;
-        }
-    }
-    false
-}
-
-fn is_at(logs: &[Listed<Part>], home: u8, id: TxnId) -> bool
-    ensures { IsTrue result ↔ HasPart (log_at logs.now home) id }
-{
-    match logs.get(home as usize) {
-        Some(log) => has_part(log.as_slice(), id),
-        None => false,
-    }
-}
-
-fn has_home(homes: &[u8], home: u8) -> bool
-    ensures { IsTrue result ↔ Has homes.now home }
-{
-    for other in homes {
-        if *other == home {
-            return true;
-        }
-    }
-    false
-}
-
-fn are_below(homes: &[u8], count: usize) -> bool
-    ensures { IsTrue result ↔ AllIn (λ home. home < count) homes.now }
-{
-    for home in homes {
-        if *home as usize >= count {
-            return false;
-        }
-    }
-    true
-}
 
 fn same_homes(left: &[u8], right: &[u8]) -> bool
     ensures { IsTrue result ↔ (left.now ≡ right.now) }

@@ -6,15 +6,6 @@
 #![tactic(auto)]
 
 #[cfg(test)]
-use std::test::Fail;
-
-/// The failure of a table at a row.
-#[cfg(test)]
-fn wrong(row: usize) -> Fail {
-    Fail::new(format_args!("row {row}"))
-}
-
-#[cfg(test)]
 mod alike;
 #[cfg(test)]
 mod calls;

@@ -1,6 +1,6 @@
 //! Parts, as tests write them down.
-use crate::queues::key_of;
 use dt_access::{Homes, Keys, Mode, Part, TxnId};
+use dt_test_texts::key_of;
 use dt_text::Key;
 use std::alloc::Global;
 use std::test::Fail;

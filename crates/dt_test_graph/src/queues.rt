@@ -3,24 +3,15 @@ ghost use Rattle.std.specs.Prelude.{IfOk, OnOk};
 ghost use Rattle.dt_lists.specs.Lists.{AllIn};
 ghost use Rattle.dt_queue.specs.Queues.{IsQueued};
 
-use crate::wrong;
 use dt_access::Mode;
 use dt_queue::Queues;
-use dt_text::Key;
+use dt_test_texts::{key_of, wrong};
 use std::alloc::Global;
 use std::mem::forget;
 use std::test::Fail;
 
 /// What an entry is pushed with: its home, its key, its mode and its vertex.
 type Use = (u8, &'static [u8], Mode, u32);
-
-/// The key of a few bytes.
-pub fn key_of(alloc: Global, bytes: &[u8]) -> Result<Key, Fail> {
-    if bytes.len() > Key::LONGEST {
-        return Err(Fail::from("a key has few bytes"));
-    }
-    Ok(Key::read(alloc, bytes)?)
-}
 
 /// Pushes an entry, and adds its slot to those of the others.
 fn push(alloc: Global, queues: &mut Queues, slots: &mut Vec<usize>, entry: &Use) -> Result<(), Fail>

@@ -1,10 +1,10 @@
 //! Short runs, call by call at both schedulers: what is ready after each call, and what may be resolved.
 use crate::alike::{Run, Step, Then, are_alike};
 use crate::calls::Call;
-use crate::wrong;
 use Call::{Execute, Insert, Resolve};
 use Then::Tells;
 use dt_access::{Mode, TxnId};
+use dt_test_texts::wrong;
 use std::alloc::Global;
 use std::test::Fail;
 

@@ -1,6 +1,6 @@
 //! Clusters and their workloads, and what is to hold of their runs. Nodes, clusters and workloads are left to the end of the process: that
 //! they may be dropped would be proved in each function that owns one.
-ghost use Rattle.std.specs.Prelude.{◌≡◌, false, IfOk};
+ghost use Rattle.std.specs.Prelude.{◌≡◌, false};
 ghost use Rattle.dt_cluster.specs.Valid.{IsValidCluster};
 ghost use Rattle.dt_workload.specs.Valid.{IsValidWorkload};
 
@@ -8,48 +8,15 @@ use crate::generated::counted;
 use crate::phases::phases_of;
 use crate::workers::{meet_in_phase, meet_in_run};
 use dt_cluster::Cluster;
-use dt_cluster_file::{ClusterError, read_cluster};
 use dt_graph::QueueSched;
 use dt_run::Nodes;
-use dt_text::NoMemory;
-use dt_workload::{Workload, WorkloadError, read_workload};
+use dt_test_inputs::{cluster_of, workload_of};
+use dt_workload::Workload;
 use std::alloc::Global;
 use std::mem::forget;
 use std::sync::Wait;
 use std::test::Fail;
 use std::thread::Threads;
-
-/// More bytes than a test has.
-const MANY: usize = 1000000;
-
-/// The cluster of a file.
-pub fn cluster_of(alloc: Global, file: &[u8]) -> Result<Cluster, Fail>
-    ensures { IfOk result IsValidCluster }
-{
-    if file.len() >= MANY {
-        return Err(Fail::from("a test has few bytes"));
-    }
-    match read_cluster(alloc, file) {
-        Ok(cluster) => Ok(cluster),
-        Err(ClusterError::Fault(_)) => Err(Fail::from("the file is a cluster")),
-        Err(ClusterError::NoMemory) => Err(NoMemory.into()),
-    }
-}
-
-/// The workload of a file.
-pub fn workload_of(alloc: Global, cluster: &Cluster, file: &[u8]) -> Result<Workload, Fail>
-    requires { IsValidCluster cluster.now }
-    ensures { IfOk result (IsValidWorkload cluster.now) }
-{
-    if file.len() >= MANY {
-        return Err(Fail::from("a test has few bytes"));
-    }
-    match read_workload(alloc, file, cluster) {
-        Ok(workload) => Ok(workload),
-        Err(WorkloadError::Fault(_, _)) => Err(Fail::from("the file is a workload")),
-        Err(WorkloadError::NoMemory) => Err(NoMemory.into()),
-    }
-}
 
 /// What is to hold of a run.
 #[derive(Clone, Copy)]

@@ -1,8 +1,8 @@
 //! Whole calls of the program over a folder and sinks in memory.
-use crate::wrong;
 use dt_cluster_file::{ClusterCause, ClusterFault, ClusterPlace};
 use dt_command::{EventsCause, Status, detock, detock_alone, threaded_words};
 use dt_outside::{MemoryFolder, MemorySink};
+use dt_test_texts::{put_all, wrong};
 use dt_text::{NoMemory, put_u64};
 use dt_workload::WorkloadCause;
 use std::alloc::Global;
@@ -49,14 +49,6 @@ fn folder_of(
 ) -> Result<MemoryFolder, NoMemory> {
     let failing = Vec::from_slice(alloc, failing)?;
     Ok(MemoryFolder::new(files_of(alloc, files)?, failing))
-}
-
-/// Adds these pieces.
-fn put_all(out: &mut Vec<u8>, pieces: &[&[u8]]) -> Result<(), NoMemory> {
-    for piece in pieces {
-        out.extend_from_slice(*piece)?;
-    }
-    Ok(())
 }
 
 /// These pieces, one behind the other.

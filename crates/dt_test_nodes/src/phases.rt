@@ -2,10 +2,10 @@
 ghost use Rattle.std.specs.Prelude.{◌≡◌, false};
 
 use crate::cases::{Want, holds_in};
-use crate::wrong;
 use dt_graph::QueueSched;
 use dt_lock::NoGate;
 use dt_run::Nodes;
+use dt_test_texts::wrong;
 use std::alloc::Global;
 use std::sync::Wait;
 use std::test::Fail;

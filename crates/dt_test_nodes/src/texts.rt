@@ -5,13 +5,13 @@ ghost use Rattle.dt_workload.specs.Valid.{IsValidWorkload};
 ghost use Rattle.dt_run.specs.EndOfRun.{IsAllDone};
 ghost use Rattle.dt_run.specs.Silence.{made_in};
 
-use crate::cases::{cluster_of, workload_of};
 use crate::phases::TWO;
 use dt_cluster::Cluster;
 use dt_graph::QueueSched;
 use dt_lock::NoGate;
 use dt_report::print;
 use dt_run::{Nodes, run_to_end};
+use dt_test_inputs::{cluster_of, workload_of};
 use dt_workload::Workload;
 use std::alloc::Global;
 use std::mem::forget;

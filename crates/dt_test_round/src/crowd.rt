@@ -2,11 +2,11 @@
 
 use crate::feeding::Row;
 use crate::rounds::{GET, RoundReport, parts, told_of};
-use crate::wrong;
 use dt_access::TxnId;
 use dt_graph::QueueSched;
 use dt_lock::Gate;
 use dt_proc::{Procs, builtin_procs};
+use dt_test_texts::wrong;
 use std::alloc::Global;
 use std::mem::forget;
 use std::sync::Wait;

@@ -1,6 +1,6 @@
 //! How parts come to a region, one after another: those of its own log it places itself, the others are delivered.
 ghost use Rattle.std.specs.Prelude.{◌≡◌, ◌+◌, ◌<◌, ◌≤◌, ◌↔◌, ◌∷◌, [], false, length, IsTrue, IfOk, OnOk};
-ghost use Rattle.dt_lists.specs.Lists.{AllIn, Has};
+ghost use Rattle.dt_lists.specs.Lists.{Has};
 ghost use Rattle.dt_sched.specs.Views.{HasPart, log_at};
 ghost use Rattle.dt_txn.specs.Transaction.{IsValid, homes_of, part_of};
 ghost use Rattle.dt_region.specs.Conditions.{Agrees, HoldsValid};
@@ -12,6 +12,7 @@ use dt_log::{Log, Taken};
 use dt_proc::Procs;
 use dt_region::Region;
 use dt_sched::Scheduler;
+use dt_test_texts::{are_below, has_home};
 use dt_text::Common;
 use dt_txn::{Body, Entry, Txn, annotate, homes, part_at};
 use std::alloc::Global;
@@ -19,28 +20,6 @@ use std::test::Fail;
 
 /// A part: its home, the sequence number and the region of its transaction, and the call that this makes.
 pub type Row<'a> = (u8, u32, u8, Call<'a>);
-
-fn are_below(homes: &[u8], count: u8) -> bool
-    ensures { IsTrue result ↔ AllIn (λ home. home < count) homes.now }
-{
-    for home in homes {
-        if *home >= count {
-            return false;
-        }
-    }
-    true
-}
-
-fn has_home(homes: &[u8], home: u8) -> bool
-    ensures { IsTrue result ↔ Has homes.now home }
-{
-    for other in homes {
-        if *other == home {
-            return true;
-        }
-    }
-    false
-}
 
 fn is_of(part: &Part, id: TxnId) -> bool
     ensures { IsTrue result ↔ (part.now.id ≡ id) }
@@ -82,7 +61,7 @@ fn txn_of<S: Scheduler>(
         procs,
         region.table(),
     )?;
-    if !are_below(homes(alloc, &txn)?.as_slice(), region.regions()) {
+    if !are_below(homes(alloc, &txn)?.as_slice(), region.regions() as usize) {
         return Err(Fail::from("the homes are regions"));
     }
     Ok(txn)

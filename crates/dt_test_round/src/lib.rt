@@ -6,14 +6,6 @@
 mod meeting;
 
 pub use meeting::Meeting;
-#[cfg(test)]
-use std::test::Fail;
-
-/// The failure of a table at a row.
-#[cfg(test)]
-fn wrong(row: usize) -> Fail {
-    Fail::new(format_args!("row {row}"))
-}
 
 #[cfg(test)]
 mod backlog;

@@ -10,7 +10,6 @@ use crate::calls::Call;
 use crate::feeding::{Row, feed_all};
 use crate::outcomes::put_outcomes;
 use crate::requests::{Submitted, submit_all};
-use crate::wrong;
 use dt_access::TxnId;
 use dt_events::{Stamped, put_event};
 use dt_graph::QueueSched;
@@ -20,7 +19,8 @@ use dt_proc::{Procs, builtin_procs};
 use dt_region::{Alone, Region, Rounds};
 use dt_sched::Scheduler;
 use dt_table::Table;
-use dt_text::{Key, Value, put_u64};
+use dt_test_texts::{exact_key, wrong};
+use dt_text::{Value, put_u64};
 use std::alloc::Global;
 use std::mem::forget;
 use std::sync::Wait;
@@ -72,24 +72,14 @@ pub enum RoundReport {
     Outcomes,
 }
 
-/// A short key.
-fn key_of(alloc: Global, bytes: &[u8]) -> Result<Key, Fail>
-    ensures { IfOk result (λ key. key ≡ bytes.now) }
-{
-    if bytes.len() > Key::LONGEST {
-        return Err(Fail::from("a key has few bytes"));
-    }
-    Ok(Key::read(alloc, bytes)?)
-}
-
 /// A table with the rows `a` and `b`.
 fn opened(alloc: Global, regions: u8) -> Result<Table, Fail>
     requires { 0 < regions }
     ensures { IfOk result (λ table. table.state ≡ opening 1 regions [] begun_rows) }
 {
     let rows = [
-        (key_of(alloc, b"a")?, Value::Int(10)),
-        (key_of(alloc, b"b")?, Value::Int(10)),
+        (exact_key(alloc, b"a")?, Value::Int(10)),
+        (exact_key(alloc, b"b")?, Value::Int(10)),
     ];
     Ok(Table::new(alloc, 1, regions, &[], rows.as_slice())?)
 }

@@ -1,7 +1,7 @@
 //! Cases of worlds, each with what comes of its events.
 use crate::scripts::Play;
 use crate::worlds::Asked;
-use crate::wrong;
+use dt_test_texts::wrong;
 use std::alloc::Global;
 use std::mem::forget;
 use std::test::Fail;

@@ -4,12 +4,12 @@ ghost use Rattle.dt_table.specs.Table.{opening};
 ghost use Rattle.dt_txn.specs.Transaction.{homes_of};
 ghost use Rattle.dt_region.specs.Rules.{opening_state};
 
-use crate::wrong;
 use dt_access::{Access, Mode, TxnId};
 use dt_events::put_event;
 use dt_plain::PlainSched;
 use dt_region::Region;
 use dt_table::Table;
+use dt_test_texts::wrong;
 use dt_text::Key;
 use dt_txn::{Accesses, Body, Txn};
 use std::alloc::Global;

@@ -1,25 +1,17 @@
 //! The sessions of one region by themselves: which there are, and when all are answered.
 ghost use Rattle.dt_cluster.specs.Valid.{IsValidCluster};
 
-use crate::worlds::{cluster_of, workload_of};
-use crate::wrong;
 use dt_access::TxnId;
 use dt_cluster::Cluster;
 use dt_eval::Values;
 use dt_session::Sessions;
+use dt_test_inputs::{cluster_of, workload_of};
+use dt_test_texts::{name_of, wrong};
 use dt_text::Name;
 use dt_txn::Outcome;
 use std::alloc::Global;
 use std::mem::forget;
 use std::test::Fail;
-
-/// The name of these bytes.
-fn name_of(alloc: Global, bytes: &[u8]) -> Result<Name, Fail> {
-    if bytes.len() > Name::LONGEST {
-        return Err(Fail::from("a name has few bytes"));
-    }
-    Ok(Name::read(alloc, bytes)?)
-}
 
 /// A session submits its next call, which gets the id of this number.
 fn submit(sessions: &mut Sessions, name: &Name, seq: u32) -> Result<(), Fail> {

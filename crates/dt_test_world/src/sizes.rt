@@ -3,7 +3,7 @@ use crate::circles::{all_ranks, circle};
 use crate::scripts::{File, Play, Script};
 use crate::tries::tries_of_a_call;
 use crate::worlds::Asked;
-use crate::wrong;
+use dt_test_texts::wrong;
 use std::alloc::Global;
 use std::mem::forget;
 use std::test::Fail;

@@ -1,16 +1,14 @@
 //! Worlds whose cluster, workload and events stand in texts.
 ghost use Rattle.std.specs.Prelude.{◌≡◌, [], length, IfOk, OnOk};
 ghost use Rattle.dt_cluster.specs.Valid.{IsValidCluster};
-ghost use Rattle.dt_workload.specs.Valid.{IsValidWorkload};
 ghost use Rattle.dt_test_world.specs.WorldOfEvents.{HasLed};
 
 use dt_cluster::Cluster;
-use dt_cluster_file::{ClusterError, read_cluster};
 use dt_events::{Event, put_event, read_events};
 use dt_plain::PlainSched;
 use dt_report::print;
+use dt_test_inputs::{cluster_of, workload_of};
 use dt_text::NoMemory;
-use dt_workload::{Workload, WorkloadError, read_workload};
 use dt_world::{StepError, World};
 use std::alloc::Global;
 use std::mem::forget;
@@ -18,35 +16,6 @@ use std::test::Fail;
 
 /// More bytes and more events than a test has.
 const MANY: usize = 1000000;
-
-/// The cluster of a file.
-pub fn cluster_of(alloc: Global, file: &[u8]) -> Result<Cluster, Fail>
-    ensures { IfOk result IsValidCluster }
-{
-    if file.len() >= MANY {
-        return Err(Fail::from("a test has few bytes"));
-    }
-    match read_cluster(alloc, file) {
-        Ok(cluster) => Ok(cluster),
-        Err(ClusterError::Fault(_)) => Err(Fail::from("the file is a cluster")),
-        Err(ClusterError::NoMemory) => Err(NoMemory.into()),
-    }
-}
-
-/// The workload of a file.
-pub fn workload_of(alloc: Global, cluster: &Cluster, file: &[u8]) -> Result<Workload, Fail>
-    requires { IsValidCluster cluster.now }
-    ensures { IfOk result (IsValidWorkload cluster.now) }
-{
-    if file.len() >= MANY {
-        return Err(Fail::from("a test has few bytes"));
-    }
-    match read_workload(alloc, file, cluster) {
-        Ok(workload) => Ok(workload),
-        Err(WorkloadError::Fault(_, _)) => Err(Fail::from("the file is a workload")),
-        Err(WorkloadError::NoMemory) => Err(NoMemory.into()),
-    }
-}
 
 /// Makes an event, and adds it to those that were made, if it is legal. Gives its rule where it is refused.
 fn make(
