@@ -34,6 +34,7 @@ use Rattle.dt_world.specs.WorldView.{WorldView}
 use Rattle.dt_site.specs.declared.Origin.{Origin}
 use Rattle.dt_site.specs.Site.{SiteView, no_site}
 use Rattle.dt_site.specs.StandsIn.{StandsIn}
+use Rattle.dt_index.specs.Index.{IdIndexView}
 use Rattle.dt_world.specs.MarksInner.{AreMarkedIds, is_marked}
 use Rattle.dt_world.specs.SessionReplayInner.{SessionReplayView, AddsRan, IsAttempt, IsReply, after_reply, after_submission, count_at, replay_at, replay_of, ran_at, rans_at, replies_at, wait_at}
 use Rattle.dt_world.specs.ReportSourceInner.{LedTo, ReportSourceView, world_told}
@@ -68,7 +69,7 @@ pub event_at : (told : ReportSourceView) {held : List Event} → held ≡ told.e
 event_at told {held} same at r e lt is this = subst (λ l. slice_get l at ≡ Some e) same (item_at held at r e lt is this)
 
 -- after one more event these ids are marked, and the event adds this to the attempts
-pub record Notes (told : ReportSourceView) (at : ℕ) (marks : List (List Bool)) (first : Option (ℕ × TxnId)) : Type 0 where
+pub record Notes (told : ReportSourceView) (at : ℕ) (marks : IdIndexView) (first : Option (ℕ × TxnId)) : Type 0 where
   pub seen : AreMarkedIds marks (order_of (take (at + 1) told.events))
   pub adds : AddsRan told at first
 
@@ -107,7 +108,7 @@ module _ {told : ReportSourceView} (led : LedTo told) where
     pub note_executed : IsExecutedAt (world_told told) region id
     note_executed = (executed_at (run_told led) at region id item).1
 
-    module _ (before after : List (List Bool)) (so_far : AreMarkedIds before (order_of (take at told.events)))
+    module _ (before after : IdIndexView) (so_far : AreMarkedIds before (order_of (take at told.events)))
         (put : (other : TxnId) → is_marked after other ≡ (same_id other id || is_marked before other)) where
       pub notes_new : is_marked before id ≡ false → Notes told at after (Some (region, id))
       notes_new unmarked =
@@ -126,7 +127,7 @@ module _ {told : ReportSourceView} (led : LedTo told) where
             adds = ap (filter_map (ran_of told.cluster told.workload told.events)) same;
           }
 
-  pub notes_other : (at : ℕ) (event : Event) → slice_get told.events at ≡ Some event → executed_id event ≡ None → (marks : List (List Bool)) → AreMarkedIds marks (order_of (take at told.events)) → Notes told at marks None
+  pub notes_other : (at : ℕ) (event : Event) → slice_get told.events at ≡ Some event → executed_id event ≡ None → (marks : IdIndexView) → AreMarkedIds marks (order_of (take at told.events)) → Notes told at marks None
   notes_other at event item none marks so_far =
       let same : order_of (take at told.events) ≡ order_of (take (at + 1) told.events) = sym (order_other told.events at event item none) in
       record { seen = subst (AreMarkedIds marks) same so_far; adds = ap (filter_map (ran_of told.cluster told.workload told.events)) same }

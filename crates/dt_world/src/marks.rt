@@ -1,40 +1,37 @@
-ghost use Rattle.std.specs.Prelude.{◌≡◌, ◌<◌, ◌==◌, ◌||◌, [], ℕ, false, get_or, length, map, not, IfOk, OnOk};
+ghost use Rattle.std.specs.Prelude.{◌≡◌, ◌||◌, [], not, IfOk, OnOk};
 ghost use Rattle.dt_access.specs.Ids.{same_id};
 ghost use Rattle.dt_access.specs.declared.TxnId.{TxnId};
-ghost use Rattle.dt_world.specs.MarksInner.{is_marked};
+ghost use Rattle.dt_world.specs.MarksInner.{AreMarkedIds, is_marked};
 
 use dt_access::TxnId;
+use dt_index::IdIndex;
 use dt_text::NoMemory;
 use std::alloc::Global;
 use std::marker::Model;
 
-/// By how many numbers a list is made longer at a time.
-const STEP: usize = 64;
-
-/// Which ids are marked. Ids are counted in each region from 1, so a list by their numbers is short, and nothing is hashed.
+/// Which ids are marked: those that have a place in an index, whatever the place.
 #[derive(Drop)]
 pub struct Marks {
     alloc: Global,
-    /// For each region, by the numbers of its ids, whether one is marked. The numbers past the end are not.
-    by_region: Vec<Vec<bool>>,
+    index: IdIndex,
 }
 
 impl Model for Marks {
-    ghost use Rattle.std.specs.Prelude.{List, Bool, map};
+    ghost use Rattle.dt_index.specs.Index.{IdIndexView};
 
-    ghost Value = { List (List Bool) };
+    ghost Value = { IdIndexView };
 
-    ghost view = { λ m. map (λ list. list.items) m.by_region.items };
+    ghost view = { λ m. m.index };
 }
 
 impl Marks {
     /// None. Takes no memory.
     pub fn new(alloc: Global) -> Self
-        ensures { result ≡ [] }
+        ensures { AreMarkedIds result [] }
     {
         Marks {
             alloc,
-            by_region: Vec::new(alloc),
+            index: IdIndex::new(alloc),
         }
     }
 
@@ -43,42 +40,12 @@ impl Marks {
         ensures first { IfOk result (λ first. first ≡ not (is_marked self.old id)) }
         ensures marks { OnOk result ((other : TxnId) → is_marked self.new other ≡ (same_id other id || is_marked self.old other)) }
     {
-        widen(self.alloc, &mut self.by_region, id.region)?;
-        let list = &mut self.by_region[id.region as usize];
-        mark_number(list, id.seq)
+        if self.index.get(id).is_some() {
+            return Ok(false);
+        }
+        self.index.prepare(self.alloc, id)?;
+        self.index.reserve(1)?;
+        self.index.put(id, 0);
+        Ok(true)
     }
-}
-
-/// Sees to it that there is a list for a region. What is marked stays.
-fn widen(alloc: Global, lists: &mut Vec<Vec<bool>>, region: u8) -> Result<(), NoMemory>
-    ensures ok { OnOk result (region < length lists.new.items) }
-    ensures same { (id : TxnId) → is_marked (map (λ list. list.items) lists.new.items) id ≡ is_marked (map (λ list. list.items) lists.old.items) id }
-{
-    for _region in lists.len()..region as usize + 1 {
-        lists.push(Vec::new(alloc))?;
-    }
-    Ok(())
-}
-
-/// Marks a number in a list. Whether it was not marked before.
-fn mark_number(list: &mut Vec<bool>, number: u32) -> Result<bool, NoMemory>
-    ensures first { IfOk result (λ first. first ≡ not (get_or list.old.items number false)) }
-    ensures marks { OnOk result ((other : ℕ) → get_or list.new.items other false ≡ ((other == number) || get_or list.old.items other false)) }
-{
-    lengthen(list, number)?;
-    let is_first = !list[number as usize];
-    list[number as usize] = true;
-    Ok(is_first)
-}
-
-/// Makes a list long enough for a number. What is marked stays.
-fn lengthen(list: &mut Vec<bool>, number: u32) -> Result<(), NoMemory>
-    ensures ok { OnOk result (number < length list.new.items) }
-    ensures same { (other : ℕ) → get_or list.new.items other false ≡ get_or list.old.items other false }
-{
-    let number = number as usize;
-    if number >= list.len() {
-        list.resize(number + STEP, false)?;
-    }
-    Ok(())
 }

@@ -177,7 +177,7 @@ impl<'a, 'b, S: Scheduler + Drop> ReportSource<'a, 'b, S> {
     /// Lists the attempts that the events execute, each at the first event that does so. None is noted or listed before.
     fn note_all(&self, alloc: Global, seen: &mut Marks, order: &mut Rans) -> Result<(), NoMemory>
         requires led { LedTo self.now }
-        requires seen { seen.old ≡ [] }
+        requires seen { AreMarkedIds seen.old [] }
         requires order { order.old ≡ [] }
         ensures { OnOk result (order.new ≡ rans_of self.now.cluster self.now.workload self.now.events) }
     {
@@ -203,7 +203,7 @@ impl<'a, 'b, S: Scheduler + Drop> ReportSource<'a, 'b, S> {
     /// Appends the lines of the attempts that the events execute, each at the first event that does so. None is noted before.
     fn put_rans(&self, alloc: Global, out: &mut Vec<u8>, seen: &mut Marks) -> Result<(), NoMemory>
         requires led { LedTo self.now }
-        requires seen { seen.old ≡ [] }
+        requires seen { AreMarkedIds seen.old [] }
         ensures text { OnOk result (out.new.items ≡ out.old.items ++ flat_map ran_line (rans_of self.now.cluster self.now.workload self.now.events)) }
         ensures printable { OnOk result (AllIn IsPrintableRan (rans_of self.now.cluster self.now.workload self.now.events)) }
     {

@@ -5,12 +5,11 @@ use Rattle.dt_report.specs.Printable.{IsPrintableRan}
 use Rattle.dt_report.specs.Report.{ran_line}
 use Rattle.dt_world.specs.SessionReplayInner.{rans_at}
 use Rattle.dt_world.specs.ReportSourceInner.{ReportSourceView}
-use Rattle.dt_world.proofs.MarkLaws.{none_marked}
 use Rattle.dt_world.proofs.Reports.{order_whole}
 use Rattle.dt_world.proofs.site_reports.ReportSource.put_rans.Goals as goal
 
 pub loop-at-init : goal.loop-at-init
-loop-at-init g c = record { seen = none_marked c.requires.seen; lines = sym (append-nil c.args.out.now.items); printable = tt }
+loop-at-init g c = record { seen = c.requires.seen; lines = sym (append-nil c.args.out.now.items); printable = tt }
 
 pub put_noted-requires-clause-events : goal.put_noted-requires-clause-events
 put_noted-requires-clause-events g c = ap (λ (t : ReportSourceView). t.events) c.self.view_is
