@@ -1,4 +1,4 @@
-//! Tests of what stands below a region: texts, ids, parts, logs and events, the language of procedures, rows and
+//! Tests of what stands below a region: texts, ids, parts, indexes, logs and events, the language of procedures, rows and
 //! transactions, reports, and packets and links. Each is a table of expected values that were worked out independently, with
 //! one loop, which names the first row that is not answered as it says; there is no other code.
 #![tactic(auto)]
@@ -11,6 +11,8 @@ mod calls;
 mod ends;
 #[cfg(test)]
 mod events;
+#[cfg(test)]
+mod indexes;
 #[cfg(test)]
 mod logs;
 #[cfg(test)]
