@@ -13,9 +13,11 @@ use Rattle.dt_queue.specs.declared.cell.Cell.{Cell}
 use Rattle.dt_queue.specs.declared.mark.Mark.{Mark}
 use Rattle.dt_queue.specs.declared.kept.Kept.{Kept}
 use Rattle.dt_queue.specs.declared.rows.Rows.{Rows}
+use Rattle.dt_queue.specs.declared.row.Way.{Way}
+use Rattle.dt_queue.specs.declared.row.Way.TheVariants as way
 use Rattle.dt_queue.specs.KeptInner.{AreRowsListed, ChangesLaneOf, IsInLane, AreQueuesKept, IsLane, KeepsLanes, lane, mark_of, newest_at, place_at}
 use Rattle.dt_queue.specs.LanesInner.{ChangesLane, SameLanes}
-use Rattle.dt_queue.specs.TableInner.{heads_of, lanes_read, lanes_written}
+use Rattle.dt_queue.specs.TableInner.{heads_of, lanes_of, lanes_read, lanes_written}
 use Rattle.dt_queue.specs.RowsInner.{AreRowsLinked, KeepsRows, RowLinks, granule_at, links}
 use Rattle.dt_queue.proofs.Marks.{numbered_more}
 use Rattle.dt_queue.proofs.InOrder.{AreAlone}
@@ -306,34 +308,34 @@ all_before k kept m p = all_put _ (lane k m p) (λ x h. let r = ((kept.lanes m p
 pub links_same : (r : Rows) (h : List (ℕ × Bytes) × List ℕ) → h ≡ heads_of r.table.items → record { names = r.names.keys; granules = r.granules.keys; name_of = h.0; granule_of = h.1 } ≡ links r
 links_same r h e = ap (λ (x : List (ℕ × Bytes) × List ℕ). record { names = r.names.keys; granules = r.granules.keys; name_of = x.0; granule_of = x.1 }) e
 
--- one lane was changed
-pub changed_read : (old new : Kept) (f : List Mark → List Mark) (mode : Mode) (row : ℕ) → mode ≡ Read → ChangesLane (lanes_read old.rows.table.items) row (f (get_or (lanes_read old.rows.table.items) row []))
-    (lanes_read new.rows.table.items)
-    → (links new.rows) ≡ (links old.rows) → new.listed ≡ old.listed → new.cells ≡ old.cells → new.next_number ≡ old.next_number → SameLanes (lanes_written old.rows.table.items)
-    (lanes_written new.rows.table.items) → new.wholes ≡ old.wholes
-    → ChangesLaneOf old mode (place_at (links old.rows) mode row) (f (lane old mode (place_at (links old.rows) mode row))) new
-changed_read old new f mode row is change rows used cells number writes wholes =
-    subst (λ m. ChangesLaneOf old m (place_at (links old.rows) m row) (f (lane old m (place_at (links old.rows) m row))) new) (sym is)
-    (record { changed = change.changed; others = λ m p ne. other m p ne; rows = rows; listed = used; cells = cells; number = number })
-  where
-    other : (m : Mode) (p : ℕ) → ¬ ((m ≡ Read) × (p ≡ row)) → lane new m p ≡ lane old m p
-    other Read p ne = change.others p (λ e. ne (refl, e))
-    other Write p ne = writes p
-    other Whole p ne = ap (λ l. get_or l p []) wholes
+-- the mode of those that are to use a row in this way
+abbrev pub mode_of : Way → Mode
+mode_of way.Read = Read
+mode_of way.Write = Write
 
-pub changed_write : (old new : Kept) (f : List Mark → List Mark) (mode : Mode) (row : ℕ) → mode ≡ Write → ChangesLane (lanes_written old.rows.table.items) row (f (get_or (lanes_written old.rows.table.items) row []))
-    (lanes_written new.rows.table.items)
-    → (links new.rows) ≡ (links old.rows) → new.listed ≡ old.listed → new.cells ≡ old.cells → new.next_number ≡ old.next_number → SameLanes (lanes_read old.rows.table.items) (lanes_read new.rows.table.items)
-    → new.wholes ≡ old.wholes
+-- one lane was changed
+pub changed_row : (old new : Kept) (f : List Mark → List Mark) (mode : Mode) (w : Way) (row : ℕ) → mode ≡ mode_of w
+    → ChangesLane (lanes_of w old.rows.table.items) row (f (get_or (lanes_of w old.rows.table.items) row [])) (lanes_of w new.rows.table.items)
+    → ((v : Way) → v ≢ w → SameLanes (lanes_of v old.rows.table.items) (lanes_of v new.rows.table.items))
+    → (links new.rows) ≡ (links old.rows) → new.listed ≡ old.listed → new.cells ≡ old.cells → new.next_number ≡ old.next_number → new.wholes ≡ old.wholes
     → ChangesLaneOf old mode (place_at (links old.rows) mode row) (f (lane old mode (place_at (links old.rows) mode row))) new
-changed_write old new f mode row is change rows used cells number reads wholes =
-    subst (λ m. ChangesLaneOf old m (place_at (links old.rows) m row) (f (lane old m (place_at (links old.rows) m row))) new) (sym is)
-    (record { changed = change.changed; others = λ m p ne. other m p ne; rows = rows; listed = used; cells = cells; number = number })
+changed_row old new f mode w row is change others rows used cells number wholes =
+    subst (λ m. ChangesLaneOf old m (place_at (links old.rows) m row) (f (lane old m (place_at (links old.rows) m row))) new) (sym is) (by w change others)
   where
-    other : (m : Mode) (p : ℕ) → ¬ ((m ≡ Write) × (p ≡ row)) → lane new m p ≡ lane old m p
-    other Read p ne = reads p
-    other Write p ne = change.others p (λ e. ne (refl, e))
-    other Whole p ne = ap (λ l. get_or l p []) wholes
+    other : (v : Way) → ((p : ℕ) → ¬ (p ≡ row) → get_or (lanes_of v new.rows.table.items) p [] ≡ get_or (lanes_of v old.rows.table.items) p [])
+        → ((u : Way) → u ≢ v → SameLanes (lanes_of u old.rows.table.items) (lanes_of u new.rows.table.items))
+        → (m : Mode) (p : ℕ) → ¬ ((m ≡ mode_of v) × (p ≡ row)) → lane new m p ≡ lane old m p
+    other way.Read here there Read p ne = here p (λ e. ne (refl, e))
+    other way.Read here there Write p ne = there way.Write (λ e. cc) p
+    other way.Write here there Read p ne = there way.Read (λ e. cc) p
+    other way.Write here there Write p ne = here p (λ e. ne (refl, e))
+    other v here there Whole p ne = ap (λ l. get_or l p []) wholes
+
+    by : (v : Way) → ChangesLane (lanes_of v old.rows.table.items) row (f (get_or (lanes_of v old.rows.table.items) row [])) (lanes_of v new.rows.table.items)
+        → ((u : Way) → u ≢ v → SameLanes (lanes_of u old.rows.table.items) (lanes_of u new.rows.table.items))
+        → ChangesLaneOf old (mode_of v) (place_at (links old.rows) (mode_of v) row) (f (lane old (mode_of v) (place_at (links old.rows) (mode_of v) row))) new
+    by way.Read one rest = record { changed = one.changed; others = other way.Read one.others rest; rows = rows; listed = used; cells = cells; number = number }
+    by way.Write one rest = record { changed = one.changed; others = other way.Write one.others rest; rows = rows; listed = used; cells = cells; number = number }
 
 pub changed_whole : (old new : Kept) (f : List Mark → List Mark) (mode : Mode) (row g : ℕ) → mode ≡ Whole → g ≡ granule_at (links old.rows) row → ChangesLane old.wholes g
     (f (get_or old.wholes g [])) new.wholes
@@ -352,14 +354,13 @@ changed_whole old new f mode row g is same change rows used cells number table =
     other Whole p ne = moved.others p (λ e. ne (refl, e))
 
 -- no lane was changed
-pub keeps_lanes : (old new : Kept) → SameLanes (lanes_read old.rows.table.items) (lanes_read new.rows.table.items) → SameLanes (lanes_written old.rows.table.items) (lanes_written new.rows.table.items)
-    → SameLanes old.wholes new.wholes
+pub keeps_lanes : (old new : Kept) → ((w : Way) → SameLanes (lanes_of w old.rows.table.items) (lanes_of w new.rows.table.items)) → SameLanes old.wholes new.wholes
     → (links new.rows) ≡ (links old.rows) → new.listed ≡ old.listed → new.cells ≡ old.cells → new.next_number ≡ old.next_number → KeepsLanes old new
-keeps_lanes old new reads writes wholes rows used cells number = record { lanes = λ m p. same m p; rows = rows; listed = used; cells = cells; number = number }
+keeps_lanes old new ways wholes rows used cells number = record { lanes = λ m p. same m p; rows = rows; listed = used; cells = cells; number = number }
   where
     same : (m : Mode) (p : ℕ) → lane new m p ≡ lane old m p
-    same Read p = reads p
-    same Write p = writes p
+    same Read p = ways way.Read p
+    same Write p = ways way.Write p
     same Whole p = wholes p
 
 pub same_self : (lanes : List (List Mark)) → SameLanes lanes lanes

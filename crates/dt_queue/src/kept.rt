@@ -11,7 +11,7 @@ use crate::mark::{Mark, Marks};
 use crate::nearest::{near_row, near_rows, near_write, number_or, only};
 use crate::newest::{newest_of, note};
 use crate::next::NextMarks;
-use crate::row::{has_no_read, last_write, push_read, push_write, remove_read, remove_write};
+use crate::row::{Way, has_no_read, last_write, push, remove};
 use crate::rows::Rows;
 use crate::wholes::Wholes;
 use dt_access::Mode;
@@ -222,8 +222,8 @@ impl Kept {
         ensures newest { (g : ℕ) → newest_at self.new g ≡ newest_at self.old g }
     {
         match mode {
-            Mode::Read => push_read(alloc, &mut self.rows.table, row, mark),
-            Mode::Write => push_write(alloc, &mut self.rows.table, row, mark),
+            Mode::Read => push(alloc, &mut self.rows.table, row, Way::Read, mark),
+            Mode::Write => push(alloc, &mut self.rows.table, row, Way::Write, mark),
             Mode::Whole => self.wholes.push(alloc, self.rows.granule_of(row), mark),
         }
     }
@@ -235,8 +235,8 @@ impl Kept {
         ensures newest { (g : ℕ) → newest_at self.new g ≡ newest_at self.old g }
     {
         match mode {
-            Mode::Read => remove_read(&mut self.rows.table, row, number),
-            Mode::Write => remove_write(&mut self.rows.table, row, number),
+            Mode::Read => remove(&mut self.rows.table, row, Way::Read, number),
+            Mode::Write => remove(&mut self.rows.table, row, Way::Write, number),
             Mode::Whole => self.wholes.remove(self.rows.granule_of(row), number),
         }
     }

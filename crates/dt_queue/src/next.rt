@@ -4,7 +4,7 @@ ghost use Rattle.dt_queue.specs.TableInner.{lanes_read, lanes_written};
 
 use crate::mark::Mark;
 use crate::nearest::number_or;
-use crate::row::{Row, first_read, first_write};
+use crate::row::{Row, Way, first_between};
 
 /// A search for the marks of the followers of an entry, which goes from row to row. So it looks at each row once, and costs as much
 /// as there are rows and followers.
@@ -40,7 +40,7 @@ impl<'a> NextMarks<'a> {
             row,
             after: 0,
             limit: 0,
-            last: first_write(table, row, low, high).or(other),
+            last: first_between(table, row, Way::Write, low, high).or(other),
         }
     }
 
@@ -50,7 +50,7 @@ impl<'a> NextMarks<'a> {
         ensures marks { marks_left result ≡ or_else_one (next_of_row (get_or (lanes_read table.now) row []) (get_or (lanes_written table.now) row []) low high) other }
         ensures table { result.table.now ≡ table.now }
     {
-        let write = first_write(table, row, low, high);
+        let write = first_between(table, row, Way::Write, low, high);
         NextMarks {
             table,
             rows: &[],
@@ -107,7 +107,7 @@ impl<'a> NextMarks<'a> {
         ensures table { self.new.table.now ≡ self.old.table.now }
         ensures last { self.new.last ≡ self.old.last }
     {
-        if let Some(read) = first_read(self.table, self.row, self.after, self.limit) {
+        if let Some(read) = first_between(self.table, self.row, Way::Read, self.after, self.limit) {
             self.after = read.number;
             return Some(read);
         }
@@ -130,9 +130,9 @@ impl<'a> NextMarks<'a> {
         ensures none { result ≡ None → reads_left self.new ≡ [] }
         ensures same { self.new ≡ record self.old { row = self.new.row; after = self.new.after; limit = self.new.limit } }
     {
-        let write = first_write(self.table, row, self.low, self.high);
+        let write = first_between(self.table, row, Way::Write, self.low, self.high);
         let limit = number_or(write, self.high);
-        let Some(read) = first_read(self.table, row, self.low, limit) else {
+        let Some(read) = first_between(self.table, row, Way::Read, self.low, limit) else {
             return write;
         };
         self.row = row;

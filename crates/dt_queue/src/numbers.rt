@@ -3,7 +3,7 @@ ghost use Rattle.dt_lists.specs.Lists.{AllIn};
 ghost use Rattle.dt_queue.specs.NumbersInner.{IsFirstFrom, IsGap, IsNumberAt, Renumbers, ShowsSame, renumbered};
 
 use crate::kept::Kept;
-use crate::row::{renumber_read, renumber_write};
+use crate::row::{Way, renumber};
 use dt_access::Mode;
 use dt_text::NoMemory;
 
@@ -94,8 +94,8 @@ impl Kept {
         ensures newest { (g : ℕ) → newest_at self.new g ≡ newest_at self.old g }
     {
         match mode {
-            Mode::Read => renumber_read(&mut self.rows.table, row, number, new),
-            Mode::Write => renumber_write(&mut self.rows.table, row, number, new),
+            Mode::Read => renumber(&mut self.rows.table, row, Way::Read, number, new),
+            Mode::Write => renumber(&mut self.rows.table, row, Way::Write, number, new),
             Mode::Whole => self.wholes.renumber(self.rows.granule_of(row), number, new),
         }
     }

@@ -1,8 +1,9 @@
-ghost use Rattle.std.specs.Prelude.{◌≡◌, ◌<◌, ◌≤◌, ◌==◌, [], ◌∷◌, ◌++◌, get_or, length, map, not, OnOk, OnErr};
+ghost use Rattle.std.specs.Prelude.{◌≡◌, ◌≢◌, ◌<◌, ◌≤◌, ◌==◌, [], ◌∷◌, ◌++◌, get_or, length, map, not, OnOk, OnErr};
+ghost use Rattle.std.specs.Borrow.{sem};
 ghost use Rattle.std.specs.List.{filter};
 ghost use Rattle.dt_lists.specs.Lists.{AllIn};
 ghost use Rattle.dt_queue.specs.LanesInner.{ChangesLane, IsFirstBetween, IsLastBetween, SameLanes, is_between};
-ghost use Rattle.dt_queue.specs.TableInner.{heads_of, lanes_read, lanes_written};
+ghost use Rattle.dt_queue.specs.TableInner.{LendsLane, heads_of, lane_of, lanes_of, lanes_read, lanes_written};
 ghost use Rattle.dt_queue.specs.ListedInner.{is_used};
 ghost use Rattle.dt_queue.specs.NumbersInner.{IsGap, renumbered};
 
@@ -10,6 +11,13 @@ use crate::lane::Lane;
 use crate::mark::{Mark, Marks};
 use dt_text::{Key, NoMemory};
 use std::alloc::Global;
+
+/// What an entry is to do with a row.
+#[derive(Clone, Copy)]
+pub enum Way {
+    Read,
+    Write,
+}
 
 /// What is kept of a row: its name, which is a home and a key, the number of its granule, and its lanes, of those that wait to read
 /// it, and of those that wait to write it. Mostly all of these are looked at, so they lie side by side: a push that compares the name
@@ -37,91 +45,74 @@ impl Row {
             writes: Lane::new(),
         }
     }
+
+    /// The lane of those that are to use it in this way.
+    #[inline(always)]
+    fn lane(&self, way: Way) -> &Lane
+        ensures { result.now ≡ lane_of way self.now }
+    {
+        match way {
+            Way::Read => &self.reads,
+            Way::Write => &self.writes,
+        }
+    }
+
+    /// The same lane, to be changed.
+    #[inline(always)]
+    fn lane_mut(&mut self, way: Way) -> &mut Lane
+        ensures* lent { sem 𝓛 (LendsLane way self.entry result) }
+        ensures value { result.now ≡ lane_of way self.old }
+    {
+        match way {
+            Way::Read => &mut self.reads,
+            Way::Write => &mut self.writes,
+        }
+    }
 }
 
-/// Adds the mark of one that is to read a row, behind all others; after `NoMemory` each lane has the marks that it had.
-pub fn push_read(
+/// Adds the mark of one that is to use a row in this way, behind all others of the way; after `NoMemory` each lane has the marks
+/// that it had.
+pub fn push(
     alloc: Global,
     table: &mut Vec<Row>,
     row: usize,
+    way: Way,
     mark: Mark,
 ) -> Result<(), NoMemory>
     requires known { row < length table.old.items }
     requires positive { 0 < mark.number }
-    requires last { AllIn (λ m. m.number < mark.number) (get_or (lanes_read table.old.items) row []) }
-    ensures added { OnOk result (ChangesLane (lanes_read table.old.items) row (get_or (lanes_read table.old.items) row [] ++ mark ∷ []) (lanes_read table.new.items)) }
-    ensures same { OnErr result (SameLanes (lanes_read table.old.items) (lanes_read table.new.items)) }
-    ensures writes { SameLanes (lanes_written table.old.items) (lanes_written table.new.items) }
+    requires last { AllIn (λ m. m.number < mark.number) (get_or (lanes_of way table.old.items) row []) }
+    ensures added { OnOk result (ChangesLane (lanes_of way table.old.items) row (get_or (lanes_of way table.old.items) row [] ++ mark ∷ []) (lanes_of way table.new.items)) }
+    ensures same { OnErr result (SameLanes (lanes_of way table.old.items) (lanes_of way table.new.items)) }
+    ensures others { (other : Way) → other ≢ way → SameLanes (lanes_of other table.old.items) (lanes_of other table.new.items) }
     ensures heads { heads_of table.new.items ≡ heads_of table.old.items }
 {
-    table[row].reads.push(alloc, mark)
+    table[row].lane_mut(way).push(alloc, mark)
 }
 
-/// The same of one that is to write it.
-pub fn push_write(
-    alloc: Global,
-    table: &mut Vec<Row>,
-    row: usize,
-    mark: Mark,
-) -> Result<(), NoMemory>
-    requires known { row < length table.old.items }
-    requires positive { 0 < mark.number }
-    requires last { AllIn (λ m. m.number < mark.number) (get_or (lanes_written table.old.items) row []) }
-    ensures added { OnOk result (ChangesLane (lanes_written table.old.items) row (get_or (lanes_written table.old.items) row [] ++ mark ∷ []) (lanes_written table.new.items)) }
-    ensures same { OnErr result (SameLanes (lanes_written table.old.items) (lanes_written table.new.items)) }
-    ensures reads { SameLanes (lanes_read table.old.items) (lanes_read table.new.items) }
-    ensures heads { heads_of table.new.items ≡ heads_of table.old.items }
-{
-    table[row].writes.push(alloc, mark)
-}
-
-/// Takes out the mark of a number of those that are to read a row. Takes no memory.
-pub fn remove_read(table: &mut Vec<Row>, row: usize, number: u64)
-    ensures reads { ChangesLane (lanes_read table.old.items) row (filter (λ m. not (m.number == number)) (get_or (lanes_read table.old.items) row [])) (lanes_read table.new.items) }
-    ensures writes { SameLanes (lanes_written table.old.items) (lanes_written table.new.items) }
+/// Takes out the mark of a number of those that are to use a row in this way. Takes no memory.
+pub fn remove(table: &mut Vec<Row>, row: usize, way: Way, number: u64)
+    ensures lane { ChangesLane (lanes_of way table.old.items) row (filter (λ m. not (m.number == number)) (get_or (lanes_of way table.old.items) row [])) (lanes_of way table.new.items) }
+    ensures others { (other : Way) → other ≢ way → SameLanes (lanes_of other table.old.items) (lanes_of other table.new.items) }
     ensures heads { heads_of table.new.items ≡ heads_of table.old.items }
 {
     if row < table.len() {
-        table[row].reads.remove(number);
+        table[row].lane_mut(way).remove(number);
     }
 }
 
-/// The same of those that are to write it.
-pub fn remove_write(table: &mut Vec<Row>, row: usize, number: u64)
-    ensures writes { ChangesLane (lanes_written table.old.items) row (filter (λ m. not (m.number == number)) (get_or (lanes_written table.old.items) row [])) (lanes_written table.new.items) }
-    ensures reads { SameLanes (lanes_read table.old.items) (lanes_read table.new.items) }
-    ensures heads { heads_of table.new.items ≡ heads_of table.old.items }
-{
-    if row < table.len() {
-        table[row].writes.remove(number);
-    }
-}
-
-/// Gives the mark of a number of those that are to read a row a lesser number; no other of them lies between. Takes no memory.
-pub fn renumber_read(table: &mut Vec<Row>, row: usize, number: u64, new: u64)
+/// Gives the mark of a number of those that are to use a row in this way a lesser number; no other of them lies between. Takes no
+/// memory.
+pub fn renumber(table: &mut Vec<Row>, row: usize, way: Way, number: u64, new: u64)
     requires positive { 0 < new }
     requires lesser { new ≤ number }
-    requires gap { AllIn (IsGap number new) (get_or (lanes_read table.old.items) row []) }
-    ensures reads { ChangesLane (lanes_read table.old.items) row (map (renumbered number new) (get_or (lanes_read table.old.items) row [])) (lanes_read table.new.items) }
-    ensures writes { SameLanes (lanes_written table.old.items) (lanes_written table.new.items) }
+    requires gap { AllIn (IsGap number new) (get_or (lanes_of way table.old.items) row []) }
+    ensures lane { ChangesLane (lanes_of way table.old.items) row (map (renumbered number new) (get_or (lanes_of way table.old.items) row [])) (lanes_of way table.new.items) }
+    ensures others { (other : Way) → other ≢ way → SameLanes (lanes_of other table.old.items) (lanes_of other table.new.items) }
     ensures heads { heads_of table.new.items ≡ heads_of table.old.items }
 {
     if row < table.len() {
-        table[row].reads.renumber(number, new);
-    }
-}
-
-/// The same of those that are to write it.
-pub fn renumber_write(table: &mut Vec<Row>, row: usize, number: u64, new: u64)
-    requires positive { 0 < new }
-    requires lesser { new ≤ number }
-    requires gap { AllIn (IsGap number new) (get_or (lanes_written table.old.items) row []) }
-    ensures writes { ChangesLane (lanes_written table.old.items) row (map (renumbered number new) (get_or (lanes_written table.old.items) row [])) (lanes_written table.new.items) }
-    ensures reads { SameLanes (lanes_read table.old.items) (lanes_read table.new.items) }
-    ensures heads { heads_of table.new.items ≡ heads_of table.old.items }
-{
-    if row < table.len() {
-        table[row].writes.renumber(number, new);
+        table[row].lane_mut(way).renumber(number, new);
     }
 }
 
@@ -153,20 +144,12 @@ pub fn last_write(table: &[Row], row: usize, low: u64, high: u64) -> Option<Mark
     table.get(row)?.writes.last_between(low, high)
 }
 
-/// Of those that are to write a row the first mark with a number between the two.
+/// Of those that are to use a row in this way the first mark with a number between the two.
 #[inline(always)]
-pub fn first_write(table: &[Row], row: usize, low: u64, high: u64) -> Option<Mark>
-    ensures { IsFirstBetween low high (get_or (lanes_written table.now) row []) result }
+pub fn first_between(table: &[Row], row: usize, way: Way, low: u64, high: u64) -> Option<Mark>
+    ensures { IsFirstBetween low high (get_or (lanes_of way table.now) row []) result }
 {
-    table.get(row)?.writes.first_between(low, high)
-}
-
-/// Of those that are to read a row the first mark with a number between the two.
-#[inline(always)]
-pub fn first_read(table: &[Row], row: usize, low: u64, high: u64) -> Option<Mark>
-    ensures { IsFirstBetween low high (get_or (lanes_read table.now) row []) result }
-{
-    table.get(row)?.reads.first_between(low, high)
+    table.get(row)?.lane(way).first_between(low, high)
 }
 
 /// Appends the marks of those that are to read a row with numbers between the two; after `NoMemory` maybe only some of them.

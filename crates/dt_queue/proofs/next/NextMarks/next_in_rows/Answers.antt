@@ -10,14 +10,14 @@ pub returns-in-Some-clause-taken : goal.returns-in-Some-clause-taken
 returns-in-Some-clause-taken c =
     let s = c.args.self.now in
     let reads = get_or (lanes_read s.table.now) s.row [] in
-    let first : IsFirstBetween s.after s.limit reads (Some c.in-Some.read) = rw c.in-Some.is at c.first_read.ensures in
+    let first : IsFirstBetween s.after s.limit reads (Some c.in-Some.read) = rw c.in-Some.is at c.first_between.ensures in
     ap (λ l. l ++ next_of_rows (lanes_read s.table.now) (lanes_written s.table.now) s.low s.high s.rows.now) (between_first s.after s.limit reads c.in-Some.read (c.requires.reads_numbered s.row) first)
 
 pub loop-row-init : goal.loop-row-init
 loop-row-init c =
     let s = c.args.self.now in
     let reads = get_or (lanes_read s.table.now) s.row [] in
-    let first : IsFirstBetween s.after s.limit reads None = rw c.in_default.is at c.first_read.ensures in
+    let first : IsFirstBetween s.after s.limit reads None = rw c.in_default.is at c.first_between.ensures in
     record { none = between_none s.after s.limit reads first; same = refl; table = refl; last = refl }
 
 pub enter-next-requires-clause-apart : goal.enter-next-requires-clause-apart

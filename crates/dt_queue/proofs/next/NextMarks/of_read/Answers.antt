@@ -5,4 +5,4 @@ use Rattle.dt_queue.proofs.next.NextMarks.of_read.Goals as goal
 
 pub returns-clause-marks : goal.returns-clause-marks
 returns-clause-marks c = rw c.or.ensures
-    (left_of_read (get_or (lanes_read c.args.table.now) c.args.row []) (get_or (lanes_written c.args.table.now) c.args.row []) c.args.low c.args.high c.first_write.result c.args.other c.requires c.first_write.ensures)
+    (left_of_read (get_or (lanes_read c.args.table.now) c.args.row []) (get_or (lanes_written c.args.table.now) c.args.row []) c.args.low c.args.high c.first_between.result c.args.other c.requires c.first_between.ensures)

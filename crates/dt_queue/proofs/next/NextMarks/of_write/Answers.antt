@@ -6,4 +6,4 @@ use Rattle.dt_queue.proofs.next.NextMarks.of_write.Goals as goal
 pub returns-clause-marks : goal.returns-clause-marks
 returns-clause-marks c = rw (c.or.ensures, c.number_or.ensures)
     (left_of_write (get_or (lanes_read c.args.table.now) c.args.row []) (get_or (lanes_written c.args.table.now) c.args.row [])
-    c.args.low c.args.high c.first_write-write.result c.args.other c.requires c.first_write-write.ensures)
+    c.args.low c.args.high c.first_between-write.result c.args.other c.requires c.first_between-write.ensures)

@@ -1,0 +1,23 @@
+use Rattle.std.proofs.Common.{◌<◌, length, map, ap, arith, ◌∙◌}
+use Rattle.dt_queue.specs.NumbersInner.{renumbered}
+use Rattle.dt_queue.proofs.TableLanes.{heads_left, other_lanes, row_changed}
+use Rattle.dt_queue.proofs.row.renumber.Goals as goal
+
+pub returns-then-row-len-clause-lane : goal.returns-then-row-len-clause-lane
+returns-then-row-len-clause-lane c =
+    let xs = c.args.table.now.items in
+    let known : c.args.row < length xs = omega (arith, c.if-row-len.true, c.len.ensures, c.args.table.now.ok.0) in
+    row_changed c.args.way xs c.args.row c.index_mut.result.now c.renumber.new.self known c.index_mut.ensures.value
+    (map (renumbered c.args.number c.args.new)) (c.renumber.ensures ∙ ap (map (renumbered c.args.number c.args.new)) c.lane_mut.ensures.value)
+
+pub returns-then-row-len-clause-others : goal.returns-then-row-len-clause-others
+returns-then-row-len-clause-others c =
+    let xs = c.args.table.now.items in
+    let known : c.args.row < length xs = omega (arith, c.if-row-len.true, c.len.ensures, c.args.table.now.ok.0) in
+    other_lanes c.args.way xs c.args.row c.index_mut.result.now c.renumber.new.self known c.index_mut.ensures.value
+
+pub returns-then-row-len-clause-heads : goal.returns-then-row-len-clause-heads
+returns-then-row-len-clause-heads c =
+    let xs = c.args.table.now.items in
+    let known : c.args.row < length xs = omega (arith, c.if-row-len.true, c.len.ensures, c.args.table.now.ok.0) in
+    heads_left c.args.way xs c.args.row c.index_mut.result.now c.renumber.new.self known c.index_mut.ensures.value
