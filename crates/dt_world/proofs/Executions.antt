@@ -25,7 +25,6 @@ use Rattle.dt_session.specs.Run.{executed_id, order_of, serial_outcome, world_af
 use Rattle.dt_agreement.specs.Invariant.{Inv, IsExecutedAt}
 use Rattle.dt_agreement.specs.LegalRun.{IsLegalRun}
 use Rattle.dt_agreement.proofs.Callers.{lookup_has, legal_agree, executable_known, legal_keeps, with_executed, order_of_more, world_after_more, WasSubmitted, txn_id}
-use Rattle.dt_site.proofs.Callers.{order}
 use Rattle.dt_world.specs.SessionReplayInner.{ran_at}
 use Rattle.dt_world.specs.WorldReport.{IsOutcomeOf, ran, ran_of, rans_of}
 use Rattle.dt_world.proofs.GrowingNodes.{grows_to, legal_at, split_at}
