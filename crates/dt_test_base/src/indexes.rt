@@ -1,7 +1,7 @@
 //! Indexes of ids: each answers what a search of all pairs of an id and a place does, the last one first.
-use crate::wrong;
 use dt_access::TxnId;
 use dt_index::IdIndex;
+use dt_test_texts::wrong;
 use std::alloc::Global;
 use std::test::Fail;
 
