@@ -3,8 +3,8 @@ use super::{
     AMPLE, ONE_PUT, ONE_PUT_EVENTS, ONE_PUT_REPORT, called, called_over, ended, files_of,
     told_over, words_of,
 };
-use crate::wrong;
 use dt_outside::MemoryFolder;
+use dt_test_texts::wrong;
 use dt_text::NoMemory;
 use std::alloc::Global;
 use std::sync::Wait;

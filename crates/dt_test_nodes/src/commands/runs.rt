@@ -1,7 +1,7 @@
 //! Runs: all regions at once, which make the events themselves.
 use super::{AMPLE, called, joined, told_over, words_of};
-use crate::wrong;
 use dt_command::threaded_words;
+use dt_test_texts::wrong;
 use dt_text::NoMemory;
 use std::alloc::Global;
 use std::sync::Wait;
