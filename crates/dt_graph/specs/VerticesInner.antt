@@ -4,6 +4,8 @@
 use Rattle.std.specs.Prelude.{◌≡◌, ◌≤◌, ◌<◌, ◌+◌, ◌-◌, ◌^◌, ℕ, List, length, map, min, Option, None, Some}
 use Rattle.dt_waits.specs.declared.vertex.Vertex.{Vertex}
 use Rattle.dt_graph.specs.declared.kept.Kept.{Kept}
+use Rattle.dt_graph.specs.declared.kept.Kind.{Kind}
+use Rattle.dt_graph.specs.declared.kept.Kind.TheVariants as kind
 use Rattle.dt_graph.specs.declared.kept.State.{State}
 use Rattle.dt_graph.specs.declared.kept.State.TheVariants.{Neither, Ready, Stuck}
 use Rattle.dt_lists.specs.Lists.{AllIn, Has}
@@ -51,17 +53,28 @@ degrees_of kept = map (λ k. k.degree) kept
 abbrev pub states_of : List Kept → List State
 states_of kept = map (λ k. k.state) kept
 
--- the place among the ready ones
-abbrev pub ready_place : State → Option ℕ
-ready_place Neither = None
-ready_place (Ready place) = Some place
-ready_place (Stuck place) = None
+-- the place among those of a kind
+abbrev pub place_of_kind : Kind → State → Option ℕ
+place_of_kind kind.Ready Neither = None
+place_of_kind kind.Ready (Ready place) = Some place
+place_of_kind kind.Ready (Stuck place) = None
+place_of_kind kind.Stuck Neither = None
+place_of_kind kind.Stuck (Ready place) = None
+place_of_kind kind.Stuck (Stuck place) = Some place
 
--- the place among the stuck ones
-abbrev pub stuck_place : State → Option ℕ
-stuck_place Neither = None
-stuck_place (Ready place) = None
-stuck_place (Stuck place) = Some place
+-- the state at this place among those of a kind
+abbrev pub state_of_kind : Kind → ℕ → State
+state_of_kind kind.Ready place = Ready place
+state_of_kind kind.Stuck place = Stuck place
+
+-- the other kind
+abbrev pub other_kind : Kind → Kind
+other_kind kind.Ready = kind.Stuck
+other_kind kind.Stuck = kind.Ready
+
+-- the places among those of a kind, by the numbers of the vertices
+abbrev pub places_of_kind : Kind → RecordsView → List (Option ℕ)
+places_of_kind k records = map (place_of_kind k) records.states
 
 -- the vertex of the number is kept
 abbrev pub IsVertexKept : VerticesView → ℕ → Type 0
@@ -71,14 +84,16 @@ IsVertexKept v number = (v.first ≤ number) × (number < length v.vertices)
 abbrev pub HasPassed : List Open → VerticesView → ℕ → Type 0
 HasPassed classes v number = IsPast classes (vertex_at v.vertices number) × ¬ (Has v.ready number) × ¬ (Has v.stuck number)
 
--- the ready and the stuck numbers are those of which the records say so, there is this much room for them, and their records
--- are kept
-pub record AreVerticesKept (records : RecordsView) (ready stuck : List ℕ) (ready_room stuck_room : ℕ) : Type 0 where
-  pub are_ready : IsSubset ready (map ready_place records.states) ready_room
-  pub are_stuck : IsSubset stuck (map stuck_place records.states) stuck_room
+-- the numbers of a kind are those of which the records say so, there is this much room for them, and their records are kept
+pub record AreMembers (k : Kind) (records : RecordsView) (members : List ℕ) (room : ℕ) : Type 0 where
+  pub subset : IsSubset members (places_of_kind k records) room
+  pub kept : AllIn (λ n. records.first ≤ n) members
   pub sizes : length records.states ≡ length records.vertices
-  pub ready_kept : AllIn (λ n. records.first ≤ n) ready
-  pub stuck_kept : AllIn (λ n. records.first ≤ n) stuck
+
+-- and this of both kinds
+pub record AreVerticesKept (records : RecordsView) (ready stuck : List ℕ) (ready_room stuck_room : ℕ) : Type 0 where
+  pub ready : AreMembers kind.Ready records ready ready_room
+  pub stuck : AreMembers kind.Stuck records stuck stuck_room
 
 -- how many more vertices fit in: as records, and among the ready and the stuck ones, where there are this many
 abbrev pub room_of : ℕ → ℕ → ℕ → ℕ → ℕ

@@ -4,9 +4,9 @@ ghost use Rattle.dt_waits.specs.Graph.{vertex_at};
 ghost use Rattle.dt_graph.specs.SubsetInner.{PutsIn, Removes};
 ghost use Rattle.dt_graph.specs.VerticesInner.{IsVertexKept};
 
-use crate::kept::State;
+use crate::kept::Kind;
+use crate::members::{put, take};
 use crate::records::Records;
-use crate::room::push_reserved;
 use dt_text::NoMemory;
 use dt_waits::{Slots, Vertex};
 use std::alloc::Global;
@@ -179,7 +179,7 @@ impl Vertices {
         requires { number < length self.now.vertices }
         ensures { IsTrue result ↔ Has self.now.ready number }
     {
-        self.is_kept(number) && matches!(self.records.state(number), State::Ready(_))
+        self.is_kept(number) && self.records.state(number).place_in(Kind::Ready).is_some()
     }
 
     /// Whether a vertex is stuck.
@@ -187,7 +187,7 @@ impl Vertices {
         requires { number < length self.now.vertices }
         ensures { IsTrue result ↔ Has self.now.stuck number }
     {
-        self.is_kept(number) && matches!(self.records.state(number), State::Stuck(_))
+        self.is_kept(number) && self.records.state(number).place_in(Kind::Stuck).is_some()
     }
 
     /// Puts a vertex that is not stuck to the ready ones, unless it is one of them. Takes no memory.
@@ -198,9 +198,7 @@ impl Vertices {
         ensures same { self.new ≡ record self.old { ready = self.new.ready; room = self.new.room } }
     {
         if !self.is_ready(number) {
-            let place = self.ready.len() as u32;
-            self.records.set_state(number, State::Ready(place));
-            push_reserved(&mut self.ready, number);
+            put(&mut self.records, &mut self.ready, Kind::Ready, number);
         }
     }
 
@@ -212,9 +210,7 @@ impl Vertices {
         ensures same { self.new ≡ record self.old { stuck = self.new.stuck; room = self.new.room } }
     {
         if !self.is_stuck(number) {
-            let place = self.stuck.len() as u32;
-            self.records.set_state(number, State::Stuck(place));
-            push_reserved(&mut self.stuck, number);
+            put(&mut self.records, &mut self.stuck, Kind::Stuck, number);
         }
     }
 
@@ -224,15 +220,7 @@ impl Vertices {
         ensures removed { Removes number self.old.ready self.new.ready }
         ensures same { self.new ≡ record self.old { ready = self.new.ready } }
     {
-        if let State::Ready(place) = self.records.state(number) {
-            if let Some(last) = self.ready.pop() {
-                if last != number {
-                    self.ready[place as usize] = last;
-                    self.records.set_state(last, State::Ready(place));
-                }
-            }
-            self.records.set_state(number, State::Neither);
-        }
+        take(&mut self.records, &mut self.ready, Kind::Ready, number);
     }
 
     /// Takes a vertex out of the stuck ones, if it is one of them; the last one comes to its place. Takes no memory.
@@ -241,14 +229,6 @@ impl Vertices {
         ensures removed { Removes number self.old.stuck self.new.stuck }
         ensures same { self.new ≡ record self.old { stuck = self.new.stuck } }
     {
-        if let State::Stuck(place) = self.records.state(number) {
-            if let Some(last) = self.stuck.pop() {
-                if last != number {
-                    self.stuck[place as usize] = last;
-                    self.records.set_state(last, State::Stuck(place));
-                }
-            }
-            self.records.set_state(number, State::Neither);
-        }
+        take(&mut self.records, &mut self.stuck, Kind::Stuck, number);
     }
 }

@@ -1,7 +1,8 @@
 use Rattle.std.proofs.Common.{◌≤◌, ℕ, length, ap, arith}
 use Rattle.std.proofs.lemmas.List.{length-map}
 use Rattle.dt_lists.proofs.Callers.{few_below}
-use Rattle.dt_graph.specs.VerticesInner.{ready_place, stuck_place}
+use Rattle.dt_graph.specs.VerticesInner.{place_of_kind}
+use Rattle.dt_graph.specs.declared.kept.Kind.TheVariants as kind
 use Rattle.dt_graph.proofs.KeptVertices.{kept_same}
 use Rattle.dt_graph.proofs.vertices.Vertices.reserve.Goals as goal
 
@@ -11,14 +12,14 @@ self_le n = omega arith
 pub overflow_sub-records : goal.overflow_sub-records
 overflow_sub-records c =
     let s = c.self.inside in
-    let few = few_below _ s.ready.items c.self.invariant.are_ready.once c.self.invariant.are_ready.within in
-    omega (arith, few, length-map s.records.states ready_place, c.self.invariant.sizes, c.len.ensures, c.len-records.ensures, s.ready.ok.0)
+    let few = few_below _ s.ready.items c.self.invariant.ready.subset.once c.self.invariant.ready.subset.within in
+    omega (arith, few, length-map s.records.states (place_of_kind kind.Ready), c.self.invariant.ready.sizes, c.len.ensures, c.len-records.ensures, s.ready.ok.0)
 
 pub overflow_sub-records-2 : goal.overflow_sub-records-2
 overflow_sub-records-2 c =
     let s = c.self.inside in
-    let few = few_below _ s.stuck.items c.self.invariant.are_stuck.once c.self.invariant.are_stuck.within in
-    omega (arith, few, length-map s.records.states stuck_place, c.self.invariant.sizes, c.len-2.ensures, c.len-records.ensures, s.stuck.ok.0)
+    let few = few_below _ s.stuck.items c.self.invariant.stuck.subset.once c.self.invariant.stuck.subset.within in
+    omega (arith, few, length-map s.records.states (place_of_kind kind.Stuck), c.self.invariant.stuck.sizes, c.len-2.ensures, c.len-records.ensures, s.stuck.ok.0)
 
 pub invariant_of-self-in_err-reserve-2 : goal.invariant_of-self-in_err-reserve-2
 invariant_of-self-in_err-reserve-2 c =
