@@ -157,11 +157,20 @@ pub members_beside : (k : Kind) (old new : RecordsView) (items : List ℕ) (room
     → new ≡ record old { states = new.states } → AreMembers k new items room
 members_beside k old new items room m places same = members_same k old new items room room m places (ap (λ x. length x.vertices) same) (ap (λ x. x.first) same) (omega arith)
 
+-- where one of them went, and its place with it
+pub members_removed : (k : Kind) (old new : RecordsView) (items rest : List ℕ) (room number : ℕ) → AreMembers k old items room → Removes number items rest → IsSubset rest (places_of_kind k new) room
+    → length new.states ≡ length new.vertices → new.first ≡ old.first → AreMembers k new rest room
+members_removed k old new items rest room number m gone subset sizes first = record {
+  subset = subset;
+  kept = subst (λ f. AllIn (λ n. f ≤ n) rest) (sym first) (all_put _ rest (λ n h. all_get _ items m.kept n ((gone n).0 h).0));
+  sizes = sizes;
+}
+
 pub kept_same : (old new : RecordsView) (ready stuck : List ℕ) (r s more_r more_s : ℕ) → AreVerticesKept old ready stuck r s → new.states ≡ old.states → length new.vertices ≡ length old.vertices → new.first ≡ old.first
     → r ≤ more_r → s ≤ more_s → AreVerticesKept new ready stuck more_r more_s
 kept_same old new ready stuck r s more_r more_s k states size first le_r le_s = record {
-  ready = members_same _ old new ready r more_r k.ready (ap (map (place_of_kind _)) states) size first le_r;
-  stuck = members_same _ old new stuck s more_s k.stuck (ap (map (place_of_kind _)) states) size first le_s;
+  are_ready = members_same kind.Ready old new ready r more_r k.are_ready (ap (map (place_of_kind kind.Ready)) states) size first le_r;
+  are_stuck = members_same kind.Stuck old new stuck s more_s k.are_stuck (ap (map (place_of_kind kind.Stuck)) states) size first le_s;
 }
 
 -- where the first that is kept is forgotten
@@ -179,8 +188,8 @@ members_forgotten k old new items room m out e = record {
 pub kept_forgotten : (old new : RecordsView) (ready stuck : List ℕ) (r s : ℕ) → AreVerticesKept old ready stuck r s → ¬ (Has ready old.first) → ¬ (Has stuck old.first)
     → new ≡ record old { first = old.first + 1; room = new.room } → AreVerticesKept new ready stuck r s
 kept_forgotten old new ready stuck r s k not_ready not_stuck e = record {
-  ready = members_forgotten _ old new ready r k.ready not_ready e;
-  stuck = members_forgotten _ old new stuck s k.stuck not_stuck e;
+  are_ready = members_forgotten kind.Ready old new ready r k.are_ready not_ready e;
+  are_stuck = members_forgotten kind.Stuck old new stuck s k.are_stuck not_stuck e;
 }
 
 -- where one is added that is neither ready nor stuck
@@ -200,8 +209,8 @@ pub kept_pushed : (old new : RecordsView) (ready stuck : List ℕ) (r s : ℕ) (
     → new.vertices ≡ old.vertices ++ vertex ∷ [] → new.first ≡ old.first
     → length old.vertices + 1 < 2 ^ 32 → length old.vertices + 1 ≤ r → length old.vertices + 1 ≤ s → AreVerticesKept new ready stuck r s
 kept_pushed old new ready stuck r s vertex k states vertices first few fits_r fits_s = record {
-  ready = members_pushed _ old new ready r vertex k.ready states vertices first few fits_r;
-  stuck = members_pushed _ old new stuck s vertex k.stuck states vertices first few fits_s;
+  are_ready = members_pushed kind.Ready old new ready r vertex k.are_ready states vertices first few fits_r;
+  are_stuck = members_pushed kind.Stuck old new stuck s vertex k.are_stuck states vertices first few fits_s;
 }
 
 pub below_kept : (kept : List Kept) (n : ℕ) → n < length (vertices_of kept) → n < length kept
@@ -214,9 +223,6 @@ module _ (kept : List Kept) (n : ℕ) (lt : n < length (vertices_of kept)) (k : 
 
   pub degree_read : k.degree ≡ get_or (degrees_of kept) n 0
   degree_read = ap (λ x. x.degree) is ∙ sym (get_or-map (λ x. x.degree) kept n k 0 (below_kept kept n lt))
-
-  pub state_read : k.state ≡ get_or (states_of kept) n Neither
-  state_read = ap (λ x. x.state) is ∙ sym (get_or-map (λ x. x.state) kept n k Neither (below_kept kept n lt))
 
   pub vertices_beside : (y : Kept) → y.vertex ≡ k.vertex → vertices_of (set kept n y) ≡ vertices_of kept
   vertices_beside y e = map-set_same (λ x. x.vertex) kept n y k (e ∙ ap (λ x. x.vertex) is)

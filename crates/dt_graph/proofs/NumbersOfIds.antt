@@ -1,8 +1,7 @@
 -- Numbers of ids: a new id gets the next one, and every other id keeps its own.
-use Rattle.std.proofs.Common.{◌≡◌, ◌≢◌, ◌<◌, ◌+◌, ◌^◌, ◌⊎◌, ◌∙◌, ℕ, List, [], ◌∷◌, ◌++◌, length, Option, None, Some}
-use Rattle.std.proofs.Common.{arith, sym, subst, inl, inr}
+use Rattle.std.proofs.Common.{◌≡◌, ◌≢◌, ◌<◌, ◌+◌, ◌^◌, ◌⊎◌, ℕ, List, [], ◌∷◌, ◌++◌, length, Option, None, Some}
+use Rattle.std.proofs.Common.{sym, subst, inl, inr}
 use Rattle.std.proofs.lemmas.List.{length-append}
-use Rattle.std.proofs.lemmas.Option.{slice_get_within}
 use Rattle.dt_lists.specs.Lists.{Has}
 use Rattle.dt_lists.proofs.Callers.{distinct_push, has_more, last_place, place_in_longer}
 use Rattle.dt_access.specs.declared.TxnId.{TxnId}
@@ -15,17 +14,6 @@ number_more ids id other None ne absent = λ h. elim (has_more ids id other h) [
 number_more ids id other (Some n) ne there = place_in_longer ids (id ∷ []) n other there
 
 module _ (ids : List TxnId) (numbers : TxnId → Option ℕ) (kept : AreIdsNumbered ids numbers) where
-  -- what is found is the number
-  pub number_found : (id : TxnId) (r : Option ℕ) → r ≡ numbers id → IsNumberOf ids id r
-  number_found id r e = subst (IsNumberOf ids id) (sym e) (kept.found id)
-
-  pub number_fits : (id : TxnId) (n : ℕ) → Some n ≡ numbers id → n < 2 ^ 32
-  number_fits id n e = let lt = slice_get_within ids n id (number_found id (Some n) e) in omega (arith, lt, kept.few)
-
-  -- where each id is found as before
-  pub numbered_same : (new : TxnId → Option ℕ) → ((id : TxnId) → new id ≡ numbers id) → AreIdsNumbered ids new
-  numbered_same new same = record { few = kept.few; once = kept.once; found = λ id. number_found id (new id) (same id) }
-
   -- a new id got the next number
   pub numbered_more : (id : TxnId) → ¬ (Has ids id) → length ids + 1 < 2 ^ 32 → (new : TxnId → Option ℕ) → new id ≡ Some (length ids) → ((other : TxnId) → other ≢ id → new other ≡ numbers other)
       → AreIdsNumbered (ids ++ id ∷ []) new

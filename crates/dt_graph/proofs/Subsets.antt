@@ -116,13 +116,6 @@ module _ (items : List ℕ) (places : List (Option ℕ)) (room : ℕ) (s : IsSub
       less : (a b : ℕ) → a < b → b < 2 ^ 32 → a + 1 < 2 ^ 32
       less a b e f = omega (arith, e, f)
 
-  -- the place of a number that is there, too
-  pub found_fits : (place : ℕ) → get_or places number None ≡ Some place → place + 1 < 2 ^ 32
-  found_fits place e = less _ _ _ (slice_get_within items place number (subst (StandsAtPlace items number) e (s.placed number lt))) (few_below (length places) items s.once s.within) s.few
-    where
-      less : (a b c : ℕ) → a < b → b ≤ c → c < 2 ^ 32 → a + 1 < 2 ^ 32
-      less a b c e f g = omega (arith, e, f, g)
-
   pub subset_added : number < 2 ^ 32 → get_or places number None ≡ None → IsSubset (items ++ number ∷ []) (set places number (Some (length items))) room
   subset_added small e = record {
     few = subst (λ n. n < 2 ^ 32) (sym (length-set places number (Some (length items)))) s.few;

@@ -92,8 +92,8 @@ pub record AreMembers (k : Kind) (records : RecordsView) (members : List ℕ) (r
 
 -- and this of both kinds
 pub record AreVerticesKept (records : RecordsView) (ready stuck : List ℕ) (ready_room stuck_room : ℕ) : Type 0 where
-  pub ready : AreMembers kind.Ready records ready ready_room
-  pub stuck : AreMembers kind.Stuck records stuck stuck_room
+  pub are_ready : AreMembers kind.Ready records ready ready_room
+  pub are_stuck : AreMembers kind.Stuck records stuck stuck_room
 
 -- how many more vertices fit in: as records, and among the ready and the stuck ones, where there are this many
 abbrev pub room_of : ℕ → ℕ → ℕ → ℕ → ℕ

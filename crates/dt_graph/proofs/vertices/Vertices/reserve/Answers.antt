@@ -12,14 +12,14 @@ self_le n = omega arith
 pub overflow_sub-records : goal.overflow_sub-records
 overflow_sub-records c =
     let s = c.self.inside in
-    let few = few_below _ s.ready.items c.self.invariant.ready.subset.once c.self.invariant.ready.subset.within in
-    omega (arith, few, length-map s.records.states (place_of_kind kind.Ready), c.self.invariant.ready.sizes, c.len.ensures, c.len-records.ensures, s.ready.ok.0)
+    let few = few_below _ s.ready.items c.self.invariant.are_ready.subset.once c.self.invariant.are_ready.subset.within in
+    omega (arith, few, length-map s.records.states (place_of_kind kind.Ready), c.self.invariant.are_ready.sizes, c.len.ensures, c.len-records.ensures, s.ready.ok.0)
 
 pub overflow_sub-records-2 : goal.overflow_sub-records-2
 overflow_sub-records-2 c =
     let s = c.self.inside in
-    let few = few_below _ s.stuck.items c.self.invariant.stuck.subset.once c.self.invariant.stuck.subset.within in
-    omega (arith, few, length-map s.records.states (place_of_kind kind.Stuck), c.self.invariant.stuck.sizes, c.len-2.ensures, c.len-records.ensures, s.stuck.ok.0)
+    let few = few_below _ s.stuck.items c.self.invariant.are_stuck.subset.once c.self.invariant.are_stuck.subset.within in
+    omega (arith, few, length-map s.records.states (place_of_kind kind.Stuck), c.self.invariant.are_stuck.sizes, c.len-2.ensures, c.len-records.ensures, s.stuck.ok.0)
 
 pub invariant_of-self-in_err-reserve-2 : goal.invariant_of-self-in_err-reserve-2
 invariant_of-self-in_err-reserve-2 c =
