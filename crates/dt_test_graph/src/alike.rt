@@ -2,11 +2,12 @@
 ghost use Rattle.std.specs.Prelude.{◌≡◌, [], replicate};
 
 use crate::calls::{Call, make, ready};
+use crate::clashes::{class_at, edges_of};
 use dt_access::{Part, TxnId, are_ascending, put_id};
 use dt_graph::QueueSched;
 use dt_plain::{PlainSched, empty_logs};
 use dt_sched::Scheduler;
-use dt_text::NoMemory;
+use dt_text::{Listed, NoMemory};
 use std::alloc::Global;
 use std::mem::forget;
 use std::test::Fail;
@@ -17,7 +18,8 @@ use std::test::Fail;
 pub enum Then {
     /// Whether both tell this, and answer alike of each choice of five ids whether it is a class that may be resolved.
     Tells(&'static [u8]),
-    /// Whether both answer so of these choices. Mostly they are no class, but a part of one, two together, or nothing of the kind.
+    /// Whether both answer alike of the class of each id, and of these choices. A choice is mostly no class, but a part of one, two
+    /// together, or nothing of the kind.
     Asks([u64; 4]),
 }
 
@@ -130,7 +132,18 @@ fn lets_resolve<S: Scheduler + Drop, T: Scheduler + Drop>(
     }
 }
 
-/// Whether both answer alike of these choices of ids whether they are a class that may be resolved.
+/// Whether both answer alike whether these ids are a class that may be resolved.
+fn same_class(
+    alloc: Global,
+    plain: &PlainSched,
+    queue: &QueueSched,
+    ids: &[TxnId],
+) -> Result<bool, Fail> {
+    let here = is_resolvable(alloc, plain, ids)?;
+    Ok(is_resolvable(alloc, queue, ids)? == here)
+}
+
+/// Whether both answer alike of each of these choices of ids whether it is a class that may be resolved.
 fn same_classes(
     alloc: Global,
     plain: &PlainSched,
@@ -140,8 +153,25 @@ fn same_classes(
 ) -> Result<bool, Fail> {
     for choice in choices {
         let some = chosen(alloc, ids, *choice)?;
-        let here = is_resolvable(alloc, plain, some.as_slice())?;
-        if is_resolvable(alloc, queue, some.as_slice())? != here {
+        if !same_class(alloc, plain, queue, some.as_slice())? {
+            return Ok(false);
+        }
+    }
+    Ok(true)
+}
+
+/// Whether both answer alike of the class of each id, as it is in the logs, whether it may be resolved.
+fn same_of_each(
+    alloc: Global,
+    plain: &PlainSched,
+    queue: &QueueSched,
+    ids: &[TxnId],
+    logs: &[Listed<Part>],
+) -> Result<bool, Fail> {
+    let edges = edges_of(alloc, ids, logs)?;
+    for place in 0..ids.len() as u32 {
+        let class = class_at(alloc, ids, edges.as_slice(), place)?;
+        if !same_class(alloc, plain, queue, class.as_slice())? {
             return Ok(false);
         }
     }
@@ -174,6 +204,7 @@ fn answer(
     alloc: Global,
     plain: &PlainSched,
     queue: &QueueSched,
+    logs: &[Listed<Part>],
     ids: &[TxnId],
     then: &Then,
 ) -> Result<bool, Fail> {
@@ -183,7 +214,10 @@ fn answer(
                 && tells(alloc, queue, want)?
                 && same_classes(alloc, plain, queue, ids, &EACH)?,
         ),
-        Then::Asks(choices) => same_classes(alloc, plain, queue, ids, choices),
+        Then::Asks(choices) => Ok(
+            same_of_each(alloc, plain, queue, ids, logs)?
+                && same_classes(alloc, plain, queue, ids, choices)?,
+        ),
     }
 }
 
@@ -200,7 +234,10 @@ fn go_on(
     let mut logs = empty_logs(alloc, run.regions)?;
     for (call, then) in run.steps {
         make(alloc, &mut logs, plain, queue, call)?;
-        if !agree(alloc, plain, queue, run.ids)? || !answer(alloc, plain, queue, run.ids, then)? {
+        if !agree(alloc, plain, queue, run.ids)? {
+            return Ok(false);
+        }
+        if !answer(alloc, plain, queue, logs.as_slice(), run.ids, then)? {
             return Ok(false);
         }
     }

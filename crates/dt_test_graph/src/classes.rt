@@ -22,14 +22,14 @@ fn graph(alloc: Global, vertices: u32, edges: &[(u32, u32)]) -> Result<Adj, Fail
 
 /// What is asked of a vertex.
 #[derive(Clone, Copy)]
-enum Ask {
+pub enum Ask {
     Behind,
     Ahead,
     Class,
 }
 
 /// What a graph answers for a vertex; nothing for one that it hasn't.
-fn asked(
+pub fn asked(
     alloc: Global,
     vertices: u32,
     edges: &[(u32, u32)],

@@ -10,6 +10,8 @@ mod alike;
 #[cfg(test)]
 mod calls;
 #[cfg(test)]
+mod clashes;
+#[cfg(test)]
 mod classes;
 #[cfg(test)]
 mod drawn;
