@@ -7,13 +7,14 @@ use std::test::Fail;
 
 /// The place of an id among ids, or how many they are where it is none of them.
 fn place_of(ids: &[TxnId], id: TxnId) -> u32 {
-    let count = ids.len() as u32;
-    for place in 0..count {
-        if ids[place as usize] == id {
+    let mut place = 0u32;
+    for other in ids {
+        if *other == id {
             return place;
         }
+        place = place.saturating_add(1);
     }
-    count
+    place
 }
 
 /// Adds an edge to the id of a part from that of each earlier one that clashes with it.
@@ -71,6 +72,7 @@ pub fn class_at(
     edges: &[(u32, u32)],
     place: u32,
 ) -> Result<Vec<TxnId>, Fail> {
-    let places = asked(alloc, ids.len() as u32, edges, Ask::Class, place)?;
+    let count = u32::try_from(ids.len()).unwrap_or(u32::MAX);
+    let places = asked(alloc, count, edges, Ask::Class, place)?;
     at_places(alloc, ids, places.as_slice())
 }
