@@ -2,7 +2,7 @@
 ghost use Rattle.std.specs.Prelude.{◌≡◌, [], replicate};
 
 use crate::calls::{Call, make, ready};
-use crate::clashes::{class_at, edges_of};
+use crate::clashes::{MOST, class_at, edges_of};
 use dt_access::{Part, TxnId, are_ascending, put_id};
 use dt_graph::QueueSched;
 use dt_plain::{PlainSched, empty_logs};
@@ -18,8 +18,8 @@ use std::test::Fail;
 pub enum Then {
     /// Whether both tell this, and answer alike of each choice of five ids whether it is a class that may be resolved.
     Tells(&'static [u8]),
-    /// Whether both answer alike of the class of each id, and of these choices. A choice is mostly no class, but a part of one, two
-    /// together, or nothing of the kind.
+    /// Whether both answer alike of the class of each of the first eight ids, and of these choices. A choice is mostly no class, but a
+    /// part of one, two together, or nothing of the kind.
     Asks([u64; 4]),
 }
 
@@ -160,7 +160,7 @@ fn same_classes(
     Ok(true)
 }
 
-/// Whether both answer alike of the class of each id, as it is in the logs, whether it may be resolved.
+/// Whether both answer alike of the class of each of the first eight ids, as it is in the logs, whether it may be resolved.
 fn same_of_each(
     alloc: Global,
     plain: &PlainSched,
@@ -169,7 +169,7 @@ fn same_of_each(
     logs: &[Listed<Part>],
 ) -> Result<bool, Fail> {
     let edges = edges_of(alloc, ids, logs)?;
-    for place in 0..ids.len() as u32 {
+    for place in 0..MOST {
         let class = class_at(alloc, ids, edges.as_slice(), place)?;
         if !same_class(alloc, plain, queue, class.as_slice())? {
             return Ok(false);

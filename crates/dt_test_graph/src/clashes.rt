@@ -5,12 +5,15 @@ use dt_text::Listed;
 use std::alloc::Global;
 use std::test::Fail;
 
+/// How many ids a graph has vertices for: the first ones.
+pub const MOST: u32 = 8;
+
 /// The place of an id among ids, or how many they are where it is none of them.
 fn place_of(ids: &[TxnId], id: TxnId) -> u32 {
-    let mut place = 0u32;
+    let mut place: u32 = 0;
     for other in ids {
         if *other == id {
-            return place;
+            break;
         }
         place = place.saturating_add(1);
     }
@@ -72,7 +75,6 @@ pub fn class_at(
     edges: &[(u32, u32)],
     place: u32,
 ) -> Result<Vec<TxnId>, Fail> {
-    let count = u32::try_from(ids.len()).unwrap_or(u32::MAX);
-    let places = asked(alloc, count, edges, Ask::Class, place)?;
+    let places = asked(alloc, MOST, edges, Ask::Class, place)?;
     at_places(alloc, ids, places.as_slice())
 }
