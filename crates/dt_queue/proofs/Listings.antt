@@ -7,12 +7,12 @@ use Rattle.std.proofs.lemmas.List.{append-nil, take-append-drop}
 use Rattle.std.proofs.lemmas.List.Elements.{filter-append}
 use Rattle.std.proofs.lemmas.Bool.{and_from, and_parts}
 use Rattle.dt_lists.specs.Lists.{AllIn, AnyIn, Distinct, EachThen, Has}
-use Rattle.dt_lists.proofs.Callers.{all_get, all_map, all_put, any_get, any_map, any_of_image, any_put, each_append, either_nat, filter_all, filter_each, filter_none, filter_whole}
+use Rattle.dt_lists.proofs.Callers.{all_get, all_map, all_put, any_append, any_append_left, any_append_right, any_get, any_map, any_of_image, any_put, each_append, either_nat, filter_all, filter_each, filter_none, filter_whole}
 use Rattle.dt_lists.proofs.Callers.{has_filter, has_map, has_of_filtered, of_filter}
 use Rattle.dt_queue.specs.declared.mark.Mark.{Mark}
 use Rattle.dt_queue.specs.declared.listing.Listing.{Listing}
 use Rattle.dt_queue.specs.declared.listed.ListedRows.{ListedRows}
-use Rattle.dt_queue.specs.ListedInner.{AppendsListing, AreLogged, IsListedBy, IsListedRow, SameListings, Tidies, is_later, is_numbered, is_oldest, is_used, last_at, log_at, rows_between, rows_of_oldest, since, stays}
+use Rattle.dt_queue.specs.ListedInner.{AppendsListing, AreLogged, Forgets, IsListedBy, IsListedRow, SameListings, Tidies, is_later, is_numbered, is_oldest, is_used, last_at, log_at, rows_between, rows_of_oldest, since, stays}
 
 -- ---- where searches end
 
@@ -145,7 +145,7 @@ found_between l g low top high row lt b = by l.exact refl (any_get _ (log_at l g
         low_late = subst (λ t. (if t then low else 0) < a.number) e late
 
         within : low < a.number → a.number ≤ top → is_numbered low high a ≡ true
-        within m n = and_from _ _ (grind (arith, m)) (grind (arith, n, lt))
+        within m n = and_from (nat_lt low a.number) (nat_lt a.number high) (grind (arith, m)) (grind (arith, n, lt))
     by false e (a, h, (is, old, late, most)) = subst (λ t. Has (rows_of_oldest (if t then low else 0) (if t then filter (is_numbered low high) (log_at l g) else log_at l g)) row) (sym e)
         (subst (Has (rows_of_oldest 0 (log_at l g))) is
         (has_map (λ (x : Listing). x.row) (filter (is_oldest 0) (log_at l g)) a
@@ -259,3 +259,20 @@ logged_tidied l new granule first reads writes logged t apart = record {
     each g (inr ne) =
         subst (AllIn (λ x. (x.before < x.number) × (x.number ≤ last_at new x.row))) (sym (t.others g ne))
         (all_put _ (log_at l g) (λ x h. let r = had g x h in (r.0, subst (λ n. x.number ≤ n) (sym (t.last.others x.row (λ b. ne (apart g x.row b (any_put (λ y. y.row ≡ x.row) (log_at l g) x h refl))))) r.1)))
+
+-- ---- rows in which nothing waits have no last listing any more
+
+pub none_forgotten : (reads writes : List (List Mark)) (P : ℕ → Type 0) (old : List ℕ) → ((row : ℕ) → ¬ (P row)) → Forgets reads writes P old old
+none_forgotten reads writes P old none = record { used = λ r u. refl; gone = λ r u h. absurd (none r h); others = λ r no. refl }
+
+-- one more row was looked at
+pub forgets_more : (reads writes : List (List Mark)) (done : List Listing) (a : Listing) (old mid new : List ℕ) → Forgets reads writes (IsListedRow done) old mid → Forgets reads writes (λ r. r ≡ a.row) mid new
+    → Forgets reads writes (IsListedRow (done ++ a ∷ [])) old new
+forgets_more reads writes done a old mid new f g = record {
+  used = λ r u. g.used r u ∙ f.used r u;
+  gone = λ r u h. elim (either_nat r a.row) [
+    | inl e ↦ g.gone r u e
+    | inr ne ↦ g.others r ne ∙ f.gone r u (elim (any_append (λ (x : Listing). x.row ≡ r) done (a ∷ []) h) [ inl o ↦ o | inr o ↦ absurd (elim o [ inl e ↦ ne (sym e) | inr b ↦ b ]) ])
+  ];
+  others = λ r no. g.others r (λ e. no (any_append_right (λ (x : Listing). x.row ≡ r) done (a ∷ []) (inl (sym e)))) ∙ f.others r (λ h. no (any_append_left (λ (x : Listing). x.row ≡ r) done (a ∷ []) h));
+}

@@ -1,8 +1,8 @@
-ghost use Rattle.std.specs.Prelude.{◌≡◌, ◌≤◌, ◌<◌, ◌-◌, ℕ, [], OnErr, OnOk, get_or, length, map, take, vec_capacity, vec_len};
+ghost use Rattle.std.specs.Prelude.{◌≡◌, ◌≤◌, ◌<◌, ◌-◌, ℕ, [], OnErr, OnOk, get_or, length, map, vec_capacity, vec_len};
 ghost use Rattle.std.specs.List.{filter};
 ghost use Rattle.dt_lists.specs.Lists.{EachThen};
 ghost use Rattle.dt_queue.specs.TableInner.{lanes_read, lanes_written};
-ghost use Rattle.dt_queue.specs.ListedInner.{AreLogged, Forgets, IsListedRow, ListsRow, SameListings, Tidies, is_numbered, last_at, log_at, is_later, rows_between, since, stays};
+ghost use Rattle.dt_queue.specs.ListedInner.{AreLogged, Forgets, IsListedRow, ListsRow, SameListings, Tidies, is_later, is_numbered, last_at, listed_left, log_at, rows_between, since, stays};
 
 use crate::listing::{ListedBetween, Listing};
 use crate::row::{Row, is_used};

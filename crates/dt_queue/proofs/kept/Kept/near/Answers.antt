@@ -13,8 +13,8 @@ use Rattle.dt_queue.proofs.kept.Kept.near.Goals as goal
 pub granule_of-granule-requires : goal.granule_of-granule-requires
 granule_of-granule-requires c = let k = c.args.self.now in omega (arith, c.requires.row_in, c.requires.kept.linked.each_row, length-map k.rows.table.items (λ (r : Row). r.granule))
 
-pub near_in_rows-marks-requires-clause-taken : goal.near_in_rows-marks-requires-clause-taken
-near_in_rows-marks-requires-clause-taken c =
+pub near_in_rows-requires-clause-taken : goal.near_in_rows-requires-clause-taken
+near_in_rows-requires-clause-taken c =
     let k = c.args.self.now in
     let x = c.args.cell.now in
     let o = c.last_between-whole.result in

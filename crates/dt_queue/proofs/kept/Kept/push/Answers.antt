@@ -2,10 +2,11 @@ use Rattle.std.proofs.Common.{le_refl, ◌≡◌, ◌<◌, ◌+◌, ◌^◌, ℕ
 use Rattle.std.proofs.lemmas.Option.{get_or_from_slice_get, slice_get_within}
 use Rattle.std.proofs.lemmas.List.{length-map}
 use Rattle.slab.specs.Slab.{Slab, Updates, get}
-use Rattle.dt_lists.specs.Lists.{Has, IsFront}
+use Rattle.dt_lists.specs.Lists.{AllIn, Has, IsFront}
 use Rattle.dt_access.specs.declared.access.Mode.{Mode}
 use Rattle.dt_queue.specs.declared.cell.Cell.{Cell}
 use Rattle.dt_queue.specs.declared.kept.Kept.{Kept}
+use Rattle.dt_queue.specs.declared.mark.Mark.{Mark}
 use Rattle.dt_queue.specs.declared.row.Row.{Row}
 use Rattle.dt_queue.specs.declared.rows.Rows.{Rows}
 use Rattle.dt_queue.specs.LanesInner.{SameLanes}
@@ -27,7 +28,7 @@ with_row k r kept linked keeps reads writes =
     lanes : (m : Mode) (p : ℕ) → lane (record k { rows = r }) m p ≡ lane k m p
     lanes m p = same_lanes (record k { rows = r }) k reads writes refl m p
 
--- the lanes are as before where the same rows and the same that take granules whole are kept
+-- the lanes are the same whatever the cells are
 lanes_in : (e : Kept) (cells : Slab Cell) (m : Mode) (p : ℕ) → lane (record e { cells = cells }) m p ≡ lane e m p
 lanes_in e cells m p = same_lanes (record e { cells = cells }) e (same_self _) (same_self _) refl m p
 
@@ -54,7 +55,8 @@ pub add_mark-requires-clause-last : goal.add_mark-requires-clause-last
 add_mark-requires-clause-last c =
     let e = c.enter.new.self in
     let place = place_at (links e.rows) c.args.mode c.in_ok-row.row in
-    rw (lanes_in e c.reserve.new.self c.args.mode place, sym (ap (λ (y : Kept). y.next_number) c.in_ok-enter.ensures.same)) (all_before e c.in_ok-enter.ensures.kept c.args.mode place)
+    subst (λ n. AllIn (λ (m : Mark). m.number < n) (lane (record e { cells = c.reserve.new.self }) c.args.mode place)) (ap (λ (y : Kept). y.next_number) c.in_ok-enter.ensures.same)
+    (rw (lanes_in e c.reserve.new.self c.args.mode place) (all_before e c.in_ok-enter.ensures.kept c.args.mode place))
 
 pub returns-in_err-add_mark-clause-kept : goal.returns-in_err-add_mark-clause-kept
 returns-in_err-add_mark-clause-kept c =
