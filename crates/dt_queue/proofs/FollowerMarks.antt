@@ -238,7 +238,8 @@ row_is_write reads writes low high w row first read =
     ∙ ap (λ v. or_else_one (filter (is_between low (number_or v high)) reads) v) (first_in_is low high writes w row.writes_numbered first)
 
 -- after a row was begun
-pub row_entered : (s n : NextMarks) (row : ℕ) (rest : ListedBetween) (found : Option Mark) → reads_left s ≡ [] → listed_left s.rows ≡ row ∷ listed_left rest → n ≡ record s { rows = rest; row = n.row; after = n.after; limit = n.limit }
+pub row_entered : (s n : NextMarks) (row : ℕ) (rest : ListedBetween) (found : Option Mark) → reads_left s ≡ [] → listed_left s.rows ≡ row ∷ listed_left rest
+    → n ≡ record s { rows = rest; row = n.row; after = n.after; limit = n.limit }
     → option_to_list found ++ reads_left n ≡ next_of_row (get_or (lanes_read s.table.now) row []) (get_or (lanes_written s.table.now) row []) s.low s.high → rows_left s ≡ option_to_list found ++ rows_left n
 row_entered s n row rest found none rows same taken =
     ap (λ l. l ++ next_of_rows (lanes_read s.table.now) (lanes_written s.table.now) s.low s.high (listed_left s.rows)) none

@@ -19,7 +19,7 @@ use Rattle.dt_queue.specs.KeptInner.{AreRowsListed, ChangesLaneOf, IsInLane, Are
 use Rattle.dt_queue.specs.declared.listed.ListedRows.{ListedRows}
 use Rattle.dt_queue.specs.declared.listed.Log.{Log}
 use Rattle.dt_queue.specs.LanesInner.{ChangesLane, SameLanes}
-use Rattle.dt_queue.specs.ListedInner.{IsListedRow, last_at, log_at}
+use Rattle.dt_queue.specs.ListedInner.{IsListedRow, last_listing, listings_at}
 use Rattle.dt_queue.specs.TableInner.{heads_of, lanes_of, lanes_read, lanes_written}
 use Rattle.dt_queue.specs.RowsInner.{AreRowsLinked, KeepsRows, RowLinks, granule_at, links}
 use Rattle.dt_queue.proofs.Marks.{numbered_more}
@@ -283,7 +283,7 @@ none_kept k linked slots table wholes logs lasts first last = record {
     logged = record {
       rising = λ e g. subst (EachThen (λ a b. a.number ≤ b.number)) (sym (no_log g)) tt;
       chained = λ g. subst (EachThen (λ a b. a.row ≡ b.row → a.number ≤ b.before)) (sym (no_log g)) tt;
-      each = λ g. subst (AllIn (λ a. (a.before < a.number) × (a.number ≤ last_at k.listed a.row))) (sym (no_log g)) tt;
+      each = λ g. subst (AllIn (λ a. (a.before < a.number) × (a.number ≤ last_listing k.listed a.row))) (sym (no_log g)) tt;
     };
     own = λ g row h. absurd (subst (λ l. IsListedRow l row) (no_log g) h);
     latest = λ e row. omega (arith, no_last row);
@@ -294,10 +294,10 @@ none_kept k linked slots table wholes logs lasts first last = record {
   };
 }
   where
-    no_log : (g : ℕ) → log_at k.listed g ≡ []
+    no_log : (g : ℕ) → listings_at k.listed g ≡ []
     no_log g = ap (λ l. get_or (map (λ (x : Log). x.listings.items) l) g []) logs
 
-    no_last : (row : ℕ) → last_at k.listed row ≡ 0
+    no_last : (row : ℕ) → last_listing k.listed row ≡ 0
     no_last row = ap (λ l. get_or l row 0) lasts
 
     none : (s : ℕ) (c : Cell) → get k.cells s ≡ Some c → ⊥

@@ -1,18 +1,18 @@
 -- Logs of listings: where searches in them end, what they give between two pushes, and how they change.
-use Rattle.std.proofs.Common.{◌≡◌, ◌≢◌, ◌⊎◌, ℕ, zero, suc, ◌<◌, ◌≤◌, ◌==◌, ◌&&◌, Bool, true, false, not, nat_le, nat_lt, cond, if◌then◌else◌, List, []}
-use Rattle.std.proofs.Common.{◌∷◌, ◌++◌, length, get_or, map, take, drop, slice_index_or, refl, ap, sym, subst, inl, inr, arith, ◌∙◌}
+use Rattle.std.proofs.Common.{◌≡◌, ◌≢◌, ◌⊎◌, ℕ, zero, suc, ◌<◌, ◌≤◌, ◌&&◌, Bool, true, false, not, nat_le, nat_lt, cond, if◌then◌else◌, List, []}
+use Rattle.std.proofs.Common.{◌∷◌, ◌++◌, length, map, take, drop, slice_index_or, refl, ap, sym, subst, inl, inr, arith, ◌∙◌}
 use Rattle.std.specs.List.{filter}
 use Rattle.std.specs.List.Sorted.{IsNonDecreasingBy, IsPartitionPoint}
 use Rattle.std.proofs.lemmas.List.{append-nil, take-append-drop}
 use Rattle.std.proofs.lemmas.List.Elements.{filter-append}
 use Rattle.std.proofs.lemmas.Bool.{and_from, and_parts}
-use Rattle.dt_lists.specs.Lists.{AllIn, AnyIn, Distinct, EachThen, Has}
-use Rattle.dt_lists.proofs.Callers.{all_get, all_map, all_put, any_append, any_append_left, any_append_right, any_get, any_map, any_of_image, any_put, each_append, either_nat, filter_all, filter_each, filter_none, filter_whole}
+use Rattle.dt_lists.specs.Lists.{AllIn, Distinct, EachThen, Has}
+use Rattle.dt_lists.proofs.Callers.{all_get, all_map, all_put, any_append, any_append_left, any_append_right, any_get, any_map, any_of_image, any_put, each_append, either_nat, filter_each, filter_none, filter_whole}
 use Rattle.dt_lists.proofs.Callers.{has_filter, has_map, has_of_filtered, of_filter}
 use Rattle.dt_queue.specs.declared.mark.Mark.{Mark}
 use Rattle.dt_queue.specs.declared.listing.Listing.{Listing}
 use Rattle.dt_queue.specs.declared.listed.ListedRows.{ListedRows}
-use Rattle.dt_queue.specs.ListedInner.{AppendsListing, AreLogged, Forgets, IsListedBy, IsListedRow, SameListings, Tidies, is_later, is_numbered, is_oldest, is_used, last_at, log_at, rows_between, rows_of_oldest, since, stays}
+use Rattle.dt_queue.specs.ListedInner.{AppendsListing, AreLogged, Forgets, IsListedBy, IsListedRow, SameListings, Tidies, is_later, is_numbered, is_oldest, is_used, last_listing, listings_at, rows_between, rows_of_oldest, since, stays}
 
 -- ---- where searches end
 
@@ -63,7 +63,8 @@ both low high (y ∷ ys) = by (is_later low y) refl (both low high ys)
 
     by : (t : Bool) → is_later low y ≡ t → filter (is_numbered low high) ys ≡ filter below (filter (is_later low) ys)
         → filter (is_numbered low high) (y ∷ ys) ≡ filter below (cond t (y ∷ filter (is_later low) ys) (filter (is_later low) ys))
-    by true e rest = subst (λ t. cond (t && below y) (y ∷ filter (is_numbered low high) ys) (filter (is_numbered low high) ys) ≡ cond (below y) (y ∷ filter below (filter (is_later low) ys)) (filter below (filter (is_later low) ys))) (sym e)
+    by true e rest = subst (λ t. cond (t && below y) (y ∷ filter (is_numbered low high) ys) (filter (is_numbered low high) ys)
+        ≡ cond (below y) (y ∷ filter below (filter (is_later low) ys)) (filter below (filter (is_later low) ys))) (sym e)
         (ap (λ l. cond (below y) (y ∷ l) l) rest)
     by false e rest = subst (λ t. cond (t && below y) (y ∷ filter (is_numbered low high) ys) (filter (is_numbered low high) ys) ≡ filter below (filter (is_later low) ys)) (sym e) rest
 
@@ -105,40 +106,40 @@ oldest_once low log chained all =
 pub once_between : (l : ListedRows) → AreLogged l → (g low high : ℕ) → Distinct (rows_between l g low high)
 once_between l logged g low high = by l.exact
   where
-    by : (t : Bool) → Distinct (rows_of_oldest (if t then low else 0) (if t then filter (is_numbered low high) (log_at l g) else log_at l g))
-    by true = oldest_once low (filter (is_numbered low high) (log_at l g)) (filter_each _ (is_numbered low high) (log_at l g) (logged.chained g))
-        (all_map _ (λ a. low < a.number) (filter (is_numbered low high) (log_at l g)) (λ a b. above a (and_parts _ _ b.1).0) (of_filter (is_numbered low high) (log_at l g)))
+    by : (t : Bool) → Distinct (rows_of_oldest (if t then low else 0) (if t then filter (is_numbered low high) (listings_at l g) else listings_at l g))
+    by true = oldest_once low (filter (is_numbered low high) (listings_at l g)) (filter_each _ (is_numbered low high) (listings_at l g) (logged.chained g))
+        (all_map _ (λ a. low < a.number) (filter (is_numbered low high) (listings_at l g)) (λ a b. above a (and_parts _ _ b.1).0) (of_filter (is_numbered low high) (listings_at l g)))
       where
         above : (a : Listing) → nat_lt low a.number ≡ true → low < a.number
         above a e = grind (arith, e)
-    by false = oldest_once 0 (log_at l g) (logged.chained g) (all_map _ (λ a. 0 < a.number) (log_at l g) (λ a b. omega (arith, b.0)) (logged.each g))
+    by false = oldest_once 0 (listings_at l g) (logged.chained g) (all_map _ (λ a. 0 < a.number) (listings_at l g) (λ a b. omega (arith, b.0)) (logged.each g))
 
 -- the rows that are found are listed
-pub listed_between : (l : ListedRows) (g low high row : ℕ) → Has (rows_between l g low high) row → IsListedRow (log_at l g) row
+pub listed_between : (l : ListedRows) (g low high row : ℕ) → Has (rows_between l g low high) row → IsListedRow (listings_at l g) row
 listed_between l g low high row = by l.exact (since l low)
   where
-    by : (t : Bool) (n : ℕ) → Has (rows_of_oldest n (if t then filter (is_numbered low high) (log_at l g) else log_at l g)) row → IsListedRow (log_at l g) row
+    by : (t : Bool) (n : ℕ) → Has (rows_of_oldest n (if t then filter (is_numbered low high) (listings_at l g) else listings_at l g)) row → IsListedRow (listings_at l g) row
     by t n h =
         let r = any_get (λ a. a.row ≡ row) (filter (is_oldest n) (list t)) (any_of_image (λ x. x ≡ row) (λ (a : Listing). a.row) (filter (is_oldest n) (list t)) h) in
-        any_put (λ a. a.row ≡ row) (log_at l g) r.0 (in_log t r.0 (has_of_filtered (is_oldest n) (list t) r.0 r.1).0) r.2
+        any_put (λ a. a.row ≡ row) (listings_at l g) r.0 (in_log t r.0 (has_of_filtered (is_oldest n) (list t) r.0 r.1).0) r.2
       where
         list : Bool → List Listing
-        list t = if t then filter (is_numbered low high) (log_at l g) else log_at l g
+        list t = if t then filter (is_numbered low high) (listings_at l g) else listings_at l g
 
-        in_log : (t : Bool) (a : Listing) → Has (list t) a → Has (log_at l g) a
-        in_log true a h = (has_of_filtered (is_numbered low high) (log_at l g) a h).0
+        in_log : (t : Bool) (a : Listing) → Has (list t) a → Has (listings_at l g) a
+        in_log true a h = (has_of_filtered (is_numbered low high) (listings_at l g) a h).0
         in_log false a h = h
 
 -- a row with a listing between the two, the oldest after the first, is found
 pub found_between : (l : ListedRows) (g low top high row : ℕ) → top < high → IsListedBy l g row (since l low) top → Has (rows_between l g low high) row
-found_between l g low top high row lt b = by l.exact refl (any_get _ (log_at l g) b)
+found_between l g low top high row lt b = by l.exact refl (any_get _ (listings_at l g) b)
   where
-    by : (t : Bool) → l.exact ≡ t → ((a : Listing) × Has (log_at l g) a × ((a.row ≡ row) × (a.before ≤ (if l.exact then low else 0)) × ((if l.exact then low else 0) < a.number) × (l.exact ≡ true → a.number ≤ top)))
-        → Has (rows_of_oldest (if l.exact then low else 0) (if l.exact then filter (is_numbered low high) (log_at l g) else log_at l g)) row
-    by true e (a, h, (is, old, late, most)) = subst (λ t. Has (rows_of_oldest (if t then low else 0) (if t then filter (is_numbered low high) (log_at l g) else log_at l g)) row) (sym e)
-        (subst (Has (rows_of_oldest low (filter (is_numbered low high) (log_at l g)))) is
-        (has_map (λ (x : Listing). x.row) (filter (is_oldest low) (filter (is_numbered low high) (log_at l g))) a
-        (has_filter (is_oldest low) (filter (is_numbered low high) (log_at l g)) a (has_filter (is_numbered low high) (log_at l g) a h (within low_late (most e)))
+    by : (t : Bool) → l.exact ≡ t → ((a : Listing) × Has (listings_at l g) a × ((a.row ≡ row) × (a.before ≤ (if l.exact then low else 0)) × ((if l.exact then low else 0) < a.number) × (l.exact ≡ true → a.number ≤ top)))
+        → Has (rows_of_oldest (if l.exact then low else 0) (if l.exact then filter (is_numbered low high) (listings_at l g) else listings_at l g)) row
+    by true e (a, h, (is, old, late, most)) = subst (λ t. Has (rows_of_oldest (if t then low else 0) (if t then filter (is_numbered low high) (listings_at l g) else listings_at l g)) row) (sym e)
+        (subst (Has (rows_of_oldest low (filter (is_numbered low high) (listings_at l g)))) is
+        (has_map (λ (x : Listing). x.row) (filter (is_oldest low) (filter (is_numbered low high) (listings_at l g))) a
+        (has_filter (is_oldest low) (filter (is_numbered low high) (listings_at l g)) a (has_filter (is_numbered low high) (listings_at l g) a h (within low_late (most e)))
         (is_oldest_to low a (subst (λ t. a.before ≤ (if t then low else 0)) e old)))))
       where
         low_late : low < a.number
@@ -146,20 +147,21 @@ found_between l g low top high row lt b = by l.exact refl (any_get _ (log_at l g
 
         within : low < a.number → a.number ≤ top → is_numbered low high a ≡ true
         within m n = and_from (nat_lt low a.number) (nat_lt a.number high) (grind (arith, m)) (grind (arith, n, lt))
-    by false e (a, h, (is, old, late, most)) = subst (λ t. Has (rows_of_oldest (if t then low else 0) (if t then filter (is_numbered low high) (log_at l g) else log_at l g)) row) (sym e)
-        (subst (Has (rows_of_oldest 0 (log_at l g))) is
-        (has_map (λ (x : Listing). x.row) (filter (is_oldest 0) (log_at l g)) a
-        (has_filter (is_oldest 0) (log_at l g) a h (is_oldest_to 0 a (subst (λ t. a.before ≤ (if t then low else 0)) e old)))))
+    by false e (a, h, (is, old, late, most)) = subst (λ t. Has (rows_of_oldest (if t then low else 0) (if t then filter (is_numbered low high) (listings_at l g) else listings_at l g)) row) (sym e)
+        (subst (Has (rows_of_oldest 0 (listings_at l g))) is
+        (has_map (λ (x : Listing). x.row) (filter (is_oldest 0) (listings_at l g)) a
+        (has_filter (is_oldest 0) (listings_at l g) a h (is_oldest_to 0 a (subst (λ t. a.before ≤ (if t then low else 0)) e old)))))
 
 -- a listing that does this is a listing of the row
-pub listed_row : (l : ListedRows) (g row low top : ℕ) → IsListedBy l g row low top → IsListedRow (log_at l g) row
-listed_row l g row low top b = any_map _ (λ a. a.row ≡ row) (log_at l g) (λ a p. p.0) b
+pub listed_row : (l : ListedRows) (g row low top : ℕ) → IsListedBy l g row low top → IsListedRow (listings_at l g) row
+listed_row l g row low top b = any_map _ (λ a. a.row ≡ row) (listings_at l g) (λ a p. p.0) b
 
 -- and so it is in another log that has these listings, and up to a greater number
-pub listed_by : (l new : ListedRows) (g row low top more : ℕ) → ((a : Listing) → Has (log_at l g) a → Has (log_at new g) a) → (new.exact ≡ true → (l.exact ≡ true) × (top ≤ more)) → IsListedBy l g row low top → IsListedBy new g row low more
+pub listed_by : (l new : ListedRows) (g row low top more : ℕ) → ((a : Listing) → Has (listings_at l g) a → Has (listings_at new g) a) → (new.exact ≡ true → (l.exact ≡ true) × (top ≤ more))
+    → IsListedBy l g row low top → IsListedBy new g row low more
 listed_by l new g row low top more longer most b =
-    let r = any_get _ (log_at l g) b in
-    any_put (λ a. (a.row ≡ row) × (a.before ≤ low) × (low < a.number) × (new.exact ≡ true → a.number ≤ more)) (log_at new g) r.0 (longer r.0 r.1)
+    let r = any_get _ (listings_at l g) b in
+    any_put (λ a. (a.row ≡ row) × (a.before ≤ low) × (low < a.number) × (new.exact ≡ true → a.number ≤ more)) (listings_at new g) r.0 (longer r.0 r.1)
     (r.2.0, r.2.1, r.2.2, λ e. let m = most e in omega (arith, r.2.3 m.0, m.1))
 
 -- ---- how logs change
@@ -168,16 +170,16 @@ pub same_logged : (l new : ListedRows) → AreLogged l → SameListings l new �
 same_logged l new logged same = record {
   rising = λ e g. subst (EachThen (λ a b. a.number ≤ b.number)) (sym (same.logs g)) (logged.rising (sym same.exact ∙ e) g);
   chained = λ g. subst (EachThen (λ a b. a.row ≡ b.row → a.number ≤ b.before)) (sym (same.logs g)) (logged.chained g);
-  each = λ g. subst (AllIn (λ a. (a.before < a.number) × (a.number ≤ last_at new a.row))) (sym (same.logs g))
-      (all_map _ (λ a. (a.before < a.number) × (a.number ≤ last_at new a.row)) (log_at l g) (λ a b. (b.0, subst (λ n. a.number ≤ n) (sym (same.last a.row)) b.1)) (logged.each g));
+  each = λ g. subst (AllIn (λ a. (a.before < a.number) × (a.number ≤ last_listing new a.row))) (sym (same.logs g))
+      (all_map _ (λ a. (a.before < a.number) × (a.number ≤ last_listing new a.row)) (listings_at l g) (λ a b. (b.0, subst (λ n. a.number ≤ n) (sym (same.last a.row)) b.1)) (logged.each g));
 }
 
-module _ (l new : ListedRows) (logged : AreLogged l) (granule : ℕ) (a : Listing) (put : AppendsListing granule a l new) (older : a.before ≡ last_at l a.row) (less : a.before < a.number)
-    (latest : l.exact ≡ true → (row : ℕ) → last_at l row ≤ a.number) where
+module _ (l new : ListedRows) (logged : AreLogged l) (granule : ℕ) (a : Listing) (put : AppendsListing granule a l new) (older : a.before ≡ last_listing l a.row) (less : a.before < a.number)
+    (latest : l.exact ≡ true → (row : ℕ) → last_listing l row ≤ a.number) where
   -- no last listing of a row has a lesser number than before
-  last_grows : (row : ℕ) → last_at l row ≤ last_at new row
+  last_grows : (row : ℕ) → last_listing l row ≤ last_listing new row
   last_grows row = elim (either_nat row a.row) [
-    | inl e ↦ omega (arith, ap (last_at l) e, ap (last_at new) e, put.last, older, less)
+    | inl e ↦ omega (arith, ap (last_listing l) e, ap (last_listing new) e, put.last, older, less)
     | inr ne ↦ omega (arith, put.rest row ne)
   ]
 
@@ -188,44 +190,44 @@ module _ (l new : ListedRows) (logged : AreLogged l) (granule : ℕ) (a : Listin
     each = λ g. each g (either_nat g granule);
   }
     where
-      below : (g : ℕ) (x : Listing) → Has (log_at l g) x → x.number ≤ last_at l x.row
-      below g x h = (all_get (λ y. (y.before < y.number) × (y.number ≤ last_at l y.row)) (log_at l g) (logged.each g) x h).1
+      below : (g : ℕ) (x : Listing) → Has (listings_at l g) x → x.number ≤ last_listing l x.row
+      below g x h = (all_get (λ y. (y.before < y.number) × (y.number ≤ last_listing l y.row)) (listings_at l g) (logged.each g) x h).1
 
-      rising : l.exact ≡ true → (g : ℕ) → (g ≡ granule) ⊎ (g ≢ granule) → EachThen (λ x y. x.number ≤ y.number) (log_at new g)
+      rising : l.exact ≡ true → (g : ℕ) → (g ≡ granule) ⊎ (g ≢ granule) → EachThen (λ x y. x.number ≤ y.number) (listings_at new g)
       rising e g (inl is) =
-          subst (λ i. EachThen (λ x y. x.number ≤ y.number) (log_at new i)) (sym is)
+          subst (λ i. EachThen (λ x y. x.number ≤ y.number) (listings_at new i)) (sym is)
           (subst (EachThen (λ x y. x.number ≤ y.number)) (sym put.log)
-          (each_append (λ x y. x.number ≤ y.number) (log_at l granule) (a ∷ []) (logged.rising e granule) (all_put _ (log_at l granule) (λ x h. (omega (arith, below granule x h, latest e x.row), tt))) (tt, tt)))
+          (each_append (λ x y. x.number ≤ y.number) (listings_at l granule) (a ∷ []) (logged.rising e granule) (all_put _ (listings_at l granule) (λ x h. (omega (arith, below granule x h, latest e x.row), tt))) (tt, tt)))
       rising e g (inr ne) = subst (EachThen (λ x y. x.number ≤ y.number)) (sym (put.others g ne)) (logged.rising e g)
 
-      chained : (g : ℕ) → (g ≡ granule) ⊎ (g ≢ granule) → EachThen (λ x y. x.row ≡ y.row → x.number ≤ y.before) (log_at new g)
+      chained : (g : ℕ) → (g ≡ granule) ⊎ (g ≢ granule) → EachThen (λ x y. x.row ≡ y.row → x.number ≤ y.before) (listings_at new g)
       chained g (inl is) =
-          subst (λ i. EachThen (λ x y. x.row ≡ y.row → x.number ≤ y.before) (log_at new i)) (sym is)
+          subst (λ i. EachThen (λ x y. x.row ≡ y.row → x.number ≤ y.before) (listings_at new i)) (sym is)
           (subst (EachThen (λ x y. x.row ≡ y.row → x.number ≤ y.before)) (sym put.log)
-          (each_append (λ x y. x.row ≡ y.row → x.number ≤ y.before) (log_at l granule) (a ∷ []) (logged.chained granule)
-          (all_put _ (log_at l granule) (λ x h. ((λ e. omega (arith, below granule x h, ap (last_at l) e, older)), tt))) (tt, tt)))
+          (each_append (λ x y. x.row ≡ y.row → x.number ≤ y.before) (listings_at l granule) (a ∷ []) (logged.chained granule)
+          (all_put _ (listings_at l granule) (λ x h. ((λ e. omega (arith, below granule x h, ap (last_listing l) e, older)), tt))) (tt, tt)))
       chained g (inr ne) = subst (EachThen (λ x y. x.row ≡ y.row → x.number ≤ y.before)) (sym (put.others g ne)) (logged.chained g)
 
-      old : (g : ℕ) → AllIn (λ x. (x.before < x.number) × (x.number ≤ last_at new x.row)) (log_at l g)
-      old g = all_map _ (λ x. (x.before < x.number) × (x.number ≤ last_at new x.row)) (log_at l g) (λ x b. (b.0, omega (arith, b.1, last_grows x.row))) (logged.each g)
+      old : (g : ℕ) → AllIn (λ x. (x.before < x.number) × (x.number ≤ last_listing new x.row)) (listings_at l g)
+      old g = all_map _ (λ x. (x.before < x.number) × (x.number ≤ last_listing new x.row)) (listings_at l g) (λ x b. (b.0, omega (arith, b.1, last_grows x.row))) (logged.each g)
 
-      each : (g : ℕ) → (g ≡ granule) ⊎ (g ≢ granule) → AllIn (λ x. (x.before < x.number) × (x.number ≤ last_at new x.row)) (log_at new g)
+      each : (g : ℕ) → (g ≡ granule) ⊎ (g ≢ granule) → AllIn (λ x. (x.before < x.number) × (x.number ≤ last_listing new x.row)) (listings_at new g)
       each g (inl is) =
-          subst (λ i. AllIn (λ x. (x.before < x.number) × (x.number ≤ last_at new x.row)) (log_at new i)) (sym is)
-          (subst (AllIn (λ x. (x.before < x.number) × (x.number ≤ last_at new x.row))) (sym put.log)
-          (more (log_at l granule) (old granule)))
+          subst (λ i. AllIn (λ x. (x.before < x.number) × (x.number ≤ last_listing new x.row)) (listings_at new i)) (sym is)
+          (subst (AllIn (λ x. (x.before < x.number) × (x.number ≤ last_listing new x.row))) (sym put.log)
+          (more (listings_at l granule) (old granule)))
         where
-          more : (xs : List Listing) → AllIn (λ x. (x.before < x.number) × (x.number ≤ last_at new x.row)) xs → AllIn (λ x. (x.before < x.number) × (x.number ≤ last_at new x.row)) (xs ++ a ∷ [])
+          more : (xs : List Listing) → AllIn (λ x. (x.before < x.number) × (x.number ≤ last_listing new x.row)) xs → AllIn (λ x. (x.before < x.number) × (x.number ≤ last_listing new x.row)) (xs ++ a ∷ [])
           more [] all = ((less, omega (arith, put.last)), tt)
           more (x ∷ xs) all = (all.0, more xs all.1)
-      each g (inr ne) = subst (AllIn (λ x. (x.before < x.number) × (x.number ≤ last_at new x.row))) (sym (put.others g ne)) (old g)
+      each g (inr ne) = subst (AllIn (λ x. (x.before < x.number) × (x.number ≤ last_listing new x.row))) (sym (put.others g ne)) (old g)
 
 -- a row with a listing that stays is in use
 pub stays_used : (first : ℕ) (reads writes : List (List Mark)) (a : Listing) → stays first reads writes a ≡ true → is_used reads writes a.row ≡ true
 stays_used first reads writes a e = (and_parts _ _ e).0
 
 pub logged_tidied : (l new : ListedRows) (granule first : ℕ) (reads writes : List (List Mark)) → AreLogged l → Tidies granule first reads writes l new
-    → ((g row : ℕ) → IsListedRow (log_at l granule) row → IsListedRow (log_at l g) row → g ≡ granule) → AreLogged new
+    → ((g row : ℕ) → IsListedRow (listings_at l granule) row → IsListedRow (listings_at l g) row → g ≡ granule) → AreLogged new
 logged_tidied l new granule first reads writes logged t apart = record {
   rising = λ e g. rising (sym t.exact ∙ e) g (either_nat g granule);
   chained = λ g. chained g (either_nat g granule);
@@ -235,30 +237,30 @@ logged_tidied l new granule first reads writes logged t apart = record {
     p : Listing → Bool
     p = stays first reads writes
 
-    rising : l.exact ≡ true → (g : ℕ) → (g ≡ granule) ⊎ (g ≢ granule) → EachThen (λ x y. x.number ≤ y.number) (log_at new g)
+    rising : l.exact ≡ true → (g : ℕ) → (g ≡ granule) ⊎ (g ≢ granule) → EachThen (λ x y. x.number ≤ y.number) (listings_at new g)
     rising e g (inl is) =
-        subst (λ i. EachThen (λ x y. x.number ≤ y.number) (log_at new i)) (sym is)
-        (subst (EachThen (λ x y. x.number ≤ y.number)) (sym t.log) (filter_each (λ x y. x.number ≤ y.number) p (log_at l granule) (logged.rising e granule)))
+        subst (λ i. EachThen (λ x y. x.number ≤ y.number) (listings_at new i)) (sym is)
+        (subst (EachThen (λ x y. x.number ≤ y.number)) (sym t.log) (filter_each (λ x y. x.number ≤ y.number) p (listings_at l granule) (logged.rising e granule)))
     rising e g (inr ne) = subst (EachThen (λ x y. x.number ≤ y.number)) (sym (t.others g ne)) (logged.rising e g)
 
-    chained : (g : ℕ) → (g ≡ granule) ⊎ (g ≢ granule) → EachThen (λ x y. x.row ≡ y.row → x.number ≤ y.before) (log_at new g)
+    chained : (g : ℕ) → (g ≡ granule) ⊎ (g ≢ granule) → EachThen (λ x y. x.row ≡ y.row → x.number ≤ y.before) (listings_at new g)
     chained g (inl is) =
-        subst (λ i. EachThen (λ x y. x.row ≡ y.row → x.number ≤ y.before) (log_at new i)) (sym is)
-        (subst (EachThen (λ x y. x.row ≡ y.row → x.number ≤ y.before)) (sym t.log) (filter_each (λ x y. x.row ≡ y.row → x.number ≤ y.before) p (log_at l granule) (logged.chained granule)))
+        subst (λ i. EachThen (λ x y. x.row ≡ y.row → x.number ≤ y.before) (listings_at new i)) (sym is)
+        (subst (EachThen (λ x y. x.row ≡ y.row → x.number ≤ y.before)) (sym t.log) (filter_each (λ x y. x.row ≡ y.row → x.number ≤ y.before) p (listings_at l granule) (logged.chained granule)))
     chained g (inr ne) = subst (EachThen (λ x y. x.row ≡ y.row → x.number ≤ y.before)) (sym (t.others g ne)) (logged.chained g)
 
-    had : (g : ℕ) (x : Listing) → Has (log_at l g) x → (x.before < x.number) × (x.number ≤ last_at l x.row)
-    had g x h = all_get (λ y. (y.before < y.number) × (y.number ≤ last_at l y.row)) (log_at l g) (logged.each g) x h
+    had : (g : ℕ) (x : Listing) → Has (listings_at l g) x → (x.before < x.number) × (x.number ≤ last_listing l x.row)
+    had g x h = all_get (λ y. (y.before < y.number) × (y.number ≤ last_listing l y.row)) (listings_at l g) (logged.each g) x h
 
-    each : (g : ℕ) → (g ≡ granule) ⊎ (g ≢ granule) → AllIn (λ x. (x.before < x.number) × (x.number ≤ last_at new x.row)) (log_at new g)
+    each : (g : ℕ) → (g ≡ granule) ⊎ (g ≢ granule) → AllIn (λ x. (x.before < x.number) × (x.number ≤ last_listing new x.row)) (listings_at new g)
     each g (inl is) =
-        subst (λ i. AllIn (λ x. (x.before < x.number) × (x.number ≤ last_at new x.row)) (log_at new i)) (sym is)
-        (subst (AllIn (λ x. (x.before < x.number) × (x.number ≤ last_at new x.row))) (sym t.log)
-        (all_map _ (λ x. (x.before < x.number) × (x.number ≤ last_at new x.row)) (filter p (log_at l granule))
-        (λ x b. let r = had granule x b.0 in (r.0, subst (λ n. x.number ≤ n) (sym (t.last.used x.row (stays_used first reads writes x b.1))) r.1)) (of_filter p (log_at l granule))))
+        subst (λ i. AllIn (λ x. (x.before < x.number) × (x.number ≤ last_listing new x.row)) (listings_at new i)) (sym is)
+        (subst (AllIn (λ x. (x.before < x.number) × (x.number ≤ last_listing new x.row))) (sym t.log)
+        (all_map _ (λ x. (x.before < x.number) × (x.number ≤ last_listing new x.row)) (filter p (listings_at l granule))
+        (λ x b. let r = had granule x b.0 in (r.0, subst (λ n. x.number ≤ n) (sym (t.last.used x.row (stays_used first reads writes x b.1))) r.1)) (of_filter p (listings_at l granule))))
     each g (inr ne) =
-        subst (AllIn (λ x. (x.before < x.number) × (x.number ≤ last_at new x.row))) (sym (t.others g ne))
-        (all_put _ (log_at l g) (λ x h. let r = had g x h in (r.0, subst (λ n. x.number ≤ n) (sym (t.last.others x.row (λ b. ne (apart g x.row b (any_put (λ y. y.row ≡ x.row) (log_at l g) x h refl))))) r.1)))
+        subst (AllIn (λ x. (x.before < x.number) × (x.number ≤ last_listing new x.row))) (sym (t.others g ne))
+        (all_put _ (listings_at l g) (λ x h. let r = had g x h in (r.0, subst (λ n. x.number ≤ n) (sym (t.last.others x.row (λ b. ne (apart g x.row b (any_put (λ y. y.row ≡ x.row) (listings_at l g) x h refl))))) r.1)))
 
 -- ---- rows in which nothing waits have no last listing any more
 

@@ -13,7 +13,7 @@ use Rattle.dt_access.specs.declared.access.Mode.TheVariants.{Read, Write, Whole}
 use Rattle.dt_queue.specs.declared.cell.Cell.{Cell}
 use Rattle.dt_queue.specs.declared.mark.Mark.{Mark}
 use Rattle.dt_queue.specs.declared.kept.Kept.{Kept}
-use Rattle.dt_queue.specs.KeptInner.{CellsClash, AreQueuesKept, HasOneNear, IsNearInMode, IsNearMark, IsNearOf, IsTaken, lane, mark_of}
+use Rattle.dt_queue.specs.KeptInner.{CellsClash, AreQueuesKept, HasOneNear, IsNearInMode, IsNearMark, IsNearOf, IsTakenWhole, lane, mark_of}
 use Rattle.dt_queue.specs.LanesInner.{AreMarks, HasRisingNumbers, IsBetween, IsLastBetween, IsLastIn, IsNearInRow, is_between, number_or}
 use Rattle.dt_queue.specs.ListedInner.{rows_between}
 use Rattle.dt_queue.specs.RowsInner.{granule_at, links}
@@ -113,7 +113,8 @@ near_in_row k kept x row low m c a (inr w) b clear = (b, inr (w, (λ j h e. meet
         let q = lane_tells k kept Write row m c a w in
         clear j d.0 d.1 used e.0 e.1 (write_clashes (links k.rows) c d.0 q.0 (q.1 ∙ sym d.2))
 
-pub clear_is_near : (mode : Mode) (k : Kept) → AreQueuesKept k → (x : Cell) (low : ℕ) → IsTaken k (granule_at (links k.rows) x.row) low → (m : Mark) (c : Cell) → IsMarkOf k m c → InUseOf mode k x.row m → IsBetween low x.number m → IsClearAfter mode k x m c
+pub clear_is_near : (mode : Mode) (k : Kept) → AreQueuesKept k → (x : Cell) (low : ℕ) → IsTakenWhole k (granule_at (links k.rows) x.row) low
+    → (m : Mark) (c : Cell) → IsMarkOf k m c → InUseOf mode k x.row m → IsBetween low x.number m → IsClearAfter mode k x m c
     → IsNearOf mode k x.row low x.number m
 clear_is_near Read k kept x low taken m c a used b clear = (used, b, λ j w e. meets j w e)
   where
@@ -129,7 +130,8 @@ clear_is_near Whole k kept x low taken m c a used b clear =
     (near_in_row k kept x used.0 low m c a used.2 b (λ j d f u lt le. clear j d f (used.0, used.1, u) lt le))
 
 -- where none is near, none is in use
-pub none_in_use : (mode : Mode) (k : Kept) → AreQueuesKept k → (x : Cell) (low : ℕ) → IsTaken k (granule_at (links k.rows) x.row) low → ((m : Mark) → ¬ (IsNearOf mode k x.row low x.number m)) → (m : Mark) → InUseOf mode k x.row m → ¬ (IsBetween low x.number m)
+pub none_in_use : (mode : Mode) (k : Kept) → AreQueuesKept k → (x : Cell) (low : ℕ) → IsTakenWhole k (granule_at (links k.rows) x.row) low
+    → ((m : Mark) → ¬ (IsNearOf mode k x.row low x.number m)) → (m : Mark) → InUseOf mode k x.row m → ¬ (IsBetween low x.number m)
 none_in_use Read k kept x low taken none m used b = by (last_there low x.number (lane k Write x.row) (kept.lanes Write x.row).numbered)
   where
     by : (o : Option Mark) × IsLastBetween low x.number (lane k Write x.row) o → ⊥
@@ -145,7 +147,7 @@ none_in_use Whole k kept x low taken none m used b =
     (marks_found k kept.listed (granule_at (links k.rows) x.row) used.0 low x.number m taken used.1 used.2 b.0 b.1) near)) m b used.2
 
 -- the number of the last that takes the granule, or 0
-pub taken_low : (k : Kept) (g top : ℕ) (o : Option Mark) → IsLastBetween 0 top (lane k Whole g) o → IsTaken k g (number_or o 0)
+pub taken_low : (k : Kept) (g top : ℕ) (o : Option Mark) → IsLastBetween 0 top (lane k Whole g) o → IsTakenWhole k g (number_or o 0)
 taken_low k g top None last = inl refl
 taken_low k g top (Some w) last = inr (w, last.0, refl)
 
@@ -238,7 +240,8 @@ module _ (k : Kept) (kept : AreQueuesKept k) (x : Cell) (o : Option Mark) (last 
       let a : IsMarkOf k m c = record { there = n.1; is = n.2 } in
       elim (clash_uses x.mode k kept x refl m c a n.4 c.mode refl) [
         | inl h ↦ inl h
-        | inr used ↦ inr (clear_is_near x.mode k kept x (number_or o 0) (taken_low k (granule_at (links k.rows) x.row) x.number o last) m c a used (later m c a (use_clashes x.mode k kept x refl m c a used).0 n.4 (below c a n.3) n.5, below c a n.3)
+        | inr used ↦ inr (clear_is_near x.mode k kept x (number_or o 0) (taken_low k (granule_at (links k.rows) x.row) x.number o last) m c a used
+            (later m c a (use_clashes x.mode k kept x refl m c a used).0 n.4 (below c a n.3) n.5, below c a n.3)
             (λ j d b u lt le clash. n.5 j.slot d b.there (omega (arith, lt, number_of_mark k m c a, number_of_mark k j d b)) (omega (arith, le, number_of_mark k j d b)) clash (use_clashes x.mode k kept x refl j d b u).1))
       ]
     where
@@ -272,7 +275,8 @@ module _ (k : Kept) (kept : AreQueuesKept k) (x : Cell) (o : Option Mark) (last 
 
   -- where none is, the last that takes the granule as a whole is near
   pub near_taker : AreMarks (IsNearInMode k x (number_or o 0)) [] → AreMarks (IsNearMark k x) (option_to_list o)
-  near_taker marks = by o last (λ m u. none_in_use x.mode k kept x (number_or o 0) (taken_low k (granule_at (links k.rows) x.row) x.number o last) (λ j n. (marks.members j).1 n) m u) (λ m n. elim (mode_of_near m n) [ inl h ↦ h | inr g ↦ absurd ((marks.members m).1 g) ])
+  near_taker marks = by o last (λ m u. none_in_use x.mode k kept x (number_or o 0) (taken_low k (granule_at (links k.rows) x.row) x.number o last) (λ j n. (marks.members j).1 n) m u)
+      (λ m n. elim (mode_of_near m n) [ inl h ↦ h | inr g ↦ absurd ((marks.members m).1 g) ])
     where
       by : (o : Option Mark) → IsLastBetween 0 x.number taken o → ((m : Mark) → InUseOf x.mode k x.row m → ¬ (IsBetween (number_or o 0) x.number m)) → ((m : Mark) → IsNearMark k x m → Has taken m)
           → AreMarks (IsNearMark k x) (option_to_list o)

@@ -11,7 +11,7 @@ use Rattle.dt_access.specs.declared.access.Mode.TheVariants.{Read, Write, Whole}
 use Rattle.dt_queue.specs.declared.cell.Cell.{Cell}
 use Rattle.dt_queue.specs.declared.mark.Mark.{Mark}
 use Rattle.dt_queue.specs.declared.kept.Kept.{Kept}
-use Rattle.dt_queue.specs.KeptInner.{CellsClash, AreQueuesKept, IsKeptCell, IsNextInMode, IsNextMark, IsNextOfMode, IsTaken, lane, mark_of}
+use Rattle.dt_queue.specs.KeptInner.{CellsClash, AreQueuesKept, IsKeptCell, IsNextInMode, IsNextMark, IsNextOfMode, IsTakenWhole, lane, mark_of}
 use Rattle.dt_queue.specs.LanesInner.{IsBetween, IsFirstBetween, IsNextInRow, number_or}
 use Rattle.dt_queue.specs.NextInner.{AreEachOnce, or_else_one}
 use Rattle.dt_queue.specs.ListedInner.{rows_between}
@@ -92,7 +92,8 @@ next_in_row k kept x row high m c a (inr w) b clear = (b, inr (w, (λ j h e. mee
         let q = lane_tells k kept Write row m c a w in
         clear j d.0 d.1 used e.0 e.1 (clash_turned (links k.rows) c d.0 (write_clashes (links k.rows) c d.0 q.0 (q.1 ∙ sym d.2)))
 
-clear_is_next : (mode : Mode) (k : Kept) → AreQueuesKept k → (x : Cell) → (mode ≡ Whole → IsTaken k (granule_at (links k.rows) x.row) x.number) → (high : ℕ) (m : Mark) (c : Cell) → IsMarkOf k m c → InUseOf mode k x.row m → IsBetween x.number high m → IsClearBefore mode k x m c
+clear_is_next : (mode : Mode) (k : Kept) → AreQueuesKept k → (x : Cell) → (mode ≡ Whole → IsTakenWhole k (granule_at (links k.rows) x.row) x.number)
+    → (high : ℕ) (m : Mark) (c : Cell) → IsMarkOf k m c → InUseOf mode k x.row m → IsBetween x.number high m → IsClearBefore mode k x m c
     → IsNextOfMode mode k x.row x.number high m
 clear_is_next Read k kept x taken high m c a used b clear = (used, b, λ j w e. meets j w e)
   where
@@ -108,7 +109,8 @@ clear_is_next Whole k kept x taken high m c a used b clear =
     (next_in_row k kept x used.0 high m c a used.2 b (λ j d f u lt le. clear j d f (used.0, used.1, u) lt le))
 
 -- where none is next, none is in use
-none_in_use : (mode : Mode) (k : Kept) → AreQueuesKept k → (x : Cell) → (mode ≡ Whole → IsTaken k (granule_at (links k.rows) x.row) x.number) → (high : ℕ) → ((m : Mark) → ¬ (IsNextOfMode mode k x.row x.number high m)) → (m : Mark) → InUseOf mode k x.row m → ¬ (IsBetween x.number high m)
+none_in_use : (mode : Mode) (k : Kept) → AreQueuesKept k → (x : Cell) → (mode ≡ Whole → IsTakenWhole k (granule_at (links k.rows) x.row) x.number) → (high : ℕ)
+    → ((m : Mark) → ¬ (IsNextOfMode mode k x.row x.number high m)) → (m : Mark) → InUseOf mode k x.row m → ¬ (IsBetween x.number high m)
 none_in_use Read k kept x taken high none m used b = by (first_there x.number high (lane k Write x.row) (kept.lanes Write x.row).numbered)
   where
     by : (o : Option Mark) × IsFirstBetween x.number high (lane k Write x.row) o → ⊥
@@ -124,7 +126,7 @@ none_in_use Whole k kept x taken high none m used b =
     (marks_found k kept.listed (granule_at (links k.rows) x.row) used.0 x.number high m (taken refl) used.1 used.2 b.0 b.1) near)) m b used.2
 
 -- a cell that waits to take a granule whole has its number
-taken_here : (k : Kept) → AreQueuesKept k → (x : Cell) → IsKeptCell k x → x.mode ≡ Whole → IsTaken k (granule_at (links k.rows) x.row) x.number
+taken_here : (k : Kept) → AreQueuesKept k → (x : Cell) → IsKeptCell k x → x.mode ≡ Whole → IsTakenWhole k (granule_at (links k.rows) x.row) x.number
 taken_here k kept x (slot, there) whole =
     inr (mark_of slot x, in_lane k kept (mark_of slot x) x (record { there = there; is = refl }) Whole (granule_at (links k.rows) x.row) (whole, refl), refl)
 

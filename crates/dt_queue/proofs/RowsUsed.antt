@@ -1,12 +1,12 @@
 -- Listed rows: between each entry that takes a granule whole and each mark of a row after it the row is listed. So it is after a row
 -- was listed, after a log was tidied, and after a mark was added, taken out or renumbered.
-use Rattle.std.proofs.Common.{◌≡◌, ◌≢◌, ◌⊎◌, ◌↔◌, ℕ, ◌<◌, ◌≤◌, Bool, true, false, not, ◌==◌, ◌&&◌, ◌||◌, nat_lt, if◌then◌else◌, List, [], ◌∷◌, ◌++◌, get_or, map, Result, Ok, Err, OnOk, OnErr}
+use Rattle.std.proofs.Common.{◌≡◌, ◌≢◌, ◌⊎◌, ℕ, ◌<◌, ◌≤◌, Bool, true, false, not, ◌==◌, ◌||◌, nat_lt, if◌then◌else◌, List, [], ◌∷◌, ◌++◌, map, Result, Ok, Err, OnOk, OnErr}
 use Rattle.std.proofs.Common.{◌+◌, ◌^◌, length, Option, None, Some, refl, ap, sym, subst, inl, inr, arith, ◌∙◌}
 use Rattle.std.specs.List.{filter}
 use Rattle.std.proofs.lemmas.Bool.{and_from}
 use Rattle.slab.specs.Slab.{Updates, get}
 use Rattle.dt_lists.specs.Lists.{AnyIn, Has}
-use Rattle.dt_lists.proofs.Callers.{any_append, any_append_left, any_append_right, any_get, any_of_image, any_put, either_any, either_le, either_nat, front_length, has_filter, has_longer, has_map, has_of_filtered}
+use Rattle.dt_lists.proofs.Callers.{any_append, any_append_right, any_get, any_of_image, any_put, either_any, either_le, either_nat, front_length, has_filter, has_longer, has_of_filtered}
 use Rattle.dt_access.specs.Clash.{is_whole}
 use Rattle.dt_access.specs.declared.access.Mode.{Mode}
 use Rattle.dt_access.specs.declared.access.Mode.TheVariants.{Read, Write, Whole}
@@ -15,8 +15,8 @@ use Rattle.dt_queue.specs.declared.mark.Mark.{Mark}
 use Rattle.dt_queue.specs.declared.kept.Kept.{Kept}
 use Rattle.dt_queue.specs.declared.listed.ListedRows.{ListedRows}
 use Rattle.dt_queue.specs.declared.listing.Listing.{Listing}
-use Rattle.dt_queue.specs.ListedInner.{AppendsListing, AreLogged, IsListedBy, IsListedRow, ListsRow, SameListings, Tidies, is_used, last_at, log_at, rows_between, since, stays}
-use Rattle.dt_queue.specs.KeptInner.{AreQueuesKept, AreRowsListed, ChangesLaneOf, IsEntered, IsLow, IsTaken, IsTop, lane, mark_of, place_at}
+use Rattle.dt_queue.specs.ListedInner.{AppendsListing, AreLogged, IsListedBy, IsListedRow, ListsRow, SameListings, Tidies, is_used, last_listing, listings_at, rows_between, since, stays}
+use Rattle.dt_queue.specs.KeptInner.{AreQueuesKept, AreRowsListed, ChangesLaneOf, IsEntered, IsLow, IsTakenWhole, IsTop, lane, mark_of, place_at}
 use Rattle.dt_queue.specs.LanesInner.{IsFirstBetween, IsLastBetween, number_or}
 use Rattle.dt_queue.specs.TableInner.{lanes_read, lanes_written}
 use Rattle.dt_queue.specs.RowsInner.{AreRowsLinked, KeepsRows, RowLinks, granule_at, links}
@@ -91,7 +91,7 @@ keeps_links : (k n : Kept) → (links n.rows) ≡ (links k.rows) → KeepsRows (
 keeps_links k n rows = subst (KeepsRows (links k.rows)) (sym rows) (rows_refl (links k.rows))
 
 pub all_the_same : (k n : Kept) → n.listed ≡ k.listed → SameListings k.listed n.listed
-all_the_same k n list = record { logs = λ g. ap (λ l. log_at l g) list; last = λ row. ap (λ l. last_at l row) list; exact = ap (λ (l : ListedRows). l.exact) list }
+all_the_same k n list = record { logs = λ g. ap (λ l. listings_at l g) list; last = λ row. ap (λ l. last_listing l row) list; exact = ap (λ (l : ListedRows). l.exact) list }
 
 -- a mark was taken out of the lane of a row
 pub rows_removed : (k n : Kept) (mode : Mode) (place number : ℕ) → AreQueuesKept k → (links n.rows) ≡ (links k.rows) → n.listed ≡ k.listed → n.next_number ≡ k.next_number
@@ -113,8 +113,8 @@ pub rows_pushed : (k n : Kept) (mode : Mode) (row : ℕ) (new : Mark) → AreQue
     → (IsPart mode → IsEntered k row) → AreRowsListed n
 rows_pushed k n mode row new kept rows list number later changed others entered = record {
   logged = subst AreLogged (sym list) kept.listed.logged;
-  own = λ g r h. subst (λ (x : RowLinks). (r < length x.names) × (granule_at x r ≡ g)) (sym rows) (kept.listed.own g r (subst (λ l. IsListedRow (log_at l g) r) list h));
-  latest = λ e r. omega (arith, kept.listed.latest (exact e) r, ap (λ l. last_at l r) list, later);
+  own = λ g r h. subst (λ (x : RowLinks). (r < length x.names) × (granule_at x r ≡ g)) (sym rows) (kept.listed.own g r (subst (λ l. IsListedRow (listings_at l g) r) list h));
+  latest = λ e r. omega (arith, kept.listed.latest (exact e) r, ap (λ l. last_listing l r) list, later);
   covered = λ r low top lo to lt.
       subst (λ (x : RowLinks). IsListedBy n.listed (granule_at x r) r low top) (sym rows)
       (subst (λ l. IsListedBy l (granule_at (links k.rows) r) r low top) (sym list)
@@ -127,10 +127,10 @@ rows_pushed k n mode row new kept rows list number later changed others entered 
     came : (m : Mode) (p : ℕ) (x : Mark) → Has (lane n m p) x → Has (lane k m p) x ⊎ (m ≡ mode) × (p ≡ place_at (links k.rows) mode row) × (new ≡ x)
     came m p x h = elim (either_place m mode p (place_at (links k.rows) mode row)) [
       | inl b ↦ elim (any_append (λ y. y ≡ x) (lane k mode (place_at (links k.rows) mode row)) (new ∷ [])
-            (subst (λ l. Has l x) changed (subst (λ q. Has (lane n mode q) x) b.1 (subst (λ o. Has (lane n o p) x) b.0 h)))) [
-          | inl old ↦ inl (subst (λ o. Has (lane k o p) x) (sym b.0) (subst (λ q. Has (lane k mode q) x) (sym b.1) old))
-          | inr one ↦ inr (b.0, b.1, elim one [ inl e ↦ e | inr e ↦ absurd e ])
-        ]
+          (subst (λ l. Has l x) changed (subst (λ q. Has (lane n mode q) x) b.1 (subst (λ o. Has (lane n o p) x) b.0 h)))) [
+            | inl old ↦ inl (subst (λ o. Has (lane k o p) x) (sym b.0) (subst (λ q. Has (lane k mode q) x) (sym b.1) old))
+            | inr one ↦ inr (b.0, b.1, elim one [ inl e ↦ e | inr e ↦ absurd e ])
+          ]
       | inr ne ↦ inl (subst (λ l. Has l x) (others m p ne) h)
     ]
 
@@ -142,7 +142,7 @@ rows_pushed k n mode row new kept rows list number later changed others entered 
     ]
 
     was_top : (r top : ℕ) → IsTop n r top → IsTop k r top ⊎ IsPart mode × (r ≡ row) × (top ≡ k.next_number)
-    was_top r top (inl e) = inl (inl (e ∙ ap (λ l. last_at l r) list))
+    was_top r top (inl e) = inl (inl (e ∙ ap (λ l. last_listing l r) list))
     was_top r top (inr (m, h, is)) =
         let a = of_row n r m h in
         elim (came a.0 r m a.2) [
@@ -207,7 +207,7 @@ pub rows_renumbered : (k n : Kept) (f : Mark → Mark) (mode : Mode) (place : �
     → lane n mode place ≡ map f (lane k mode place) → AreOthers k n mode place → AreRowsListed n
 rows_renumbered k n f mode place kept free rows list changed others = record {
   logged = subst AreLogged (sym list) kept.listed.logged;
-  own = λ g r h. subst (λ (x : RowLinks). (r < length x.names) × (granule_at x r ≡ g)) (sym rows) (kept.listed.own g r (subst (λ l. IsListedRow (log_at l g) r) list h));
+  own = λ g r h. subst (λ (x : RowLinks). (r < length x.names) × (granule_at x r ≡ g)) (sym rows) (kept.listed.own g r (subst (λ l. IsListedRow (listings_at l g) r) list h));
   latest = λ e r. not_free e;
   covered = λ r low top lo to lt.
       subst (λ (x : RowLinks). IsListedBy n.listed (granule_at x r) r low top) (sym rows)
@@ -227,7 +227,7 @@ rows_renumbered k n f mode place kept free rows list changed others = record {
     was m p x h = elim (either_place m mode p place) [
       | inl b ↦
           let r = any_get (λ y. f y ≡ x) (lane k mode place) (any_of_image (λ y. y ≡ x) f (lane k mode place)
-              (subst (λ l. Has l x) changed (subst (λ q. Has (lane n mode q) x) b.1 (subst (λ o. Has (lane n o p) x) b.0 h)))) in
+          (subst (λ l. Has l x) changed (subst (λ q. Has (lane n mode q) x) b.1 (subst (λ o. Has (lane n o p) x) b.0 h)))) in
           (r.0, subst (λ o. Has (lane k o p) r.0) (sym b.0) (subst (λ q. Has (lane k mode q) r.0) (sym b.1) r.1))
       | inr ne ↦ (x, subst (λ l. Has l x) (others m p ne) h)
     ]
@@ -236,7 +236,7 @@ rows_renumbered k n f mode place kept free rows list changed others = record {
     freely r low top other b = listed_by k.listed k.listed (granule_at (links k.rows) r) r low other top (λ a h. h) (λ e. no_whole (sym free ∙ e)) b
 
     covered : (r low top : ℕ) → low ≡ 0 → IsTop n r top → low < top → IsListedBy k.listed (granule_at (links k.rows) r) r low top
-    covered r low top zero (inl e) lt = kept.listed.covered r low top (inl zero) (inl (e ∙ ap (λ l. last_at l r) list)) lt
+    covered r low top zero (inl e) lt = kept.listed.covered r low top (inl zero) (inl (e ∙ ap (λ l. last_listing l r) list)) lt
     covered r low top zero (inr (x, h, is)) lt =
         let a = of_row n r x h in
         let y = was a.0 r x a.2 in
@@ -284,19 +284,19 @@ listed_tidied k granule first new listed takers t = record {
     p : Listing → Bool
     p = stays first (lanes_read k.rows.table.items) (lanes_written k.rows.table.items)
 
-    was : (g row : ℕ) → IsListedRow (log_at new g) row → (g ≡ granule) ⊎ (g ≢ granule) → IsListedRow (log_at k.listed g) row
+    was : (g row : ℕ) → IsListedRow (listings_at new g) row → (g ≡ granule) ⊎ (g ≢ granule) → IsListedRow (listings_at k.listed g) row
     was g row h (inl e) =
-        let r = any_get (λ (a : Listing). a.row ≡ row) (log_at new g) h in
-        any_put (λ (a : Listing). a.row ≡ row) (log_at k.listed g) r.0
-        (subst (λ i. Has (log_at k.listed i) r.0) (sym e) (has_of_filtered p (log_at k.listed granule) r.0 (subst (λ l. Has l r.0) t.log (subst (λ i. Has (log_at new i) r.0) e r.1))).0) r.2
+        let r = any_get (λ (a : Listing). a.row ≡ row) (listings_at new g) h in
+        any_put (λ (a : Listing). a.row ≡ row) (listings_at k.listed g) r.0
+        (subst (λ i. Has (listings_at k.listed i) r.0) (sym e) (has_of_filtered p (listings_at k.listed granule) r.0 (subst (λ l. Has l r.0) t.log (subst (λ i. Has (listings_at new i) r.0) e r.1))).0) r.2
     was g row h (inr ne) = subst (λ l. IsListedRow l row) (t.others g ne) h
 
-    listed_here : (row : ℕ) → IsListedRow (log_at k.listed granule) row ⊎ ¬ (IsListedRow (log_at k.listed granule) row)
-    listed_here row = either_any (λ (a : Listing). a.row ≡ row) (log_at k.listed granule) (λ a. either_nat a.row row)
+    listed_here : (row : ℕ) → IsListedRow (listings_at k.listed granule) row ⊎ ¬ (IsListedRow (listings_at k.listed granule) row)
+    listed_here row = either_any (λ (a : Listing). a.row ≡ row) (listings_at k.listed granule) (λ a. either_nat a.row row)
 
-    latest : k.listed.exact ≡ true → (row : ℕ) (u : Bool) → used row ≡ u → last_at new row ≤ k.next_number
+    latest : k.listed.exact ≡ true → (row : ℕ) (u : Bool) → used row ≡ u → last_listing new row ≤ k.next_number
     latest e row true u = omega (arith, listed.latest e row, t.last.used row u)
-    latest e row false u = elim (listed_here row) [ inl h ↦ omega (arith, t.last.gone row u h) | inr no ↦ omega (arith, listed.latest e row, t.last.others row no) ]
+    latest e row false u = elim (listed_here row) [ inl h ↦ omega (arith, t.last.gone row u h) | inr absent ↦ omega (arith, listed.latest e row, t.last.others row absent) ]
 
     was_low : (g low : ℕ) → IsLow (record k { listed = new }) g low → IsLow k g low
     was_low g low (inl e) = inl e
@@ -306,10 +306,10 @@ listed_tidied k granule first new listed takers t = record {
     kept_on : (g row low top : ℕ) → used row ≡ true → IsLow k g low → (g ≡ granule) ⊎ (g ≢ granule) → IsListedBy k.listed g row low top → IsListedBy new g row low top
     kept_on g row low top u lo (inr ne) b = listed_by k.listed new g row low top top (λ a h. subst (λ l. Has l a) (sym (t.others g ne)) h) (λ e. (sym t.exact ∙ e, omega arith)) b
     kept_on g row low top u lo (inl is) b =
-        let r = any_get _ (log_at k.listed g) b in
-        any_put (λ (a : Listing). (a.row ≡ row) × (a.before ≤ low) × (low < a.number) × (new.exact ≡ true → a.number ≤ top)) (log_at new g) r.0
-        (subst (λ i. Has (log_at new i) r.0) (sym is) (subst (λ l. Has l r.0) (sym t.log)
-        (has_filter p (log_at k.listed granule) r.0 (subst (λ i. Has (log_at k.listed i) r.0) is r.1) (stay r.0 r.2.0 r.2.1 r.2.2 lo))))
+        let r = any_get _ (listings_at k.listed g) b in
+        any_put (λ (a : Listing). (a.row ≡ row) × (a.before ≤ low) × (low < a.number) × (new.exact ≡ true → a.number ≤ top)) (listings_at new g) r.0
+        (subst (λ i. Has (listings_at new i) r.0) (sym is) (subst (λ l. Has l r.0) (sym t.log)
+        (has_filter p (listings_at k.listed granule) r.0 (subst (λ i. Has (listings_at k.listed i) r.0) is r.1) (stay r.0 r.2.0 r.2.1 r.2.2 lo))))
         (r.2.0, r.2.1, r.2.2, λ e. r.2.3 (sym t.exact ∙ e))
       where
         stay : (a : Listing) → a.row ≡ row → a.before ≤ low → low < a.number → IsLow k g low → p a ≡ true
@@ -326,9 +326,9 @@ listed_tidied k granule first new listed takers t = record {
     covered row low top lo (inr (m, h, is)) lt false u = whole_no (sym (told_used k row m h) ∙ u)
     covered row low top lo (inl e) lt false u = elim (listed_here row) [
       | inl h ↦ absurd (omega (arith, t.last.gone row u h, e, lt))
-      | inr no ↦
-          let c = listed.covered row low top lo (inl (e ∙ t.last.others row no)) lt in
-          let ne : granule_at (links k.rows) row ≢ granule = λ s. no (subst (λ i. IsListedRow (log_at k.listed i) row) s (listed_row k.listed (granule_at (links k.rows) row) row low top c)) in
+      | inr absent ↦
+          let c = listed.covered row low top lo (inl (e ∙ t.last.others row absent)) lt in
+          let ne : granule_at (links k.rows) row ≢ granule = λ s. absent (subst (λ i. IsListedRow (listings_at k.listed i) row) s (listed_row k.listed (granule_at (links k.rows) row) row low top c)) in
           listed_by k.listed new (granule_at (links k.rows) row) row low top top (λ a h. subst (λ l. Has l a) (sym (t.others (granule_at (links k.rows) row) ne)) h) (λ e. (sym t.exact ∙ e, omega arith)) c
     ]
 
@@ -367,30 +367,31 @@ module _ (k : Kept) (kept : AreQueuesKept k) (row granule whole : ℕ) (new : Li
       by true = before
       by false = kept.first
 
-  module _ (old_last : last_at k.listed row ≤ since k.listed whole) (put : AppendsListing granule (record { row = row; number = k.next_number; before = last_at k.listed row }) k.listed new) where
-    longer : (g : ℕ) (a : Listing) → Has (log_at k.listed g) a → Has (log_at new g) a
+  module _ (old_last : last_listing k.listed row ≤ since k.listed whole) (put : AppendsListing granule (record { row = row; number = k.next_number; before = last_listing k.listed row }) k.listed new) where
+    longer : (g : ℕ) (a : Listing) → Has (listings_at k.listed g) a → Has (listings_at new g) a
     longer g a h = elim (either_nat g granule) [
-      | inl e ↦ subst (λ i. Has (log_at new i) a) (sym e) (subst (λ l. Has l a) (sym put.log) (has_longer (log_at k.listed granule) _ a (subst (λ i. Has (log_at k.listed i) a) e h)))
+      | inl e ↦ subst (λ i. Has (listings_at new i) a) (sym e) (subst (λ l. Has l a) (sym put.log) (has_longer (listings_at k.listed granule) _ a (subst (λ i. Has (listings_at k.listed i) a) e h)))
       | inr ne ↦ subst (λ l. Has l a) (sym (put.others g ne)) h
     ]
 
-    came : (g r : ℕ) → IsListedRow (log_at new g) r → IsListedRow (log_at k.listed g) r ⊎ (g ≡ granule) × (row ≡ r)
+    came : (g r : ℕ) → IsListedRow (listings_at new g) r → IsListedRow (listings_at k.listed g) r ⊎ (g ≡ granule) × (row ≡ r)
     came g r h = elim (either_nat g granule) [
-      | inl e ↦ elim (any_append (λ (a : Listing). a.row ≡ r) (log_at k.listed granule) _ (subst (λ l. IsListedRow l r) put.log (subst (λ i. IsListedRow (log_at new i) r) e h))) [
-          | inl old ↦ inl (subst (λ i. IsListedRow (log_at k.listed i) r) (sym e) old)
-          | inr one ↦ inr (e, elim one [ inl is ↦ is | inr is ↦ absurd is ])
-        ]
+      | inl e ↦ elim (any_append (λ (a : Listing). a.row ≡ r) (listings_at k.listed granule) _ (subst (λ l. IsListedRow l r) put.log (subst (λ i. IsListedRow (listings_at new i) r) e h))) [
+        | inl old ↦ inl (subst (λ i. IsListedRow (listings_at k.listed i) r) (sym e) old)
+        | inr one ↦ inr (e, elim one [ inl is ↦ is | inr is ↦ absurd is ])
+      ]
       | inr ne ↦ inl (subst (λ l. IsListedRow l r) (put.others g ne) h)
     ]
 
     -- the row is listed up to the next push
     entered_put : (low : ℕ) → IsLow k granule low → low < k.next_number → IsListedBy new granule row low k.next_number
-    entered_put low lo lt = elim (either_le (last_at k.listed row) low) [
-      | inl le ↦ subst (AnyIn (λ (a : Listing). (a.row ≡ row) × (a.before ≤ low) × (low < a.number) × (new.exact ≡ true → a.number ≤ k.next_number))) (sym put.log) (any_append_right (λ (a : Listing). (a.row ≡ row) × (a.before ≤ low) × (low < a.number) × (new.exact ≡ true → a.number ≤ k.next_number))
-          (log_at k.listed granule) (record { row = row; number = k.next_number; before = last_at k.listed row } ∷ []) (inl (refl, le, lt, λ e. omega arith)))
-      | inr gt ↦ listed_by k.listed new granule row low (last_at k.listed row) k.next_number (longer granule) (λ e. (sym put.exact ∙ e, kept.listed.latest (sym put.exact ∙ e) row))
-          (subst (λ g. IsListedBy k.listed g row low (last_at k.listed row)) (sym in_granule)
-          (kept.listed.covered row low (last_at k.listed row) (subst (λ g. IsLow k g low) in_granule lo) (inl refl) (omega (arith, gt))))
+    entered_put low lo lt = elim (either_le (last_listing k.listed row) low) [
+      | inl le ↦ subst (AnyIn (λ (a : Listing). (a.row ≡ row) × (a.before ≤ low) × (low < a.number) × (new.exact ≡ true → a.number ≤ k.next_number))) (sym put.log)
+          (any_append_right (λ (a : Listing). (a.row ≡ row) × (a.before ≤ low) × (low < a.number) × (new.exact ≡ true → a.number ≤ k.next_number))
+          (listings_at k.listed granule) (record { row = row; number = k.next_number; before = last_listing k.listed row } ∷ []) (inl (refl, le, lt, λ e. omega arith)))
+      | inr gt ↦ listed_by k.listed new granule row low (last_listing k.listed row) k.next_number (longer granule) (λ e. (sym put.exact ∙ e, kept.listed.latest (sym put.exact ∙ e) row))
+          (subst (λ g. IsListedBy k.listed g row low (last_listing k.listed row)) (sym in_granule)
+          (kept.listed.covered row low (last_listing k.listed row) (subst (λ g. IsLow k g low) in_granule lo) (inl refl) (omega (arith, gt))))
     ]
 
     was_low : (g low : ℕ) → IsLow now g low → IsLow k g low
@@ -408,8 +409,8 @@ module _ (k : Kept) (kept : AreQueuesKept k) (row granule whole : ℕ) (new : Li
       covered = λ r low top lo to lt. covered r low top (was_low (granule_at (links k.rows) r) low lo) to lt (either_nat r row);
     }
       where
-        latest : k.listed.exact ≡ true → (r : ℕ) → (r ≡ row) ⊎ (r ≢ row) → last_at new r ≤ k.next_number
-        latest e r (inl is) = omega (arith, ap (last_at new) is, put.last)
+        latest : k.listed.exact ≡ true → (r : ℕ) → (r ≡ row) ⊎ (r ≢ row) → last_listing new r ≤ k.next_number
+        latest e r (inl is) = omega (arith, ap (last_listing new) is, put.last)
         latest e r (inr ne) = omega (arith, put.rest r ne, kept.listed.latest e r)
 
         old : (r low top : ℕ) → IsListedBy k.listed (granule_at (links k.rows) r) r low top → IsListedBy new (granule_at (links k.rows) r) r low top
@@ -419,7 +420,7 @@ module _ (k : Kept) (kept : AreQueuesKept k) (row granule whole : ℕ) (new : Li
         covered r low top lo (inr m) lt is = old r low top (kept.listed.covered r low top lo (inr m) lt)
         covered r low top lo (inl e) lt (inr ne) = old r low top (kept.listed.covered r low top lo (inl (e ∙ put.rest r ne)) lt)
         covered r low top lo (inl e) lt (inl is) =
-            let at : top ≡ k.next_number = e ∙ ap (last_at new) is ∙ put.last in
+            let at : top ≡ k.next_number = e ∙ ap (last_listing new) is ∙ put.last in
             subst (λ x. IsListedBy new (granule_at (links k.rows) r) r low x) (sym at)
             (subst (λ x. IsListedBy new (granule_at (links k.rows) x) x low k.next_number) (sym is)
             (subst (λ g. IsListedBy new g row low k.next_number) in_granule
@@ -428,13 +429,13 @@ module _ (k : Kept) (kept : AreQueuesKept k) (row granule whole : ℕ) (new : Li
   pub listed_added : AreRowsListed now × IsEntered now row
   listed_added = elim change [
     | inl same ↦ (
-        listed_same k now kept.listed (rows_refl (links k.rows)) same.1 (omega arith) (λ mode p m h. has mode p m h),
-        λ low lo lt. since_listed same.0 same.1 low (sames_low same.1 (granule_at (links k.rows) row) low lo),
-      )
+      listed_same k now kept.listed (rows_refl (links k.rows)) same.1 (omega arith) (λ mode p m h. has mode p m h),
+      λ low lo lt. since_listed same.0 same.1 low (sames_low same.1 (granule_at (links k.rows) row) low lo),
+    )
     | inr put ↦ (
-        listed_put put.0 put.1,
-        λ low lo lt. subst (λ g. IsListedBy new g row low k.next_number) in_granule (entered_put put.0 put.1 low (was_low put.0 put.1 granule low (subst (λ g. IsLow now g low) (sym in_granule) lo)) lt),
-      )
+      listed_put put.0 put.1,
+      λ low lo lt. subst (λ g. IsListedBy new g row low k.next_number) in_granule (entered_put put.0 put.1 low (was_low put.0 put.1 granule low (subst (λ g. IsLow now g low) (sym in_granule) lo)) lt),
+    )
   ]
     where
       has : (mode : Mode) (p : ℕ) (m : Mark) → Has (lane now mode p) m → Has (lane k mode p) m
@@ -446,12 +447,12 @@ module _ (k : Kept) (kept : AreQueuesKept k) (row granule whole : ℕ) (new : Li
       sames_low same g low (inl e) = inl e
       sames_low same g low (inr (e, r)) = inr (sym same.exact ∙ e, r)
 
-      since_listed : since k.listed whole < last_at k.listed row → SameListings k.listed new → (low : ℕ) → IsLow k (granule_at (links k.rows) row) low → IsListedBy new (granule_at (links k.rows) row) row low k.next_number
+      since_listed : since k.listed whole < last_listing k.listed row → SameListings k.listed new → (low : ℕ) → IsLow k (granule_at (links k.rows) row) low → IsListedBy new (granule_at (links k.rows) row) row low k.next_number
       since_listed less same low lo =
           let le = lows low (subst (λ g. IsLow k g low) (sym in_granule) lo) in
-          listed_by k.listed new (granule_at (links k.rows) row) row low (last_at k.listed row) k.next_number (λ a h. subst (λ l. Has l a) (sym (same.logs (granule_at (links k.rows) row))) h)
+          listed_by k.listed new (granule_at (links k.rows) row) row low (last_listing k.listed row) k.next_number (λ a h. subst (λ l. Has l a) (sym (same.logs (granule_at (links k.rows) row))) h)
           (λ e. (sym same.exact ∙ e, kept.listed.latest (sym same.exact ∙ e) row))
-          (kept.listed.covered row low (last_at k.listed row) lo (inl refl) (omega (arith, le, less)))
+          (kept.listed.covered row low (last_listing k.listed row) lo (inl refl) (omega (arith, le, less)))
 
 -- or all is listed as before, where memory was out
 pub listed_or_not : {A E : Type 0} (r : Result A E) (k : Kept) → AreQueuesKept k → (row granule whole : ℕ) (new : ListedRows) → row < length (links k.rows).names → granule ≡ granule_at (links k.rows) row
@@ -468,14 +469,14 @@ listed_or_not (Err a) k kept row granule whole new lt e before lows ok err = (li
 -- ---- what is found
 
 -- a row with a mark between what takes the granule whole, or 0, and another number is found
-pub marks_found : (k : Kept) → AreRowsListed k → (g row low high : ℕ) (m : Mark) → IsTaken k g low → granule_at (links k.rows) row ≡ g → IsOfRow k row m → low < m.number → m.number < high
+pub marks_found : (k : Kept) → AreRowsListed k → (g row low high : ℕ) (m : Mark) → IsTakenWhole k g low → granule_at (links k.rows) row ≡ g → IsOfRow k row m → low < m.number → m.number < high
     → Has (rows_between k.listed g low high) row
 marks_found k listed g row low high m taken in_granule of lt less =
     found_between k.listed g low m.number high row less
     (subst (λ x. IsListedBy k.listed x row (since k.listed low) m.number) in_granule
     (listed.covered row (since k.listed low) m.number (by k.listed.exact refl taken).0 (inr (m, of, refl)) (by k.listed.exact refl taken).1))
   where
-    by : (t : Bool) → k.listed.exact ≡ t → IsTaken k g low → IsLow k (granule_at (links k.rows) row) (if k.listed.exact then low else 0) × ((if k.listed.exact then low else 0) < m.number)
+    by : (t : Bool) → k.listed.exact ≡ t → IsTakenWhole k g low → IsLow k (granule_at (links k.rows) row) (if k.listed.exact then low else 0) × ((if k.listed.exact then low else 0) < m.number)
     by true e taken = subst (λ t. IsLow k (granule_at (links k.rows) row) (if t then low else 0) × ((if t then low else 0) < m.number)) (sym e)
         (subst (λ x. IsLow k x low) (sym in_granule) (elim taken [ inl zero ↦ inl zero | inr r ↦ inr (e, r) ]), lt)
     by false e taken = subst (λ t. IsLow k (granule_at (links k.rows) row) (if t then low else 0) × ((if t then low else 0) < m.number)) (sym e) (inl refl, omega (arith, lt))

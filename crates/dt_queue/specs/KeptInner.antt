@@ -12,7 +12,7 @@ use Rattle.dt_queue.specs.Queues.{Waiting}
 use Rattle.dt_queue.specs.LanesInner.{HasRisingNumbers, IsFirstIn, IsLastIn, IsNearInRow, IsNextInRow}
 use Rattle.dt_queue.specs.TableInner.{lanes_read, lanes_written}
 use Rattle.dt_queue.specs.RowsInner.{AreRowsLinked, RowLinks, granule_at, links, name_at}
-use Rattle.dt_queue.specs.ListedInner.{AreLogged, IsListedBy, IsListedRow, last_at, log_at, rows_between}
+use Rattle.dt_queue.specs.ListedInner.{AreLogged, IsListedBy, IsListedRow, last_listing, listings_at, rows_between}
 use Rattle.dt_queue.specs.declared.cell.Cell.{Cell}
 use Rattle.dt_queue.specs.declared.mark.Mark.{Mark}
 use Rattle.dt_queue.specs.declared.kept.Kept.{Kept}
@@ -61,8 +61,8 @@ pub record IsLane (cells : Slab Cell) (P : Cell → Type 0) (marks : List Mark) 
   pub members : (m : Mark) → Has marks m ↔ ((c : Cell) × (get cells m.slot ≡ Some c) × P c × (m ≡ mark_of m.slot c))
 
 -- the number is that of an entry that waits to take the granule whole, or 0
-abbrev pub IsTaken : Kept → ℕ → ℕ → Type 0
-IsTaken k g low = (low ≡ 0) ⊎ ((m : Mark) × Has (lane k Whole g) m × (m.number ≡ low))
+abbrev pub IsTakenWhole : Kept → ℕ → ℕ → Type 0
+IsTakenWhole k g low = (low ≡ 0) ⊎ ((m : Mark) × Has (lane k Whole g) m × (m.number ≡ low))
 
 -- and this where numbers tell something of listings; else it is 0
 abbrev pub IsLow : Kept → ℕ → ℕ → Type 0
@@ -70,15 +70,15 @@ IsLow k g low = (low ≡ 0) ⊎ (k.listed.exact ≡ true) × ((m : Mark) × Has 
 
 -- the number is that of the last listing of a row, or of something that waits to read or write it
 abbrev pub IsTop : Kept → ℕ → ℕ → Type 0
-IsTop k row top = (top ≡ last_at k.listed row) ⊎ ((m : Mark) × (Has (lane k Read row) m ⊎ Has (lane k Write row) m) × (m.number ≡ top))
+IsTop k row top = (top ≡ last_listing k.listed row) ⊎ ((m : Mark) × (Has (lane k Read row) m ⊎ Has (lane k Write row) m) × (m.number ≡ top))
 
 -- listed rows are known, and listed of their granules; listings are no later than the next push; and for each mark of a row, and each
 -- that waits to take the granule whole and came before it, a listing of the row lies between the two, the older ones of which came
 -- before both
 pub record AreRowsListed (k : Kept) : Type 0 where
   pub logged : AreLogged k.listed
-  pub own : (g row : ℕ) → IsListedRow (log_at k.listed g) row → (row < length (links k.rows).names) × (granule_at (links k.rows) row ≡ g)
-  pub latest : k.listed.exact ≡ true → (row : ℕ) → last_at k.listed row ≤ k.next_number
+  pub own : (g row : ℕ) → IsListedRow (listings_at k.listed g) row → (row < length (links k.rows).names) × (granule_at (links k.rows) row ≡ g)
+  pub latest : k.listed.exact ≡ true → (row : ℕ) → last_listing k.listed row ≤ k.next_number
   pub covered : (row low top : ℕ) → IsLow k (granule_at (links k.rows) row) low → IsTop k row top → low < top → IsListedBy k.listed (granule_at (links k.rows) row) row low top
 
 -- and so it is for the mark of the next push, if it reads or writes this row

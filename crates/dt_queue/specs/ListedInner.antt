@@ -22,12 +22,12 @@ use Rattle.dt_queue.specs.declared.listing.ListedBetween.{ListedBetween}
 use Rattle.dt_queue.specs.declared.listed.ListedRows.{ListedRows}
 
 -- the log of a granule
-abbrev pub log_at : ListedRows → ℕ → List Listing
-log_at l g = get_or (map (λ x. x.listings.items) l.logs.items) g []
+abbrev pub listings_at : ListedRows → ℕ → List Listing
+listings_at l g = get_or (map (λ x. x.listings.items) l.logs.items) g []
 
 -- the number of the last listing of a row, or 0
-abbrev pub last_at : ListedRows → ℕ → ℕ
-last_at l row = get_or l.last.items row 0
+abbrev pub last_listing : ListedRows → ℕ → ℕ
+last_listing l row = get_or l.last.items row 0
 
 -- the row has one of these listings
 abbrev pub IsListedRow : List Listing → ℕ → Type 0
@@ -40,9 +40,9 @@ since l number = if l.exact then number else 0
 -- what is true of all logs: numbers do not fall, where they tell something; a listing knows the older ones of its row, and none has a
 -- greater number than the last that is kept of its row
 pub record AreLogged (l : ListedRows) : Type 0 where
-  pub rising : l.exact ≡ true → (g : ℕ) → EachThen (λ a b. a.number ≤ b.number) (log_at l g)
-  pub chained : (g : ℕ) → EachThen (λ a b. a.row ≡ b.row → a.number ≤ b.before) (log_at l g)
-  pub each : (g : ℕ) → AllIn (λ a. (a.before < a.number) × (a.number ≤ last_at l a.row)) (log_at l g)
+  pub rising : l.exact ≡ true → (g : ℕ) → EachThen (λ a b. a.number ≤ b.number) (listings_at l g)
+  pub chained : (g : ℕ) → EachThen (λ a b. a.row ≡ b.row → a.number ≤ b.before) (listings_at l g)
+  pub each : (g : ℕ) → AllIn (λ a. (a.before < a.number) × (a.number ≤ last_listing l a.row)) (listings_at l g)
 
 -- ---- what is found
 
@@ -64,7 +64,7 @@ rows_of_oldest low log = map (λ a. a.row) (filter (is_oldest low) log)
 
 -- the rows that are listed between two pushes, or, where numbers tell nothing, all that are listed
 abbrev pub rows_between : ListedRows → ℕ → ℕ → ℕ → List ℕ
-rows_between l g low high = rows_of_oldest (since l low) (if l.exact then filter (is_numbered low high) (log_at l g) else log_at l g)
+rows_between l g low high = rows_of_oldest (since l low) (if l.exact then filter (is_numbered low high) (listings_at l g) else listings_at l g)
 
 -- the rows that are still to be given
 abbrev pub listed_left : ListedBetween → List ℕ
@@ -72,28 +72,28 @@ listed_left b = rows_of_oldest b.low b.listings.now
 
 -- a listing of a row lies after a number up to which the older ones of the row go, and, where numbers tell something, not after another
 abbrev pub IsListedBy : ListedRows → ℕ → ℕ → ℕ → ℕ → Type 0
-IsListedBy l g row low top = AnyIn (λ a. (a.row ≡ row) × (a.before ≤ low) × (low < a.number) × (l.exact ≡ true → a.number ≤ top)) (log_at l g)
+IsListedBy l g row low top = AnyIn (λ a. (a.row ≡ row) × (a.before ≤ low) × (low < a.number) × (l.exact ≡ true → a.number ≤ top)) (listings_at l g)
 
 -- ---- what changes
 
 -- all is listed as before
 pub record SameListings (old new : ListedRows) : Type 0 where
-  pub logs : (g : ℕ) → log_at new g ≡ log_at old g
-  pub last : (row : ℕ) → last_at new row ≡ last_at old row
+  pub logs : (g : ℕ) → listings_at new g ≡ listings_at old g
+  pub last : (row : ℕ) → last_listing new row ≡ last_listing old row
   pub exact : new.exact ≡ old.exact
 
 -- a listing was put behind the log of a granule
 pub record AppendsListing (granule : ℕ) (a : Listing) (old new : ListedRows) : Type 0 where
-  pub log : log_at new granule ≡ log_at old granule ++ a ∷ []
-  pub others : (g : ℕ) → g ≢ granule → log_at new g ≡ log_at old g
-  pub last : last_at new a.row ≡ a.number
-  pub rest : (row : ℕ) → row ≢ a.row → last_at new row ≡ last_at old row
+  pub log : listings_at new granule ≡ listings_at old granule ++ a ∷ []
+  pub others : (g : ℕ) → g ≢ granule → listings_at new g ≡ listings_at old g
+  pub last : last_listing new a.row ≡ a.number
+  pub rest : (row : ℕ) → row ≢ a.row → last_listing new row ≡ last_listing old row
   pub exact : new.exact ≡ old.exact
 
 -- a row was listed at the push of a number, if it was not listed since another
 abbrev pub ListsRow : ℕ → ℕ → ℕ → ℕ → ListedRows → ListedRows → Type 0
-ListsRow granule row number whole old new = (since old whole < last_at old row) × SameListings old new
-    ⊎ (last_at old row ≤ since old whole) × AppendsListing granule (record { row = row; number = number; before = last_at old row }) old new
+ListsRow granule row number whole old new = (since old whole < last_listing old row) × SameListings old new
+    ⊎ (last_listing old row ≤ since old whole) × AppendsListing granule (record { row = row; number = number; before = last_listing old row }) old new
 
 -- whether something waits to read or write a row
 abbrev pub is_used : List (List Mark) → List (List Mark) → ℕ → Bool
@@ -111,7 +111,7 @@ pub record Forgets (reads writes : List (List Mark)) (P : ℕ → Type 0) (old n
 
 -- the log of a granule was tidied
 pub record Tidies (granule first : ℕ) (reads writes : List (List Mark)) (old new : ListedRows) : Type 0 where
-  pub log : log_at new granule ≡ filter (stays first reads writes) (log_at old granule)
-  pub others : (g : ℕ) → g ≢ granule → log_at new g ≡ log_at old g
-  pub last : Forgets reads writes (IsListedRow (log_at old granule)) old.last.items new.last.items
+  pub log : listings_at new granule ≡ filter (stays first reads writes) (listings_at old granule)
+  pub others : (g : ℕ) → g ≢ granule → listings_at new g ≡ listings_at old g
+  pub last : Forgets reads writes (IsListedRow (listings_at old granule)) old.last.items new.last.items
   pub exact : new.exact ≡ old.exact

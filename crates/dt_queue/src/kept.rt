@@ -31,7 +31,7 @@ pub struct Kept {
 
 impl Kept {
     ghost use Rattle.dt_access.specs.Clash.{is_whole};
-    ghost use Rattle.dt_queue.specs.KeptInner.{AddsCell, AreQueuesKept, ChangesLaneOf, HasOneNear, IsEntered, IsKeptCell, IsNearInMode, IsNearMark, IsNextMark, IsTaken, KeepsLanes, lane, place_at};
+    ghost use Rattle.dt_queue.specs.KeptInner.{AddsCell, AreQueuesKept, ChangesLaneOf, HasOneNear, IsEntered, IsKeptCell, IsNearInMode, IsNearMark, IsNextMark, IsTakenWhole, KeepsLanes, lane, place_at};
     ghost use Rattle.dt_queue.specs.RowsInner.{granule_at, links};
 
     /// No entry waits. Takes no memory.
@@ -177,7 +177,8 @@ impl Kept {
         match mode {
             Mode::Read | Mode::Write => {
                 let whole = self.wholes.last_between(granule, 0, u64::MAX);
-                self.listed.add(alloc, granule, row, self.next_number, number_or(whole, 0))
+                self.listed
+                    .add(alloc, granule, row, self.next_number, number_or(whole, 0))
             }
             Mode::Whole => {
                 self.tidy(granule);
@@ -186,10 +187,10 @@ impl Kept {
         }
     }
 
-    /// Tidies the log of a granule, where nothing waits to take it whole, or where the log is twice as long as it was after the last
-    /// time. In the first case what is to take it whole looks at all listings next, and those that stay give it a neighbour each. In
-    /// the second one at least half of them came since. So in all a listing is looked at for this only a few times, unless something
-    /// waits in its row; and a log has at most twice as many listings as stayed, and one more for each push since. Takes no memory.
+    /// Tidies the log of a granule before an entry is pushed that takes it whole, where nothing waits to do so, or where the log has
+    /// doubled. In the first case the entry looks at all that is listed of the granule, and each listing that stays gives it a
+    /// neighbour. In the second case half of the listings came since the log was tidied last, or more. So tidying costs, in all, a
+    /// few steps for each neighbour that is given and for each listing that a push made. Takes no memory.
     fn tidy(&mut self, granule: usize)
         requires { AreQueuesKept self.old }
         ensures kept { AreQueuesKept self.new }
@@ -240,7 +241,7 @@ impl Kept {
     fn near_in_rows(&self, alloc: Global, cell: &Cell, low: u64) -> Result<Marks, NoMemory>
         requires kept { AreQueuesKept self.now }
         requires row_in { cell.now.row < length self.now.rows.names.keys }
-        requires taken { IsTaken self.now (granule_at (links self.now.rows) cell.now.row) low }
+        requires taken { IsTakenWhole self.now (granule_at (links self.now.rows) cell.now.row) low }
         ensures { IfOk result (λ marks. AreMarks (IsNearInMode self.now cell.now low) marks.items) }
     {
         let table = self.rows.table.as_slice();

@@ -1,8 +1,8 @@
-ghost use Rattle.std.specs.Prelude.{◌≡◌, ◌≤◌, ◌<◌, ◌-◌, ℕ, [], OnErr, OnOk, get_or, length, map, vec_capacity, vec_len};
+ghost use Rattle.std.specs.Prelude.{◌≡◌, ◌≤◌, ◌<◌, ◌-◌, ℕ, false, [], OnErr, OnOk, get_or, length, map, vec_capacity, vec_len};
 ghost use Rattle.std.specs.List.{filter};
 ghost use Rattle.dt_lists.specs.Lists.{EachThen};
 ghost use Rattle.dt_queue.specs.TableInner.{lanes_read, lanes_written};
-ghost use Rattle.dt_queue.specs.ListedInner.{AreLogged, Forgets, IsListedRow, ListsRow, SameListings, Tidies, is_later, is_numbered, last_at, listed_left, log_at, rows_between, since, stays};
+ghost use Rattle.dt_queue.specs.ListedInner.{AreLogged, Forgets, IsListedRow, ListsRow, SameListings, Tidies, is_later, is_numbered, last_listing, listed_left, listings_at, rows_between, since, stays};
 
 use crate::listing::{ListedBetween, Listing};
 use crate::row::{Row, is_used};
@@ -87,7 +87,11 @@ impl ListedRows {
         ensures { Tidies granule first (lanes_read table.now) (lanes_written table.now) self.old self.new }
     {
         if granule < self.logs.len() {
-            forget_unused(self.logs[granule].listings.as_slice(), table, &mut self.last);
+            forget_unused(
+                self.logs[granule].listings.as_slice(),
+                table,
+                &mut self.last,
+            );
             self.logs[granule].tidy(first, table);
         }
     }
@@ -118,7 +122,7 @@ impl ListedRows {
 
     /// The log of a granule.
     fn log(&self, granule: usize) -> &[Listing]
-        ensures { result.now ≡ log_at self.now granule }
+        ensures { result.now ≡ listings_at self.now granule }
     {
         match self.logs.get(granule) {
             Some(log) => log.listings.as_slice(),

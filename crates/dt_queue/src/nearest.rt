@@ -101,7 +101,7 @@ pub fn near_rows(
 ) -> Result<Marks, NoMemory>
     requires apart { AreApart (lanes_read table.now) (lanes_written table.now) }
     requires once { Distinct (listed_left rows) }
-    ensures { IfOk result (λ marks. AreMarks (λ m. AnyIn (λ row. IsNearInRow (get_or (lanes_read table.now) row []) (get_or (lanes_written table.now) row []) low high m) (listed_left rows)) marks.items) }
+    ensures { IfOk result (λ marks. AreMarks (λ m. AnyIn (λ row. IsNearInRow (get_or (lanes_read table.now) row []) (get_or (lanes_written table.now) row []) low high m) (listed_left rows.entry)) marks.items) }
 {
     let mut marks = SmallVec::new(alloc);
     while let Some(row) = rows.next() {

@@ -73,7 +73,7 @@ impl<'a> NextMarks<'a> {
         high: u64,
         other: Option<Mark>,
     ) -> Self
-        ensures marks { marks_left result ≡ or_else_one (next_of_rows (lanes_read table.now) (lanes_written table.now) low high (listed_left rows)) other }
+        ensures marks { marks_left result ≡ or_else_one (next_of_rows (lanes_read table.now) (lanes_written table.now) low high (listed_left rows.entry)) other }
         ensures table { result.table.now ≡ table.now }
     {
         NextMarks {

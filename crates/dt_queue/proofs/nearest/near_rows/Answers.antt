@@ -22,10 +22,12 @@ loop-row-preserved c =
     let done = c.loop-row.invariant.0 in
     let row = c.in-Some.row in
     let rest = listed_left c.next.new.rows in
-    let all : done ++ row ∷ rest ≡ listed_left c.args.rows = ap (λ l. done ++ l) (sym c.in-Some.ensures) ∙ c.loop-row.invariant.1 in
-    (done ++ row ∷ [], append_assoc done (row ∷ []) rest ∙ all,
-    gathered_more (λ r m. IsNearInRow (get_or reads r []) (get_or writes r []) c.args.low c.args.high m) (near_parted reads writes c.args.low c.args.high c.requires.apart)
-    done row c.loop-row.marks.items c.add_row.new.marks.items (fresh_next done row rest (subst Distinct (sym all) c.requires.once)) c.loop-row.invariant.2 c.in_ok-add_row.ensures)
+    let all : done ++ row ∷ rest ≡ listed_left c.args.rows = ap (λ l. done ++ l) (sym c.in-Some.ensures) ∙ c.loop-row.invariant.1 in (
+      done ++ row ∷ [],
+      append_assoc done (row ∷ []) rest ∙ all,
+      gathered_more (λ r m. IsNearInRow (get_or reads r []) (get_or writes r []) c.args.low c.args.high m) (near_parted reads writes c.args.low c.args.high c.requires.apart)
+          done row c.loop-row.marks.items c.add_row.new.marks.items (fresh_next done row rest (subst Distinct (sym all) c.requires.once)) c.loop-row.invariant.2 c.in_ok-add_row.ensures,
+    )
 
 pub returns : goal.returns
 returns c =
