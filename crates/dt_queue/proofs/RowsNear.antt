@@ -1,18 +1,17 @@
 -- What is nearest in several rows: the marks of all of them, put together and sorted by their numbers.
-use Rattle.std.proofs.Common.{◌≡◌, ◌↔◌, ℕ, zero, suc, ◌<◌, ◌≤◌, Bool, true, false, ◌==◌, List, []}
-use Rattle.std.proofs.Common.{◌∷◌, ◌++◌, length, get_or, take, refl, sym, subst, inl, inr, eqb-true, eq-eqb, arith}
+use Rattle.std.proofs.Common.{◌≡◌, ◌↔◌, ℕ, suc, ◌<◌, ◌≤◌, Bool, true, false, ◌==◌, List, []}
+use Rattle.std.proofs.Common.{◌∷◌, ◌++◌, get_or, refl, sym, subst, inl, inr, eqb-true, eq-eqb, arith}
 use Rattle.std.specs.List.Sorted.{IsNonDecreasingBy, IsPermutation}
 use Rattle.dt_lists.specs.Lists.{AnyIn, Distinct, EachThen, Has}
-use Rattle.dt_lists.proofs.Callers.{all_get, all_map, all_put, any_append, any_append_left, any_append_right, any_get, each_append, each_map, has_at, permuted_apart, permuted_has}
+use Rattle.dt_lists.proofs.Callers.{all_get, all_map, all_put, any_append, any_append_left, any_append_right, any_get, each_append, each_map, permuted_apart, permuted_has}
 use Rattle.dt_queue.specs.declared.mark.Mark.{Mark}
 use Rattle.dt_queue.specs.LanesInner.{AddsMarks, AreApart, AreMarks, HasRisingNumbers, IsNearInRow}
 
 -- an item of a list without repeats is none of those before it
-pub fresh_at : (xs : List ℕ) (i : ℕ) → Distinct xs → i < length xs → ¬ (Has (take i xs) (get_or xs i 0))
-fresh_at [] i d lt h = absurd (omega (arith, lt))
-fresh_at (x ∷ xs) zero d lt h = absurd h
-fresh_at (x ∷ xs) (suc i) d lt (inl e) = all_get (λ y. ¬ (x ≡ y)) xs d.0 (get_or xs i 0) (has_at xs i 0 (omega arith)) e
-fresh_at (x ∷ xs) (suc i) d lt (inr h) = fresh_at xs i d.1 (omega arith) h
+pub fresh_next : (done : List ℕ) (x : ℕ) (rest : List ℕ) → Distinct (done ++ x ∷ rest) → ¬ (Has done x)
+fresh_next [] x rest d h = h
+fresh_next (y ∷ done) x rest d (inl e) = all_get (λ z. ¬ (y ≡ z)) (done ++ x ∷ rest) d.0 x (any_append_right (λ z. z ≡ x) done (x ∷ rest) (inl refl)) e
+fresh_next (y ∷ done) x rest d (inr h) = fresh_next done x rest d.1 h
 
 -- the marks of some rows were put together: no number twice
 pub record AreGathered (P : ℕ → Mark → Type 0) (rows : List ℕ) (marks : List Mark) : Type 0 where
