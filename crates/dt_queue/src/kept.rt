@@ -227,7 +227,7 @@ impl Kept {
     /// Takes a mark out of the lane of its mode and row. Takes no memory.
     fn remove_mark(&mut self, row: usize, mode: Mode, number: u64)
         requires { row < length self.old.rows.table.items }
-        ensures change { ChangesLaneOf self.old mode (place_at (links self.old.rows) mode row) (filter (λ m. not (m.number == number)) (lane self.old mode (place_at (links self.old.rows) mode row))) self.new }
+        ensures { ChangesLaneOf self.old mode (place_at (links self.old.rows) mode row) (filter (λ m. not (m.number == number)) (lane self.old mode (place_at (links self.old.rows) mode row))) self.new }
     {
         match mode {
             Mode::Read => remove(&mut self.rows.table, row, Way::Read, number),

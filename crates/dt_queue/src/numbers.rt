@@ -94,7 +94,7 @@ impl Kept {
         requires positive { 0 < new }
         requires lesser { new ≤ number }
         requires gap { AllIn (IsGap number new) (lane self.old mode (place_at (links self.old.rows) mode row)) }
-        ensures change { ChangesLaneOf self.old mode (place_at (links self.old.rows) mode row) (map (renumbered number new) (lane self.old mode (place_at (links self.old.rows) mode row))) self.new }
+        ensures { ChangesLaneOf self.old mode (place_at (links self.old.rows) mode row) (map (renumbered number new) (lane self.old mode (place_at (links self.old.rows) mode row))) self.new }
     {
         match mode {
             Mode::Read => renumber(&mut self.rows.table, row, Way::Read, number, new),

@@ -1,4 +1,4 @@
-use Rattle.std.proofs.Common.{◌<◌, ◌-◌, ℕ, [], get_or, length, vec_capacity, vec_len, ap, sym, subst, arith, ◌∙◌}
+use Rattle.std.proofs.Common.{◌<◌, ◌-◌, [], get_or, length, vec_capacity, vec_len, ap, sym, subst, arith, ◌∙◌}
 use Rattle.std.proofs.Math.Seq.{map-set_same}
 use Rattle.dt_queue.specs.declared.listed.Log.{Log}
 use Rattle.dt_queue.proofs.RowSets.{empty_behind, told_here}

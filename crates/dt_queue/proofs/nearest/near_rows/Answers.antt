@@ -21,7 +21,7 @@ loop-row-preserved c =
     let writes = lanes_written c.args.table.now in
     let done = c.loop-row.invariant.0 in
     let row = c.in-Some.row in
-    let rest = listed_left c.next.new.rows in
+    let rest = listed_left c.next.new.self in
     let all : done ++ row ∷ rest ≡ listed_left c.args.rows = ap (λ l. done ++ l) (sym c.in-Some.ensures) ∙ c.loop-row.invariant.1 in (
       done ++ row ∷ [],
       append_assoc done (row ∷ []) rest ∙ all,

@@ -1,11 +1,11 @@
-use Rattle.std.proofs.Common.{ap, arith, length, ◌∙◌}
+use Rattle.std.proofs.Common.{ap, arith, length, refl, ◌∙◌}
 use Rattle.dt_queue.specs.declared.listed.ListedRows.{ListedRows}
 use Rattle.dt_queue.proofs.NewNumbers.{first_is, freed, given_few, given_more, shows_same}
 use Rattle.dt_queue.proofs.kept.Kept.number_anew.Goals as goal
 
 pub loop-slot-init : goal.loop-slot-init
 loop-slot-init c = record {
-  same = rw c.forget_numbers.ensures (freed c.args.self.now c.requires.kept);
+  same = rw c.forget_numbers.ensures (record { kept = (freed c.args.self.now c.requires.kept).kept; rows = refl; shown = refl });
   positive = omega arith;
   given = λ n pos lt. absurd (omega (arith, pos, lt));
   free = ap (λ (l : ListedRows). l.exact) c.forget_numbers.ensures;

@@ -1,4 +1,4 @@
-use Rattle.std.proofs.Common.{◌≡◌, ◌≤◌, ℕ, arith}
+use Rattle.std.proofs.Common.{◌≤◌, arith}
 use Rattle.dt_queue.specs.declared.kept.Kept.{Kept}
 use Rattle.dt_queue.proofs.LanesOfCells.{kept_listed}
 use Rattle.dt_queue.proofs.RowsUsed.{first_of_takers, listed_tidied}

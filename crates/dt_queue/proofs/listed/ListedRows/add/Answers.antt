@@ -1,4 +1,4 @@
-use Rattle.std.proofs.Common.{◌≡◌, ◌<◌, ◌≤◌, ◌-◌, ◌++◌, ◌∷◌, ℕ, [], get_or, length, map, vec_capacity, vec_len, inl, inr, refl, ap, sym, subst, arith, ◌∙◌}
+use Rattle.std.proofs.Common.{◌≡◌, ◌<◌, ◌≤◌, ◌-◌, ◌++◌, ◌∷◌, [], get_or, length, map, vec_capacity, vec_len, inr, refl, ap, subst, arith, ◌∙◌}
 use Rattle.std.proofs.lemmas.List.{get_or-set_other, get_or-set_same, length-map, map-set}
 use Rattle.dt_queue.specs.declared.listed.Log.{Log}
 use Rattle.dt_queue.specs.ListedInner.{last_listing, since}

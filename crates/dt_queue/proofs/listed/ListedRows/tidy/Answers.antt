@@ -1,4 +1,4 @@
-use Rattle.std.proofs.Common.{◌≡◌, ◌<◌, [], get_or, length, map, ap, refl, arith, ◌∙◌}
+use Rattle.std.proofs.Common.{◌<◌, [], get_or, length, map, ap, refl, arith, ◌∙◌}
 use Rattle.std.proofs.lemmas.List.{map-set, get_or-set_other}
 use Rattle.std.specs.List.{filter}
 use Rattle.dt_queue.specs.declared.listed.Log.{Log}

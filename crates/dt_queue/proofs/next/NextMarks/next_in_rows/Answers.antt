@@ -60,8 +60,9 @@ loop-row-preserved c =
 
 pub returns-clause-taken : goal.returns-clause-taken
 returns-clause-taken c =
-    let out : rows_left c.loop-row.self ≡ [] = rows_out c.loop-row.self c.loop-row.invariant.none c.in_default-next.ensures.0 in
-    (sym c.loop-row.invariant.same ∙ out, out)
+    let s = c.loop-row.self in
+    let out : rows_left s ≡ [] = rows_out s c.loop-row.invariant.none c.in_default-next.ensures.0 in
+    (sym c.loop-row.invariant.same ∙ out, rows_out (record s { rows = c.next.new.self }) c.loop-row.invariant.none c.in_default-next.ensures.1)
 
 pub returns-clause-table : goal.returns-clause-table
 returns-clause-table c = c.loop-row.invariant.table
