@@ -109,11 +109,14 @@ moves_its_unit cluster x moved key target valid body same =
 -- where valid transactions move units to
 pub targets_below : (cluster : Cluster) (txns : List Txn) → AllIn (IsValid cluster.procs cluster.version cluster.regions) txns → (key : Bytes)
     → AllIn (λ m. m.target < cluster.regions) (moves_of (table_after cluster.procs txns (opening_table cluster)) key)
-targets_below cluster txns a key = all_put _ (moves_of (table_after cluster.procs txns (opening_table cluster)) key) below
+targets_below cluster txns a key = all_put _ moves below
   where
-    below : (m : Moved) → Has (moves_of (table_after cluster.procs txns (opening_table cluster)) key) m → m.target < cluster.regions
+    moves : List Moved
+    moves = moves_of (table_after cluster.procs txns (opening_table cluster)) key
+
+    below : (m : Moved) → Has moves m → m.target < cluster.regions
     below m h =
-        let p : (i : ℕ) × (slice_get (moves_of (table_after cluster.procs txns (opening_table cluster)) key) i ≡ Some m) = place_of (moves_of (table_after cluster.procs txns (opening_table cluster)) key) m h in
+        let p : (i : ℕ) × (slice_get moves i ≡ Some m) = place_of moves m h in
         let made : MadeMove cluster.procs txns (opening_table cluster) key p.0 m.by = move_made cluster.procs txns (opening_table cluster) key p.0 m (unmoved_at_first cluster key) p.1 in
         let valid : IsValid cluster.procs cluster.version cluster.regions made.mover = all_get (IsValid cluster.procs cluster.version cluster.regions) txns a made.mover made.there in
         let both : Some m ≡ Some (record { target = made.target; by = m.by }) = sym p.1 ∙ made.number in

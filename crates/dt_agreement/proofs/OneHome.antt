@@ -1,6 +1,7 @@
 -- Where no call moves anything and each has one home at first, each submitted transaction has one home, and there is no
 -- deadlock: the history of moves is empty, so that every annotation has the opening home of its key.
 use Rattle.std.proofs.Common.{◌≡◌, ◌<◌, ℕ, zero, suc, List, [], ◌∷◌, ◌++◌, length, get_or, map, take, slice_get, refl, sym, ap, ap₂, subst, ◌∙◌}
+use Rattle.std.proofs.Math.Seq.{take-nil}
 use Rattle.dt_lists.specs.Lists.{AnyIn, AllIn, Has}
 use Rattle.dt_lists.proofs.Callers.{any_get, all_get, all_put}
 use Rattle.dt_lists.proofs.Callers.{has_place}
@@ -45,10 +46,6 @@ use Rattle.dt_agreement.proofs.RootedWorlds.{legal_roots}
 all_from_at : {A : Type 0} (P : A → Type 0) (d : A) (xs : List A) → ((i : ℕ) → P (get_or xs i d)) → AllIn P xs
 all_from_at P d [] f = tt
 all_from_at P d (x ∷ xs) f = (f zero, all_from_at P d xs (λ i. f (suc i)))
-
-take_nothing : (n : ℕ) → ◌≡◌ {A = List Moved} (take n []) []
-take_nothing zero = refl
-take_nothing (suc n) = refl
 
 one_home_front : (short long : View) → IsLonger short long → HasOneHomeEach long → HasOneHomeEach short
 one_home_front [] [] f a = tt
@@ -97,7 +94,7 @@ module _ {cluster : Cluster} {workload : Workload} {w : World} {order : List Txn
       let root : IsRooted cluster (logs_of w) (history_of cluster w order a.key) s.txn.id a =
       all_get (λ b. IsRooted cluster (logs_of w) (history_of cluster w order b.key) s.txn.id b) s.txn.access
       (all_get (λ x. AllIn (λ b. IsRooted cluster (logs_of w) (history_of cluster w order b.key) x.txn.id b) x.txn.access) (submissions w) rooted s h) a ha in
-      root.home ∙ ap (home_after (opening_home cluster.regions cluster.homes (unit_of cluster.version a.key))) (ap (take a.counter) (no_moves a.key) ∙ take_nothing a.counter ∙ sym (unmoved_at_first cluster a.key))
+      root.home ∙ ap (home_after (opening_home cluster.regions cluster.homes (unit_of cluster.version a.key))) (ap (take a.counter) (no_moves a.key) ∙ take-nil a.counter ∙ sym (unmoved_at_first cluster a.key))
 
   submission_one : (s : Submission) → Has (submissions w) s → length (homes_of s.txn) ≡ 1
   submission_one s h =

@@ -4,7 +4,6 @@ use Rattle.std.specs.Prelude.{slice_index, flat_map}
 use Rattle.std.proofs.lemmas.List.{length-replicate, get_or-replicate, get_or_past}
 use Rattle.dt_lists.specs.Lists.{AllIn, Has, Pairwise, Either}
 use Rattle.dt_lists.proofs.Callers.{either_le, either_nat, get_of_replicate}
-use Rattle.dt_access.specs.declared.TxnId.{TxnId}
 use Rattle.dt_sched.specs.Views.{ids_of}
 use Rattle.dt_sched.specs.Decide.{IsSound}
 use Rattle.dt_sched.proofs.Callers.{sound_with_none, well_formed_front}
@@ -64,11 +63,6 @@ module _ (cluster : Cluster) (workload : Workload) where
   no_log : (q : ℕ) → log_of w q ≡ []
   no_log q = of_any (λ n. n.log) [] refl refl q
 
-  of_empties : (n q : ℕ) → ◌≡◌ {A = List TxnId} (get_or (replicate n []) q []) []
-  of_empties zero q = refl
-  of_empties (suc n) zero = refl
-  of_empties (suc n) (suc q) = of_empties n q
-
   sized : (q : ℕ) → q < cluster.regions → IsSized cluster.regions (node_at w q)
   sized q lt =
       subst (IsSized cluster.regions) (sym (node q lt))
@@ -78,7 +72,7 @@ module _ (cluster : Cluster) (workload : Workload) where
   numbered q lt = subst (AreNumbered q) (sym (none_submitted q)) (λ j s e. cc)
 
   none_asked : (q home : ℕ) → asked_of w q home ≡ []
-  none_asked q home = of_any (λ n. get_or n.here.asked home []) [] (of_empties cluster.regions home) (of_empties 0 home) q
+  none_asked q home = of_any (λ n. get_or n.here.asked home []) [] (get_of_replicate cluster.regions home []) (get_of_replicate 0 home []) q
 
   none_taken : (home q : ℕ) → taken_of w home q ≡ 0
   none_taken home q = of_any (λ n. slice_index n.here.taken q) 0 (get_of_replicate cluster.regions q 0) (get_of_replicate 0 q 0) home

@@ -2,6 +2,7 @@ ghost use Rattle.std.specs.Prelude.{◌≡◌, ℕ, ◌<◌, ◌^◌, ◌∷◌,
 ghost use Rattle.std.specs.Fmt.{decimal};
 ghost use Rattle.dt_text.specs.Lines.{lines_of};
 ghost use Rattle.dt_text.specs.Numbers.{ReadsNumber};
+ghost use Rattle.dt_text.specs.Texts.{IsName};
 ghost use Rattle.dt_access.specs.Ids.{id_text};
 ghost use Rattle.dt_events.specs.Events.{AreEvents, FirstWithoutForm, IsEventLine};
 ghost use Rattle.dt_events.specs.ReadingInner.{AreIds, AreShort, Reads, ReadsEvent, spelled};
@@ -12,7 +13,7 @@ use crate::numbered::NumberedEvents;
 use crate::recent_names::RecentNames;
 use crate::words::bare_words;
 use dt_access::{Ids, read_id};
-use dt_text::{Common, Lines, NoMemory, are_same, read_u32};
+use dt_text::{Common, Lines, Name, NoMemory, are_same, read_u32};
 use std::alloc::{AllocFailed, Global};
 use std::fmt;
 
@@ -164,10 +165,7 @@ fn submit(
     requires { AreShort (spelled arguments.now) }
     ensures { IfOk result (ReadsEvent (codes "submit" ∷ decimal region ∷ spelled arguments.now)) }
 {
-    let Some(session) = one_word(arguments) else {
-        return Ok(None);
-    };
-    let Some(session) = names.read(alloc, session)? else {
+    let Some(session) = read_session(alloc, arguments, names)? else {
         return Ok(None);
     };
     Ok(Some(Event::Submit { region, session }))
@@ -242,10 +240,7 @@ fn answer(
     requires { AreShort (spelled arguments.now) }
     ensures { IfOk result (ReadsEvent (codes "answer" ∷ decimal region ∷ spelled arguments.now)) }
 {
-    let Some(session) = one_word(arguments) else {
-        return Ok(None);
-    };
-    let Some(session) = names.read(alloc, session)? else {
+    let Some(session) = read_session(alloc, arguments, names)? else {
         return Ok(None);
     };
     Ok(Some(Event::Answer { region, session }))
@@ -289,6 +284,21 @@ fn read_region(word: &[u8]) -> Option<u8>
     ensures { ReadsNumber (2 ^ 8) word.now result }
 {
     u8::try_from(read_u32(word)?).ok()
+}
+
+/// Reads the only word as the name of a session.
+fn read_session(
+    alloc: Global,
+    words: &[&[u8]],
+    names: &mut RecentNames,
+) -> Result<Option<Name>, NoMemory>
+    requires { AreShort (spelled words.now) }
+    ensures { IfOk result (Reads IsName (λ name. name ∷ []) (spelled words.now)) }
+{
+    let Some(word) = one_word(words) else {
+        return Ok(None);
+    };
+    names.read(alloc, word)
 }
 
 /// Reads ids, one from each word.

@@ -2,7 +2,7 @@
 -- are that many just where each of them is there.
 use Rattle.std.proofs.Common.{◌≡◌, ◌+◌, ◌<◌, ◌≤◌, ◌⊎◌, ℕ, zero, suc, List, [], ◌∷◌, length, slice_get, None, Some, inl, inr, arith}
 use Rattle.dt_lists.specs.Lists.{AllIn, Has, EachThen}
-use Rattle.dt_lists.proofs.Callers.{all_get, all_map, either_nat}
+use Rattle.dt_lists.proofs.Callers.{all_get, all_map, either_nat, some_same}
 
 -- the later ones are above the first
 later_above : (x : ℕ) (xs : List ℕ) → AllIn (λ v. x < v) xs → AllIn (λ v. suc x ≤ v) xs
@@ -98,11 +98,8 @@ full_length a b (x ∷ xs) up low high le all = joined (length xs) first (full_l
 -- no number is less than its place
 pub place_below : (a : ℕ) (xs : List ℕ) → EachThen ◌<◌ xs → AllIn (λ v. a ≤ v) xs → (i v : ℕ) → slice_get xs i ≡ Some v → i + a ≤ v
 place_below a [] up low i v e = cc
-place_below a (x ∷ xs) up low zero v e = first (same e)
+place_below a (x ∷ xs) up low zero v e = first (some_same {x = x} {y = v} e)
   where
-    same : Some x ≡ Some v → x ≡ v
-    same e = cc
-
     first : x ≡ v → zero + a ≤ v
     first f = omega (arith, f, low.0)
 place_below a (x ∷ xs) up low (suc i) v e = more (place_below (suc x) xs up.1 (later_above x xs up.0) i v e)

@@ -5,12 +5,12 @@ use Rattle.std.proofs.Common.{◌≡◌, ◌≢◌, ◌+◌, ◌<◌, ◌≤◌,
 use Rattle.std.proofs.Common.{length, map, filter, get_or, refl, sym, ap, subst, inl, inr, arith}
 use Rattle.std.proofs.lemmas.Bool.{cases_Bool}
 use Rattle.std.proofs.lemmas.List.{append-nil, append_assoc}
-use Rattle.std.proofs.lemmas.List.Sorted.{Contains-permutation, IsPermutation-sym, sum_by-IsPermutation}
+use Rattle.std.proofs.lemmas.List.Sorted.{IsPermutation-sym, sum_by-IsPermutation}
 use Rattle.std.proofs.lemmas.List.Sums.{sum_by-append, sum_by-cons}
-use Rattle.std.specs.List.{Contains, sum_by}
+use Rattle.std.specs.List.{sum_by}
 use Rattle.std.specs.List.Sorted.{IsPermutation}
 use Rattle.dt_lists.specs.Lists.{AllIn, Has}
-use Rattle.dt_lists.proofs.Callers.{all_get, any_append, any_append_left, any_append_right, any_get, any_image, any_of_image, any_put, either_nat, filter_all, has_at, has_middle}
+use Rattle.dt_lists.proofs.Callers.{all_get, any_append, any_append_left, any_append_right, any_get, any_image, any_of_image, any_put, either_nat, filter_all, has_middle, permuted_has}
 use Rattle.dt_queue.specs.declared.Follower.{Follower}
 use Rattle.dt_queue.specs.Queues.{Waiting, follower_of, followers, is_neighbour}
 use Rattle.dt_waits.specs.Waits.{is_of, lowered}
@@ -18,20 +18,6 @@ use Rattle.dt_waits.proofs.Callers.{slot_same, slot_other}
 use Rattle.dt_graph.specs.SmallStepsInner.{AreLowered, IsFollowedAt, Wakes, falls}
 use Rattle.dt_graph.proofs.ReadyFollowers.{falls_spares, wakes_lowered}
 use Rattle.dt_graph.proofs.ReadyVertices.{IsOfSome, of_some_decided, wakes_none, wakes_same}
-
--- ---- permutations
-
-contains_of : {A : Type 0} (xs : List A) (x : A) → Has xs x → Contains xs x
-contains_of [] x h = absurd h
-contains_of (y ∷ xs) x (inl e) = (0, omega arith, e)
-contains_of (y ∷ xs) x (inr h) = let r = contains_of xs x h in (suc r.0, omega (arith, r.1), r.2)
-
-has_of : {A : Type 0} (xs : List A) (x : A) → Contains xs x → Has xs x
-has_of xs x c = subst (Has xs) c.2 (has_at xs c.0 x c.1)
-
--- what is in a list is in its permutation
-moved : {A : Type 0} (xs ys : List A) (x : A) → IsPermutation xs ys → Has xs x → Has ys x
-moved xs ys x p h = has_of ys x (Contains-permutation xs ys x p (contains_of xs x h))
 
 -- ---- what followers take
 
@@ -90,7 +76,7 @@ module _ (waiting : List Waiting) (slot u : ℕ) where
     -- what is said of all entries is said of a follower
     pub said_of : (P : ℕ → Type 0) (f : Follower) (more : List Follower) → IsFreeing (f ∷ more) old now stuck ready stuck_now ready_now → AllIn (λ w. P w.vertex) waiting → P f.vertex
     said_of P f more k said =
-        let h : Has (map follower_of (followers waiting slot)) f = moved (k.front ++ f ∷ more) (map follower_of (followers waiting slot)) f (IsPermutation-sym _ _ k.split) (has_middle k.front f more) in
+        let h : Has (map follower_of (followers waiting slot)) f = (permuted_has (map follower_of (followers waiting slot)) (k.front ++ f ∷ more) k.split f).0 (has_middle k.front f more) in
         let w = any_get _ (followers waiting slot) (any_of_image (λ g. g ≡ f) follower_of (followers waiting slot) h) in
         subst P (ap (λ (g : Follower). g.vertex) w.2) (all_get (λ w. P w.vertex) (followers waiting slot) (filter_all (λ w. P w.vertex) (λ w. is_neighbour waiting slot w.slot) waiting said) w.0 w.1)
 
@@ -145,7 +131,7 @@ module _ (waiting : List Waiting) (slot u : ℕ) where
           met = subst (IsPermutation all) (append-nil k.front) k.split
 
           any_moved : (v : ℕ) (xs ys : List Follower) → IsPermutation xs ys → IsOfSome xs v → IsOfSome ys v
-          any_moved v xs ys p h = let r = any_get (λ (g : Follower). g.vertex ≡ v) xs h in any_put (λ (g : Follower). g.vertex ≡ v) ys r.0 (moved xs ys r.0 p r.1) r.2
+          any_moved v xs ys p h = let r = any_get (λ (g : Follower). g.vertex ≡ v) xs h in any_put (λ (g : Follower). g.vertex ≡ v) ys r.0 ((permuted_has xs ys p r.0).1 r.1) r.2
 
           same : (v : ℕ) → IsOfSome k.front v ↔ IsFollowedAt waiting slot v
           same v = (

@@ -109,7 +109,7 @@ turned a b = grind (arith, nat_tests)
 -- sorted, they run in order
 module _ (g : GraphView) (ids : List TxnId) (members sorted : List Member) (once : Distinct ids) (a : AreMembers g ids members) (p : IsPermutation members sorted) (s : IsSorted by_run sorted) where
   are_sorted : AllIn (IsMemberOf g) sorted
-  are_sorted = all_put (IsMemberOf g) sorted (λ m h. all_get (IsMemberOf g) members a.are m ((permuted_has same_member tells told turned members sorted p m).0 h))
+  are_sorted = all_put (IsMemberOf g) sorted (λ m h. all_get (IsMemberOf g) members a.are m ((permuted_has members sorted p m).0 h))
 
   permuted_ids : IsPermutation ids (map (λ m. m.id) sorted)
   permuted_ids = subst (λ l. IsPermutation l (map (λ m. m.id) sorted)) a.named (IsPermutation-map (λ m. m.id) members sorted p)
@@ -152,6 +152,6 @@ module _ (g : GraphView) (ids : List TxnId) (members sorted : List Member) (once
   pub run_in_order : RunInOrder g ids (map (λ m. m.vertex) sorted)
   run_in_order = record {
     within = within sorted are_sorted;
-    names = λ t. subst (λ l. Has l t ↔ Has ids t) (sym (ids_of_vertices sorted are_sorted)) (permuted_has same_id id_of_test test_of_id same_id_turned ids (map (λ m. m.id) sorted) permuted_ids t);
+    names = λ t. subst (λ l. Has l t ↔ Has ids t) (sym (ids_of_vertices sorted are_sorted)) (permuted_has ids (map (λ m. m.id) sorted) permuted_ids t);
     ordered = ordered sorted are_sorted earlier apart;
   }

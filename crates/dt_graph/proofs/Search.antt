@@ -6,7 +6,7 @@ use Rattle.std.specs.List.{list_any, position, position_from}
 use Rattle.std.proofs.lemmas.Iterator.Adapters.{position_from-zero}
 use Rattle.std.proofs.lemmas.List.{take_more, take-append-drop}
 use Rattle.dt_lists.specs.Lists.{Distinct, Has}
-use Rattle.dt_lists.proofs.Callers.{any_get, any_of_test, each_across, each_append_left}
+use Rattle.dt_lists.proofs.Callers.{any_get, any_of_test, each_across, each_append_left, some_same}
 
 -- the test holds of two items where they are the same, and only there
 pub record Tells {A : Type 0} (same : A → A → Bool) : Type 0 where
@@ -20,10 +20,7 @@ found_from same t x (y ∷ xs) start i e = by (same x y) refl e (λ f. found_fro
   where
     by : (b : Bool) → same x y ≡ b → Some i ≡ cond b (Some start) (position_from (same x) (start + 1) xs)
         → (Some i ≡ position_from (same x) (start + 1) xs → (j : ℕ) × (i ≡ start + 1 + j) × (slice_get xs j ≡ Some x)) → (j : ℕ) × (i ≡ start + j) × (slice_get (y ∷ xs) j ≡ Some x)
-    by true s f rest = let v : i ≡ start = value f in (0, omega (arith, v), ap Some (sym (t.of_test x y s)))
-      where
-        value : Some i ≡ Some start → i ≡ start
-        value f = cc
+    by true s f rest = let v : i ≡ start = some_same {x = i} {y = start} f in (0, omega (arith, v), ap Some (sym (t.of_test x y s)))
     by false s f rest = let r = rest f in (suc r.0, omega (arith, r.1), r.2)
 
 pub found_at : {A : Type 0} (same : A → A → Bool) → Tells same → (x : A) (xs : List A) (i : ℕ) → Some i ≡ position (same x) xs → slice_get xs i ≡ Some x

@@ -20,4 +20,4 @@ ids_sorted ids list places xs ys e p s = record {
 }
   where
     there : (t : TxnId) → Has ys t ↔ Has xs t
-    there t = permuted_has same_id id_of_test test_of_id same_id_turned xs ys p t
+    there t = permuted_has xs ys p t

@@ -1,5 +1,5 @@
-ghost use Rattle.std.specs.Prelude.{◌≡◌, ◌≢◌, ◌≤◌, ◌<◌, ◌+◌, ◌-◌, ◌^◌, ◌↔◌, [], ◌∷◌, ◌++◌, IsTrue, OnOk, Some, get_or, length, map, set, vec_capacity};
-ghost use Rattle.dt_lists.specs.Lists.{AllIn, Has, Distinct};
+ghost use Rattle.std.specs.Prelude.{◌≡◌, ◌≤◌, ◌<◌, ◌+◌, ◌-◌, ◌^◌, ◌↔◌, [], ◌∷◌, ◌++◌, IsTrue, OnOk, Some, get_or, length, set, vec_capacity};
+ghost use Rattle.dt_lists.specs.Lists.{Has, Distinct};
 ghost use Rattle.dt_waits.specs.Graph.{vertex_at};
 ghost use Rattle.dt_graph.specs.SubsetInner.{PutsIn, Removes};
 ghost use Rattle.dt_graph.specs.VerticesInner.{IsVertexKept};

@@ -3,9 +3,10 @@
 -- shows through in the fields alone: ids are counted in each region from 1, so each region has a list in which an id stands
 -- at its number; the ids that came far out of order, or whose places are too large for the list, stand in a map beside. In a list
 -- 0 stands for no place, so that a list may be made longer at any time and no id gets a place by it. Read next: src/index.rt.
-use Rattle.std.specs.Prelude.{ℕ, zero, suc, List, [], get_or, Option, None, Some}
+use Rattle.std.specs.Prelude.{ℕ, List, [], get_or, Option}
 use Rattle.std.specs.Option.{option_or}
 use Rattle.std.specs.Map.{lookup}
+use Rattle.dt_lists.specs.Place.{place_before}
 use Rattle.dt_access.specs.Ids.{same_id}
 use Rattle.dt_access.specs.declared.TxnId.{TxnId}
 
@@ -16,14 +17,9 @@ pub record IdIndexView : Type 0 where
   pub others : List (TxnId × ℕ)
   pub spare : ℕ
 
--- the place for which a number in a list stands: 0 for none, and n + 1 for the place n
-abbrev pub place_kept : ℕ → Option ℕ
-place_kept zero = None
-place_kept (suc place) = Some place
-
 -- the place that an id has in the list of its region; past the ends stands 0
 abbrev pub place_listed : List (List ℕ) → TxnId → Option ℕ
-place_listed lists id = place_kept (get_or (get_or lists id.region []) id.seq 0)
+place_listed lists id = place_before (get_or (get_or lists id.region []) id.seq 0)
 
 -- the place of an id, if it has one: in the list of its region, or else beside
 abbrev pub place_of : IdIndexView → TxnId → Option ℕ

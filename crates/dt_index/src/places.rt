@@ -1,5 +1,5 @@
 ghost use Rattle.std.specs.Prelude.{◌≡◌, ◌≢◌, ◌⊎◌, [], ℕ, Some, IsFalse, IsTrue, get_or};
-ghost use Rattle.dt_index.specs.Index.{place_kept};
+ghost use Rattle.dt_lists.specs.Place.{place_before};
 
 use dt_text::NoMemory;
 use std::alloc::Global;
@@ -35,7 +35,7 @@ impl Places {
 
     /// The place of a number, if it has one.
     pub fn get(&self, number: u32) -> Option<usize>
-        ensures { result ≡ place_kept (get_or self.now number 0) }
+        ensures { result ≡ place_before (get_or self.now number 0) }
     {
         let kept = self.kept.as_slice().get(number as usize)?;
         let place = kept.checked_sub(1)?;
@@ -59,7 +59,7 @@ impl Places {
     /// Gives a number this place, if the list is long enough and the place fits, and says whether that is so; else the number
     /// has none. Takes no memory.
     pub fn put(&mut self, number: u32, place: usize) -> bool
-        ensures put { IsTrue result → place_kept (get_or self.new number 0) ≡ Some place }
+        ensures put { IsTrue result → place_before (get_or self.new number 0) ≡ Some place }
         ensures none { IsFalse result → get_or self.new number 0 ≡ 0 }
         ensures others { (other : ℕ) → other ≢ number → get_or self.new other 0 ≡ get_or self.old other 0 }
     {
@@ -74,7 +74,7 @@ impl Places {
 
 /// What stands for a place, or 0 if the place does not fit.
 fn kept_for(place: usize) -> u32
-    ensures { (result ≡ 0) ⊎ (place_kept result ≡ Some place) }
+    ensures { (result ≡ 0) ⊎ (place_before result ≡ Some place) }
 {
     if place < u32::MAX as usize {
         place as u32 + 1

@@ -1,14 +1,31 @@
 -- Lists that a sort gives: they have the same items, each as often, and where none stands twice each is before all later ones.
-use Rattle.std.proofs.Common.{◌≡◌, ◌∙◌, suc, ◌+◌, ◌⊎◌, ◌↔◌, Bool, true, false, List, [], ◌∷◌, sym, inl, inr, arith, IsPermutation, IsSorted}
+use Rattle.std.proofs.Common.{◌≡◌, suc, ◌+◌, ◌⊎◌, ◌↔◌, Bool, true, false, List, [], ◌∷◌, subst, inl, inr, arith, IsPermutation, IsSorted}
 use Rattle.std.specs.Ordering.{is_lt}
 use Rattle.std.specs.declared.cmp.Ordering.{Ordering}
-use Rattle.std.specs.List.{AllByRecursion, IsDistinct, list_any}
+use Rattle.std.specs.List.{AllByRecursion, Contains, IsDistinct, list_any}
 use Rattle.std.proofs.lemmas.Map.Keys.{IsDistinct-IsPermutation}
-use Rattle.std.proofs.lemmas.List.Sorted.{list_any-IsPermutation}
+use Rattle.std.proofs.lemmas.List.Sorted.{Contains-permutation, IsPermutation-sym}
 use Rattle.std.proofs.lemmas.Bool.{false_from_ne_true}
 use Rattle.dt_lists.specs.Lists.{AllIn, Has, Distinct, EachThen}
+use Rattle.dt_lists.proofs.Places.{has_at}
 use Rattle.dt_lists.proofs.Tests.{any_of_test, test_of_any}
 use Rattle.dt_lists.proofs.Words.{all_map, any_map}
+
+-- a permutation has the same items
+
+contains_of : {A : Type 0} (xs : List A) (x : A) → Has xs x → Contains xs x
+contains_of [] x h = absurd h
+contains_of (y ∷ xs) x (inl e) = (0, omega arith, e)
+contains_of (y ∷ xs) x (inr h) = let r = contains_of xs x h in (suc r.0, omega (arith, r.1), r.2)
+
+has_of : {A : Type 0} (xs : List A) (x : A) → Contains xs x → Has xs x
+has_of xs x c = subst (Has xs) c.2 (has_at xs c.0 x c.1)
+
+has_permuted : {A : Type 0} (xs ys : List A) (x : A) → IsPermutation xs ys → Has xs x → Has ys x
+has_permuted xs ys x p h = has_of ys x (Contains-permutation xs ys x p (contains_of xs x h))
+
+pub permuted_has : {A : Type 0} (xs ys : List A) → IsPermutation xs ys → (x : A) → Has ys x ↔ Has xs x
+permuted_has xs ys p x = (has_permuted ys xs x (IsPermutation-sym xs ys p), has_permuted xs ys x p)
 
 -- a test tells whether two items are alike: whether no two of a list are, is the same of its permutations
 module _ {A : Type 0} (Alike : A → A → Type 0) (same : A → A → Bool)
@@ -37,18 +54,13 @@ module _ {A : Type 0} (Alike : A → A → Type 0) (same : A → A → Bool)
   pub permuted_apart : (xs ys : List A) → IsPermutation xs ys → EachThen (λ x y. ¬ (Alike x y)) xs → EachThen (λ x y. ¬ (Alike x y)) ys
   permuted_apart xs ys p d = own_distinct ys (IsDistinct-IsPermutation same turned xs ys p (std_distinct xs d))
 
--- a permutation has the same items, each as often; whether two are the same is decided by a test
+-- whether two are the same is decided by a test
 module _ {A : Type 0} (same : A → A → Bool) (tells : (x y : A) → same x y ≡ true → x ≡ y) (told : (x y : A) → x ≡ y → same x y ≡ true) (turned : (x y : A) → same x y ≡ same y x) where
   pub has_listed : (xs : List A) (u : A) → Has xs u → list_any (λ x. same x u) xs ≡ true
   has_listed xs u h = test_of_any (λ x. same x u) xs (any_map _ _ xs (λ x e. told x u e) h)
 
   pub listed_has : (xs : List A) (u : A) → list_any (λ x. same x u) xs ≡ true → Has xs u
   listed_has xs u t = any_map _ _ xs (λ x e. tells x u e) (any_of_test (λ x. same x u) xs t)
-
-  pub permuted_has : (xs ys : List A) → IsPermutation xs ys → (u : A) → Has ys u ↔ Has xs u
-  permuted_has xs ys p u =
-      let e : list_any (λ x. same x u) xs ≡ list_any (λ x. same x u) ys = list_any-IsPermutation (λ x. same x u) xs ys p in
-      (λ h. listed_has xs u (e ∙ has_listed ys u h), λ h. listed_has ys u (sym e ∙ has_listed xs u h))
 
   pub permuted_distinct : (xs ys : List A) → IsPermutation xs ys → Distinct xs → Distinct ys
   permuted_distinct xs ys p d = permuted_apart (λ x y. x ≡ y) same tells told turned xs ys p d

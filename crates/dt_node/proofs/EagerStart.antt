@@ -1,7 +1,7 @@
 -- How a turn begins before anything happens anywhere: no session is answered, and one after another submits its first call; so
 -- the events are the first ones of the region, session by session.
 use Rattle.std.proofs.Common.{◌≡◌, ◌<◌, ◌≤◌, ◌+◌, ◌-◌, ℕ, zero, suc, Bool, true, false, cond, List, [], ◌∷◌, ◌++◌}
-use Rattle.std.proofs.Common.{length, map, drop, get_or, replicate, slice_get, Some, None, refl, sym, ap, ap₂, subst, ◌∙◌, append-nil, append_assoc, arith}
+use Rattle.std.proofs.Common.{length, map, drop, get_or, slice_get, Some, None, refl, sym, ap, ap₂, subst, ◌∙◌, append-nil, append_assoc, arith}
 use Rattle.std.specs.Prelude.{Option, option_and_then, option_map}
 use Rattle.std.specs.Map.{lookup, set_value}
 use Rattle.std.proofs.lemmas.List.{drop-map, get_or-replicate, map-append}
@@ -12,7 +12,6 @@ use Rattle.dt_lists.specs.Lists.{EachThen}
 use Rattle.dt_lists.proofs.Callers.{each_image, each_of_image, get_of_replicate, has_place}
 use Rattle.dt_access.specs.Clash.{Bytes}
 use Rattle.dt_access.specs.Orders.{HasAscendingKeys, KeyBefore}
-use Rattle.dt_access.specs.declared.TxnId.{TxnId}
 use Rattle.dt_events.specs.declared.Event.{Event}
 use Rattle.dt_events.specs.declared.Event.TheVariants.{Append, Submit}
 use Rattle.dt_events.specs.Stamps.{events_of}
@@ -64,11 +63,6 @@ drop_more n xs = ap (λ m. drop m xs) (let e : n + 1 ≡ suc n = omega arith in 
 
 -- before anything happens
 
-none_asked : (n h : ℕ) → get_or (replicate {A = List TxnId} n []) h [] ≡ []
-none_asked zero h = refl
-none_asked (suc n) zero = refl
-none_asked (suc n) (suc h) = none_asked n h
-
 module _ {cluster : Cluster} {workload : Workload} {a : NodeView} (f : NodeFits cluster workload [] a) where
   here_is : a.site.region.state.here ≡ opening_replica cluster.regions (opening_table cluster)
   here_is =
@@ -79,7 +73,7 @@ module _ {cluster : Cluster} {workload : Workload} {a : NodeView} (f : NodeFits 
   taken_none = ap (λ (h : Replica). taken_from h (number_of a)) here_is ∙ get_of_replicate {A = ℕ} cluster.regions (number_of a) 0
 
   pub placed_none : HasPlacedOwn a
-  placed_none = ap length (ap (λ (h : Replica). get_or h.asked (number_of a) []) here_is ∙ none_asked cluster.regions (number_of a)) ∙ sym taken_none
+  placed_none = ap length (ap (λ (h : Replica). get_or h.asked (number_of a) []) here_is ∙ get_of_replicate cluster.regions (number_of a) []) ∙ sym taken_none
 
   -- no session waits for anything, so none may be answered
   idle_all : (name : Bytes) (seat : Seat) (sessions : List Session) → lookup (is_named name) (map idle_seat sessions) ≡ Some seat → seat.waits ≡ None

@@ -1,7 +1,7 @@
 -- The steps of a turn one after another: a pass over the sessions with its round, passes until the sessions stand still, and
 -- last the sending.
 use Rattle.std.proofs.Common.{◌≡◌, inl, inr, ◌<◌, ◌+◌, ◌||◌, Bool, true, false, List, [], ◌∷◌, ◌++◌, length, get_or, refl, sym, ap, ap₂, subst, ◌∙◌, arith, append-nil}
-use Rattle.std.specs.Prelude.{Option, Some, None, Result, Ok, Err, OnOk, slice_index}
+use Rattle.std.specs.Prelude.{Option, Some, None, slice_index}
 use Rattle.std.proofs.lemmas.List.{length-append}
 use Rattle.dt_access.specs.declared.TxnId.{TxnId}
 use Rattle.dt_events.specs.declared.Event.{Event}
@@ -176,11 +176,6 @@ pub passes_end : {procs : List ProcTree} {a b c : NodeView} → HasPassed procs 
 passes_end {procs} {a} {b} {c} p step = p.passes c (record { between = []; each = step })
 
 -- what a turn asks of its parts
-
--- what is so whether or not a call failed
-pub on_ok : {T E P : Type 0} (r : Result T E) → P → OnOk r P
-on_ok (Ok x) p = p
-on_ok (Err x) p = tt
 
 -- the packets were taken, so that the sessions may go on
 pub turn_can : {procs : List ProcTree} {xs : List Packet} {a b : NodeView} → NodeStands procs xs a → MovesOn procs xs a b → CanGo procs [] b

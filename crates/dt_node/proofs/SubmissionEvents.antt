@@ -34,34 +34,40 @@ use Rattle.dt_node.proofs.CallAfterCall.{gone_more, made_nothing, moves_on, new_
 
 -- asking the homes of a transaction: a region among them is asked once more, and any other one is not
 
-ask_apart : (me : ℕ) (homes : List ℕ) (id : TxnId) (asked : List (List TxnId)) → AllIn (λ home. me ≢ home) homes → get_or (ask homes id asked) me [] ≡ get_or asked me []
-ask_apart me [] id asked a = refl
-ask_apart me (home ∷ homes) id asked a =
-    ask_apart me homes id (set asked home (get_or asked home [] ++ id ∷ [])) a.1 ∙ get_or-set_other asked home me (get_or asked home [] ++ id ∷ []) [] a.0
-
+-- what a home is asked for then
 abbrev id_more : List (List TxnId) → ℕ → TxnId → List TxnId
 id_more asked home id = get_or asked home [] ++ id ∷ []
+
+-- and what all of them are
+abbrev with_id : List (List TxnId) → ℕ → TxnId → List (List TxnId)
+with_id asked home id = set asked home (id_more asked home id)
+
+ask_apart : (me : ℕ) (homes : List ℕ) (id : TxnId) (asked : List (List TxnId)) → AllIn (λ home. me ≢ home) homes → get_or (ask homes id asked) me [] ≡ get_or asked me []
+ask_apart me [] id asked a = refl
+ask_apart me (home ∷ homes) id asked a = ask_apart me homes id (with_id asked home id) a.1 ∙ get_or-set_other asked home me (id_more asked home id) [] a.0
 
 ask_one : (me : ℕ) (homes : List ℕ) (id : TxnId) (asked : List (List TxnId)) → me < length asked → AreAscendingHomes homes
     → length (get_or (ask homes id asked) me []) ≡ length (get_or asked me []) + cond (list_any (λ home. home == me) homes) 1 0
 ask_one me [] id asked there each = omega arith
-ask_one me (home ∷ homes) id asked there each =
-    go (cases_Bool (home == me)) (ask_one me homes id (set asked home (id_more asked home id)) (subst (λ m. me < m) (sym (length-set asked home (id_more asked home id))) there) each.1)
+ask_one me (home ∷ homes) id asked there each = go (cases_Bool (home == me)) (ask_one me homes id more (subst (λ m. me < m) (sym (length-set asked home (id_more asked home id))) there) each.1)
   where
+    more : List (List TxnId)
+    more = with_id asked home id
+
     go : ((home == me) ≡ true) ⊎ ((home == me) ≡ false)
-        → length (get_or (ask homes id (set asked home (id_more asked home id))) me []) ≡ length (get_or (set asked home (id_more asked home id)) me []) + cond (list_any (λ other. other == me) homes) 1 0
-        → length (get_or (ask homes id (set asked home (id_more asked home id))) me []) ≡ length (get_or asked me []) + cond ((home == me) || list_any (λ other. other == me) homes) 1 0
+        → length (get_or (ask homes id more) me []) ≡ length (get_or more me []) + cond (list_any (λ other. other == me) homes) 1 0
+        → length (get_or (ask homes id more) me []) ≡ length (get_or asked me []) + cond ((home == me) || list_any (λ other. other == me) homes) 1 0
     go (inl y) rest =
         let same : home ≡ me = eqb-true home me y in
         let apart : AllIn (λ other. me ≢ other) homes = all_map (λ other. home < other) (λ other. me ≢ other) homes (λ other lt is. absurd (omega (arith, lt, is, same))) each.0 in
-        let later : get_or (ask homes id (set asked home (id_more asked home id))) me [] ≡ get_or (set asked home (id_more asked home id)) me [] = ask_apart me homes id (set asked home (id_more asked home id)) apart in
-        let here : get_or (set asked home (id_more asked home id)) me [] ≡ get_or asked me [] ++ id ∷ [] =
-        subst (λ m. get_or (set asked home (id_more asked home id)) m [] ≡ get_or asked m [] ++ id ∷ []) same (get_or-set_same asked home (id_more asked home id) [] (omega (arith, there, same))) in
+        let later : get_or (ask homes id more) me [] ≡ get_or more me [] = ask_apart me homes id more apart in
+        let here : get_or more me [] ≡ get_or asked me [] ++ id ∷ [] =
+        subst (λ m. get_or more m [] ≡ get_or asked m [] ++ id ∷ []) same (get_or-set_same asked home (id_more asked home id) [] (omega (arith, there, same))) in
         let long : length (get_or asked me [] ++ id ∷ []) ≡ length (get_or asked me []) + 1 = length_push (get_or asked me []) id in
         ap length (later ∙ here) ∙ long ∙ ap (λ b. length (get_or asked me []) + cond (b || list_any (λ other. other == me) homes) 1 0) (sym y)
     go (inr n) rest =
         let apart : me ≢ home = λ is. (let y : (home == me) ≡ true = eq-eqb home me (sym is) in let no : ◌≡◌ {A = Bool} true false = sym y ∙ n in cc) in
-        let here : get_or (set asked home (id_more asked home id)) me [] ≡ get_or asked me [] = get_or-set_other asked home me (id_more asked home id) [] apart in
+        let here : get_or more me [] ≡ get_or asked me [] = get_or-set_other asked home me (id_more asked home id) [] apart in
         rest ∙ ap (λ l. length l + cond (list_any (λ other. other == me) homes) 1 0) here
         ∙ ap (λ b. length (get_or asked me []) + cond (b || list_any (λ other. other == me) homes) 1 0) (sym n)
 

@@ -1,4 +1,4 @@
-ghost use Rattle.std.specs.Prelude.{◌≡◌, ◌≢◌, ◌<◌, ◌≤◌, ◌⊎◌, length, IfOk, IfSome, Some};
+ghost use Rattle.std.specs.Prelude.{◌≡◌, ◌≢◌, ◌≤◌, ◌⊎◌, length, IfOk, IfSome, Some};
 ghost use Rattle.dt_outside.specs.Faults.{Rose};
 ghost use Rattle.dt_outside.specs.Folder.{FolderView, IsAboveLimit, MissedLast};
 

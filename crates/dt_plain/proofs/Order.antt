@@ -13,7 +13,7 @@ use Rattle.dt_plain.specs.IdListsInner.{IsOrderOf}
 pub order_of_sorted : (xs ys : List TxnId) → Distinct xs → IsPermutation xs ys → IsSorted by_parts ys → IsOrderOf xs ys
 order_of_sorted xs ys d p s = record {
   ascending = each_of_sorted by_parts Before before_or_above before_transitive ys s (permuted_distinct same_id id_of_test test_of_id same_id_turned xs ys p d);
-  members = permuted_has same_id id_of_test test_of_id same_id_turned xs ys p;
+  members = permuted_has xs ys p;
 }
 
 -- lists that are equal item by item

@@ -1,4 +1,4 @@
-ghost use Rattle.std.specs.Prelude.{◌≡◌, ◌<◌, [], ◌∷◌, map, true, false, IfOk};
+ghost use Rattle.std.specs.Prelude.{◌≡◌, [], ◌∷◌, map, true, false, IfOk};
 ghost use Rattle.dt_proc.specs.Builtin as builtin;
 ghost use Rattle.dt_proc.specs.Tree.{done, then};
 ghost use Rattle.dt_proc.specs.TreeViews.{expr_tree, give_tree, stmt_tree};

@@ -1,6 +1,6 @@
 //! What comes first of some tokens, and what follows it.
 
-ghost use Rattle.std.specs.Prelude.{◌≡◌, ◌<◌, ℕ, List, [], ◌∷◌, ◌++◌, length, IfSome};
+ghost use Rattle.std.specs.Prelude.{◌≡◌, ◌<◌, ℕ, List, ◌∷◌, ◌++◌, length, IfSome};
 ghost use Rattle.dt_syntax.specs.declared.token.Placed.{Placed};
 ghost use Rattle.dt_syntax.specs.declared.token.Token.TheVariants as tok;
 ghost use Rattle.dt_syntax.specs.Grammar.{at, Bracketed, bracketed_tokens};

@@ -1,4 +1,4 @@
-ghost use Rattle.std.specs.Prelude.{◌≡◌, ◌↔◌, ◌<◌, [], length, slice_get, Some, IfOk, IsTrue, option_copied, nat_eq};
+ghost use Rattle.std.specs.Prelude.{◌≡◌, ◌↔◌, [], length, slice_get, Some, IfOk, IsTrue, option_copied, nat_eq};
 ghost use Rattle.dt_proc.specs.TreeViews.{block_tree};
 ghost use Rattle.dt_proc.specs.Sound.{IsSoundProc, AreProcs};
 ghost use Rattle.dt_proc.specs.Tree.{ProcTree};

@@ -3,8 +3,7 @@ use Rattle.std.proofs.Common.{◌≡◌, ◌⊎◌, ℕ, true, false}
 use Rattle.std.proofs.Common.{Some, refl, ap, sym, subst, inl, inr, ◌∙◌}
 use Rattle.std.proofs.lemmas.Option.{same_Some}
 use Rattle.slab.specs.Slab.{get}
-use Rattle.dt_lists.specs.Lists.{AnyIn, Has}
-use Rattle.dt_lists.proofs.Callers.{any_get, any_put}
+use Rattle.dt_lists.specs.Lists.{Has}
 use Rattle.dt_access.specs.Clash.{is_whole, may_change}
 use Rattle.dt_access.specs.declared.access.Mode.{Mode}
 use Rattle.dt_access.specs.declared.access.Mode.TheVariants.{Read, Write, Whole}
@@ -14,8 +13,9 @@ use Rattle.dt_queue.specs.declared.kept.Kept.{Kept}
 use Rattle.dt_queue.specs.KeptInner.{CellsClash, IsInLane, AreQueuesKept, lane, mark_of, place_at}
 use Rattle.dt_queue.specs.LanesInner.{AreApart}
 use Rattle.dt_queue.specs.TableInner.{lanes_read, lanes_written}
-use Rattle.dt_queue.specs.ListedInner.{rows_at}
+use Rattle.dt_queue.specs.ListedInner.{rows_between}
 use Rattle.dt_queue.specs.RowsInner.{RowLinks, granule_at, links}
+use Rattle.dt_queue.proofs.Listings.{listed_between}
 
 -- a mark that has its cell
 pub record IsMarkOf (k : Kept) (m : Mark) (c : Cell) : Type 0 where
@@ -92,7 +92,7 @@ apart_lanes k kept = record {
 abbrev pub InUseOf : Mode → Kept → ℕ → Mark → Type 0
 InUseOf Read k row m = Has (lane k Write row) m
 InUseOf Write k row m = Has (lane k Read row) m ⊎ Has (lane k Write row) m
-InUseOf Whole k row m = AnyIn (λ r. Has (lane k Read r) m ⊎ Has (lane k Write r) m) (rows_at k.listed (granule_at (links k.rows) row))
+InUseOf Whole k row m = (r : ℕ) × (granule_at (links k.rows) r ≡ granule_at (links k.rows) row) × (Has (lane k Read r) m ⊎ Has (lane k Write r) m)
 
 pub clash_turned : (r : RowLinks) (c d : Cell) → CellsClash r c d → CellsClash r d c
 clash_turned r c d (inl b) = inl (sym b.0, elim b.1 [ inl e ↦ inr e | inr e ↦ inl e ])
@@ -137,23 +137,22 @@ pub narrow_cell : (k : Kept) → AreQueuesKept k → (row : ℕ) (m : Mark) (c :
 narrow_cell k kept row m c a (inl h) = let b = lane_tells k kept Read row m c a h in (ap is_whole b.0, b.1)
 narrow_cell k kept row m c a (inr h) = let b = lane_tells k kept Write row m c a h in (ap is_whole b.0, b.1)
 
-pub row_in_granule : (k : Kept) → AreQueuesKept k → (g row : ℕ) → Has (rows_at k.listed g) row → granule_at (links k.rows) row ≡ g
-row_in_granule k kept g row h = (kept.listed.own g row h).1
+-- the rows that are listed between two pushes are of the granule
+pub row_in_granule : (k : Kept) → AreQueuesKept k → (g low high row : ℕ) → Has (rows_between k.listed g low high) row → granule_at (links k.rows) row ≡ g
+row_in_granule k kept g low high row h = (kept.listed.own g row (listed_between k.listed g low high row h)).1
 
 -- a cell that is in use clashes with the use
 pub use_clashes : (mode : Mode) (k : Kept) → AreQueuesKept k → (x : Cell) → x.mode ≡ mode → (m : Mark) (c : Cell) → IsMarkOf k m c → InUseOf mode k x.row m → IsNarrow c.mode × CellsClash (links k.rows) c x
 use_clashes Read k kept x e m c a h = let b = lane_tells k kept Write x.row m c a h in (ap is_whole b.0, write_clashes (links k.rows) c x b.0 b.1)
 use_clashes Write k kept x e m c a h = let b = narrow_cell k kept x.row m c a h in (b.0, clash_turned (links k.rows) x c (write_clashes (links k.rows) x c e (sym b.1)))
 use_clashes Whole k kept x e m c a h =
-    let r = any_get (λ row. Has (lane k Read row) m ⊎ Has (lane k Write row) m) (rows_at k.listed (granule_at (links k.rows) x.row)) h in
-    let b = narrow_cell k kept r.0 m c a r.2 in
-    let g : granule_at (links k.rows) c.row ≡ granule_at (links k.rows) x.row = ap (granule_at (links k.rows)) b.1 ∙ row_in_granule k kept (granule_at (links k.rows) x.row) r.0 r.1 in
+    let b = narrow_cell k kept h.0 m c a h.2 in
+    let g : granule_at (links k.rows) c.row ≡ granule_at (links k.rows) x.row = ap (granule_at (links k.rows)) b.1 ∙ h.1 in
     (b.0, clash_turned (links k.rows) x c (whole_clashes (links k.rows) x c e (sym g)))
 
--- a read or a write of a granule is in a row of it that is in use
+-- a read or a write of a granule is in a row of it
 in_own_row : (k : Kept) → AreQueuesKept k → (x : Cell) (m : Mark) (c : Cell) → CellsClash (links k.rows) c x → Has (lane k Read c.row) m ⊎ Has (lane k Write c.row) m → InUseOf Whole k x.row m
-in_own_row k kept x m c clash h = any_put (λ r. Has (lane k Read r) m ⊎ Has (lane k Write r) m)
-    (rows_at k.listed (granule_at (links k.rows) x.row)) c.row (subst (λ g. Has (rows_at k.listed g) c.row) (one_granule (links k.rows) c x clash) (kept.listed.used c.row (m, h))) h
+in_own_row k kept x m c clash h = (c.row, one_granule (links k.rows) c x clash, h)
 
 -- a read or a write that clashes with the use is in use
 pub clash_uses : (mode : Mode) (k : Kept) → AreQueuesKept k → (x : Cell) → x.mode ≡ mode → (m : Mark) (c : Cell) → IsMarkOf k m c → CellsClash (links k.rows) c x → (own : Mode) → c.mode ≡ own

@@ -1,6 +1,6 @@
 -- The marks of followers, as the search goes from row to row: what is left of a row and of rows, and that these are just those that
 -- are next.
-use Rattle.std.proofs.Common.{◌≡◌, ◌⊎◌, ◌↔◌, ℕ, ◌<◌, ◌≤◌, List, [], ◌∷◌, ◌++◌, get_or, slice_get, Option, Some, None, option_to_list, is_some, length, true, false, Bor}
+use Rattle.std.proofs.Common.{◌≡◌, ◌⊎◌, ◌↔◌, ℕ, ◌<◌, ◌≤◌, List, [], ◌∷◌, ◌++◌, get_or, slice_get, Option, Some, None, option_to_list, is_some, true, false}
 use Rattle.std.proofs.Common.{refl, ap, sym, subst, inl, inr, arith, ◌∙◌}
 use Rattle.std.specs.List.{filter}
 use Rattle.std.specs.List.Sorted.{IsPermutation}
@@ -15,6 +15,8 @@ use Rattle.dt_lists.proofs.Callers.{filter_each, filter_none, spot}
 use Rattle.dt_queue.specs.declared.mark.Mark.{Mark}
 use Rattle.dt_queue.specs.declared.next.NextMarks.{NextMarks}
 use Rattle.dt_queue.specs.LanesInner.{AreApart, AreMarks, HasRisingNumbers, IsBetween, IsFirstBetween, IsFirstIn, IsNextInRow, is_between, number_or}
+use Rattle.dt_queue.specs.declared.listing.ListedBetween.{ListedBetween}
+use Rattle.dt_queue.specs.ListedInner.{listed_left}
 use Rattle.dt_queue.specs.NextInner.{AreEachOnce, first_in, next_of_row, next_of_rows, or_else_one, reads_left, rows_left}
 use Rattle.dt_queue.specs.TableInner.{lanes_read, lanes_written}
 use Rattle.dt_queue.proofs.Marks.{none_past}
@@ -236,14 +238,15 @@ row_is_write reads writes low high w row first read =
     ∙ ap (λ v. or_else_one (filter (is_between low (number_or v high)) reads) v) (first_in_is low high writes w row.writes_numbered first)
 
 -- after a row was begun
-pub row_entered : (s n : NextMarks) (row : ℕ) (rest : Bor (List ℕ)) (found : Option Mark) → reads_left s ≡ [] → s.rows.now ≡ row ∷ rest.now → n ≡ record s { rows = rest; row = n.row; after = n.after; limit = n.limit }
+pub row_entered : (s n : NextMarks) (row : ℕ) (rest : ListedBetween) (found : Option Mark) → reads_left s ≡ [] → listed_left s.rows ≡ row ∷ listed_left rest
+    → n ≡ record s { rows = rest; row = n.row; after = n.after; limit = n.limit }
     → option_to_list found ++ reads_left n ≡ next_of_row (get_or (lanes_read s.table.now) row []) (get_or (lanes_written s.table.now) row []) s.low s.high → rows_left s ≡ option_to_list found ++ rows_left n
 row_entered s n row rest found none rows same taken =
-    ap (λ l. l ++ next_of_rows (lanes_read s.table.now) (lanes_written s.table.now) s.low s.high s.rows.now) none
+    ap (λ l. l ++ next_of_rows (lanes_read s.table.now) (lanes_written s.table.now) s.low s.high (listed_left s.rows)) none
     ∙ ap (next_of_rows (lanes_read s.table.now) (lanes_written s.table.now) s.low s.high) rows
-    ∙ ap (λ l. l ++ next_of_rows (lanes_read s.table.now) (lanes_written s.table.now) s.low s.high rest.now) (sym taken)
-    ∙ append_assoc (option_to_list found) (reads_left n) (next_of_rows (lanes_read s.table.now) (lanes_written s.table.now) s.low s.high rest.now)
-    ∙ ap (λ (z : NextMarks). option_to_list found ++ (reads_left n ++ next_of_rows (lanes_read z.table.now) (lanes_written z.table.now) z.low z.high z.rows.now)) (sym same)
+    ∙ ap (λ l. l ++ next_of_rows (lanes_read s.table.now) (lanes_written s.table.now) s.low s.high (listed_left rest)) (sym taken)
+    ∙ append_assoc (option_to_list found) (reads_left n) (next_of_rows (lanes_read s.table.now) (lanes_written s.table.now) s.low s.high (listed_left rest))
+    ∙ ap (λ (z : NextMarks). option_to_list found ++ (reads_left n ++ next_of_rows (lanes_read z.table.now) (lanes_written z.table.now) z.low z.high (listed_left z.rows))) (sym same)
 
 -- with a mark, or with none
 pub found_some : (old new : List Mark) (found : Option Mark) → is_some found ≡ true → old ≡ option_to_list found ++ new → MatchOption found ((old ≡ []) × (new ≡ [])) (λ m. old ≡ m ∷ new)
@@ -255,11 +258,7 @@ found_none old new (Some m) is e = cc
 found_none old new None is e = (refl, e)
 
 -- no row is left
-pub rows_out : (s : NextMarks) → reads_left s ≡ [] → length s.rows.now ≡ 0 → rows_left s ≡ []
+pub rows_out : (s : NextMarks) → reads_left s ≡ [] → listed_left s.rows ≡ [] → rows_left s ≡ []
 rows_out s none e =
-    ap (λ l. l ++ next_of_rows (lanes_read s.table.now) (lanes_written s.table.now) s.low s.high s.rows.now) none
-    ∙ ap (next_of_rows (lanes_read s.table.now) (lanes_written s.table.now) s.low s.high) (empty s.rows.now e)
-  where
-    empty : (l : List ℕ) → length l ≡ 0 → l ≡ []
-    empty [] f = refl
-    empty (x ∷ l) f = cc
+    ap (λ l. l ++ next_of_rows (lanes_read s.table.now) (lanes_written s.table.now) s.low s.high (listed_left s.rows)) none
+    ∙ ap (next_of_rows (lanes_read s.table.now) (lanes_written s.table.now) s.low s.high) e

@@ -1,12 +1,12 @@
 -- How lanes follow the cells: a mark is added where a cell is, and taken out where it is taken out.
 use Rattle.std.proofs.Common.{◌≡◌, ◌≢◌, ◌⊎◌, ◌↔◌, ℕ, ◌+◌, ◌<◌, ◌≤◌, ◌^◌, Bool, true, false, not, ◌==◌, List, [], ◌∷◌, ◌++◌}
-use Rattle.std.proofs.Common.{length, get_or, slice_index_or, Some, None, Result, Ok, Err, OnErr, refl, ap, sym, subst, inl, inr, arith, ◌∙◌}
+use Rattle.std.proofs.Common.{length, get_or, map, slice_index_or, Some, None, Result, Ok, Err, OnErr, refl, ap, sym, subst, inl, inr, arith, ◌∙◌}
 use Rattle.std.proofs.lemmas.Option.{none-some, same_Some}
 use Rattle.std.specs.List.{filter}
 use Rattle.slab.specs.Slab.{Slab, Updates, get}
-use Rattle.dt_lists.specs.Lists.{AllIn, Has}
+use Rattle.dt_lists.specs.Lists.{AllIn, EachThen, Has}
 use Rattle.dt_lists.proofs.Callers.{all_put, any_append, any_append_left, any_append_right, either_nat, filter_each, front_refl, has_filter, has_of_filtered, front_length}
-use Rattle.dt_access.specs.Clash.{Bytes, is_whole}
+use Rattle.dt_access.specs.Clash.{Bytes}
 use Rattle.dt_access.specs.declared.access.Mode.{Mode}
 use Rattle.dt_access.specs.declared.access.Mode.TheVariants.{Read, Write, Whole}
 use Rattle.dt_queue.specs.declared.cell.Cell.{Cell}
@@ -15,8 +15,11 @@ use Rattle.dt_queue.specs.declared.kept.Kept.{Kept}
 use Rattle.dt_queue.specs.declared.rows.Rows.{Rows}
 use Rattle.dt_queue.specs.declared.row.Way.{Way}
 use Rattle.dt_queue.specs.declared.row.Way.TheVariants as way
-use Rattle.dt_queue.specs.KeptInner.{AreRowsListed, ChangesLaneOf, IsInLane, AreQueuesKept, IsLane, KeepsLanes, lane, mark_of, newest_at, place_at}
+use Rattle.dt_queue.specs.KeptInner.{AreRowsListed, ChangesLaneOf, IsInLane, AreQueuesKept, IsLane, KeepsLanes, lane, mark_of, place_at}
+use Rattle.dt_queue.specs.declared.listed.ListedRows.{ListedRows}
+use Rattle.dt_queue.specs.declared.listed.Log.{Log}
 use Rattle.dt_queue.specs.LanesInner.{ChangesLane, SameLanes}
+use Rattle.dt_queue.specs.ListedInner.{IsListedRow, last_listing, listings_at}
 use Rattle.dt_queue.specs.TableInner.{heads_of, lanes_of, lanes_read, lanes_written}
 use Rattle.dt_queue.specs.RowsInner.{AreRowsLinked, KeepsRows, RowLinks, granule_at, links}
 use Rattle.dt_queue.proofs.Marks.{numbered_more}
@@ -148,17 +151,10 @@ place_same old new k Whole row lt = k.granules row lt
 pub rows_refl : (r : RowLinks) → KeepsRows r r
 rows_refl r = record { names = front_refl r.names; granules = λ row lt. refl }
 
--- what was noted of a cell stays noted
-still_newest : (k n : Kept) → AreQueuesKept k → KeepsRows (links k.rows) (links n.rows) → ((g : ℕ) → newest_at k g ≤ newest_at n g) → (s : ℕ) (c : Cell) → get k.cells s ≡ Some c → is_whole c.mode ≡ false
-    → c.number ≤ newest_at n (granule_at (links n.rows) c.row)
-still_newest k n kept keeps grows s c e part =
-    let had : c.number ≤ newest_at k (granule_at (links n.rows) c.row) = subst (λ g. c.number ≤ newest_at k g) (sym (keeps.granules c.row (kept.known s c e))) (kept.newest s c e part) in
-    omega (arith, had, grows (granule_at (links n.rows) c.row))
-
 -- rows may have been added, and nothing else
 pub kept_same : (k n : Kept) → AreQueuesKept k → AreRowsLinked (links n.rows) → KeepsRows (links k.rows) (links n.rows) → ((s : ℕ) → get n.cells s ≡ get k.cells s) → n.next_number ≡ k.next_number
-    → ((m : Mode) (p : ℕ) → lane n m p ≡ lane k m p) → ((g : ℕ) → newest_at k g ≤ newest_at n g) → AreRowsListed n → AreQueuesKept n
-kept_same k n kept linked keeps cells next lanes grows used = record {
+    → ((m : Mode) (p : ℕ) → lane n m p ≡ lane k m p) → AreRowsListed n → AreQueuesKept n
+kept_same k n kept linked keeps cells next lanes used = record {
   linked = linked;
   first = subst (λ i. 0 < i) (sym next) kept.first;
   last = subst (λ i. i < 2 ^ 64) (sym next) kept.last;
@@ -168,20 +164,27 @@ kept_same k n kept linked keeps cells next lanes grows used = record {
   lanes = λ m p. subst (IsLane n.cells (IsInLane (links n.rows) m p)) (sym (lanes m p))
       (lane_as k.cells n.cells (IsInLane (links n.rows) m p) (lane k m p) cells
       (lane_map k.cells (IsInLane (links k.rows) m p) (IsInLane (links n.rows) m p) (lane k m p) (moved m p) (kept.lanes m p)));
-  newest = λ s c e part. still_newest k n kept keeps grows s c (sym (cells s) ∙ e) part;
   listed = used;
 }
   where
     moved : (m : Mode) (p s : ℕ) (c : Cell) → get k.cells s ≡ Some c → IsInLane (links k.rows) m p c ↔ IsInLane (links n.rows) m p c
     moved m p s c e = let same = place_same (links k.rows) (links n.rows) keeps m c.row (kept.known s c e) in (λ b. (b.0, same ∙ b.1), λ b. (b.0, sym same ∙ b.1))
 
+-- rows were listed, or not any more, and nothing else
+pub kept_listed : (k : Kept) (new : ListedRows) → AreQueuesKept k → AreRowsListed (record k { listed = new }) → AreQueuesKept (record k { listed = new })
+kept_listed k new kept listed = kept_same k (record k { listed = new }) kept kept.linked (rows_refl (links k.rows)) (λ s. refl) refl (λ m p. same m p) listed
+  where
+    same : (m : Mode) (p : ℕ) → lane (record k { listed = new }) m p ≡ lane k m p
+    same Read p = refl
+    same Write p = refl
+    same Whole p = refl
+
 -- a cell was put behind all others, and its mark in its lane
 pub kept_pushed : (k n : Kept) (slot : ℕ) (c : Cell) → AreQueuesKept k → AreRowsLinked (links n.rows) → KeepsRows (links k.rows) (links n.rows) → Updates k.cells n.cells slot (Some c) → get k.cells slot ≡ None
     → c.number ≡ k.next_number → n.next_number ≡ c.number + 1 → n.next_number < 2 ^ 64 → c.row < length (links n.rows).names
     → lane n c.mode (place_at (links n.rows) c.mode c.row) ≡ lane k c.mode (place_at (links n.rows) c.mode c.row) ++ mark_of slot c ∷ []
-    → ((m : Mode) (p : ℕ) → ¬ ((m ≡ c.mode) × (p ≡ place_at (links n.rows) c.mode c.row)) → lane n m p ≡ lane k m p) → ((g : ℕ) → newest_at k g ≤ newest_at n g)
-    → (is_whole c.mode ≡ false → c.number ≤ newest_at n (granule_at (links n.rows) c.row)) → AreRowsListed n → AreQueuesKept n
-kept_pushed k n slot c kept linked keeps up vacant number next within row changed others grows noted used = record {
+    → ((m : Mode) (p : ℕ) → ¬ ((m ≡ c.mode) × (p ≡ place_at (links n.rows) c.mode c.row)) → lane n m p ≡ lane k m p) → AreRowsListed n → AreQueuesKept n
+kept_pushed k n slot c kept linked keeps up vacant number next within row changed others used = record {
   linked = linked;
   first = omega (arith, next);
   last = within;
@@ -189,7 +192,6 @@ kept_pushed k n slot c kept linked keeps up vacant number next within row change
   alone = λ s t d x e f g. alone s t d x e f g (either_nat s slot) (either_nat t slot);
   known = λ s d e. known s d e (either_nat s slot);
   lanes = λ m p. lanes m p (either_place m c.mode p (place_at (links n.rows) c.mode c.row));
-  newest = λ s d e. newest s d e (either_nat s slot);
   listed = used;
 }
   where
@@ -216,10 +218,6 @@ kept_pushed k n slot c kept linked keeps up vacant number next within row change
     known s d e (inl s') = subst (λ (x : Cell). x.row < length (links n.rows).names) (sym (is_new s d s' e)) row
     known s d e (inr ne) = let lt = kept.known s d (is_old s d ne e) in omega (arith, lt, front_length _ _ keeps.names)
 
-    newest : (s : ℕ) (d : Cell) → get n.cells s ≡ Some d → (s ≡ slot) ⊎ (s ≢ slot) → is_whole d.mode ≡ false → d.number ≤ newest_at n (granule_at (links n.rows) d.row)
-    newest s d e (inl s') = subst (λ (x : Cell). is_whole x.mode ≡ false → x.number ≤ newest_at n (granule_at (links n.rows) x.row)) (sym (is_new s d s' e)) noted
-    newest s d e (inr ne) = still_newest k n kept keeps grows s d (is_old s d ne e)
-
     moved : (m : Mode) (p s : ℕ) (d : Cell) → get k.cells s ≡ Some d → IsInLane (links k.rows) m p d ↔ IsInLane (links n.rows) m p d
     moved m p s d e = let same = place_same (links k.rows) (links n.rows) keeps m d.row (kept.known s d e) in (λ b. (b.0, same ∙ b.1), λ b. (b.0, sym same ∙ b.1))
 
@@ -244,8 +242,8 @@ kept_pushed k n slot c kept linked keeps up vacant number next within row change
 -- a cell was taken out, and its mark out of its lane
 pub kept_removed : (k n : Kept) (slot : ℕ) (c : Cell) → AreQueuesKept k → (links n.rows) ≡ (links k.rows) → get k.cells slot ≡ Some c → Updates k.cells n.cells slot None → n.next_number ≡ k.next_number
     → lane n c.mode (place_at (links k.rows) c.mode c.row) ≡ filter (λ m. not (m.number == c.number)) (lane k c.mode (place_at (links k.rows) c.mode c.row))
-    → ((m : Mode) (p : ℕ) → ¬ ((m ≡ c.mode) × (p ≡ place_at (links k.rows) c.mode c.row)) → lane n m p ≡ lane k m p) → ((g : ℕ) → newest_at n g ≡ newest_at k g) → AreRowsListed n → AreQueuesKept n
-kept_removed k n slot c kept rows there up next changed others same used = record {
+    → ((m : Mode) (p : ℕ) → ¬ ((m ≡ c.mode) × (p ≡ place_at (links k.rows) c.mode c.row)) → lane n m p ≡ lane k m p) → AreRowsListed n → AreQueuesKept n
+kept_removed k n slot c kept rows there up next changed others used = record {
   linked = subst AreRowsLinked (sym rows) kept.linked;
   first = subst (λ i. 0 < i) (sym next) kept.first;
   last = subst (λ i. i < 2 ^ 64) (sym next) kept.last;
@@ -253,8 +251,6 @@ kept_removed k n slot c kept rows there up next changed others same used = recor
   alone = λ s t d x e f g. kept.alone s t d x (old s d e) (old t x f) g;
   known = λ s d e. subst (λ (r : RowLinks). d.row < length r.names) (sym rows) (kept.known s d (old s d e));
   lanes = λ m p. subst (λ (r : RowLinks). IsLane n.cells (IsInLane r m p) (lane n m p)) (sym rows) (lanes m p (either_place m c.mode p (place_at (links k.rows) c.mode c.row)));
-  newest = λ s d e part. subst (λ (r : RowLinks). d.number ≤ newest_at n (granule_at r d.row)) (sym rows)
-      (subst (λ x. d.number ≤ x) (sym (same (granule_at (links k.rows) d.row))) (kept.newest s d (old s d e) part));
   listed = used;
 }
   where
@@ -274,8 +270,8 @@ kept_removed k n slot c kept rows there up next changed others same used = recor
 -- ---- steps of the code
 
 pub none_kept : (k : Kept) → AreRowsLinked (links k.rows) → k.cells.slots ≡ [] → k.rows.table.items ≡ [] → k.wholes ≡ []
-    → k.listed ≡ [] → 0 < k.next_number → k.next_number < 2 ^ 64 → AreQueuesKept k
-none_kept k linked slots table wholes used first last = record {
+    → k.listed.logs.items ≡ [] → k.listed.last.items ≡ [] → 0 < k.next_number → k.next_number < 2 ^ 64 → AreQueuesKept k
+none_kept k linked slots table wholes logs lasts first last = record {
   linked = linked;
   first = first;
   last = last;
@@ -283,13 +279,27 @@ none_kept k linked slots table wholes used first last = record {
   alone = λ s t c d e f g. absurd (none s c e);
   known = λ s c e. absurd (none s c e);
   lanes = λ m p. subst (IsLane k.cells (IsInLane (links k.rows) m p)) (sym (empty m p)) (record { numbered = tt; members = λ x. (λ h. absurd h, λ r. absurd (none x.slot r.0 r.1)) });
-  newest = λ s c e part. absurd (none s c e);
   listed = record {
-    own = λ g row h. absurd (subst (λ l. Has (get_or l g []) row) used h);
-    used = λ row u. absurd (elim u.1 [ inl h ↦ subst (λ l. Has l u.0) (empty Read row) h | inr h ↦ subst (λ l. Has l u.0) (empty Write row) h ]);
+    logged = record {
+      rising = λ e g. subst (EachThen (λ a b. a.number ≤ b.number)) (sym (no_log g)) tt;
+      chained = λ g. subst (EachThen (λ a b. a.row ≡ b.row → a.number ≤ b.before)) (sym (no_log g)) tt;
+      each = λ g. subst (AllIn (λ a. (a.before < a.number) × (a.number ≤ last_listing k.listed a.row))) (sym (no_log g)) tt;
+    };
+    own = λ g row h. absurd (subst (λ l. IsListedRow l row) (no_log g) h);
+    latest = λ e row. omega (arith, no_last row);
+    covered = λ row low top lo to lt. absurd (elim to [
+      | inl e ↦ omega (arith, e, no_last row, lt)
+      | inr u ↦ elim u.1 [ inl h ↦ subst (λ l. Has l u.0) (empty Read row) h | inr h ↦ subst (λ l. Has l u.0) (empty Write row) h ]
+    ]);
   };
 }
   where
+    no_log : (g : ℕ) → listings_at k.listed g ≡ []
+    no_log g = ap (λ l. get_or (map (λ (x : Log). x.listings.items) l) g []) logs
+
+    no_last : (row : ℕ) → last_listing k.listed row ≡ 0
+    no_last row = ap (λ l. get_or l row 0) lasts
+
     none : (s : ℕ) (c : Cell) → get k.cells s ≡ Some c → ⊥
     none s c e = none-some c (subst (λ l. slice_index_or l s None ≡ Some c) slots e)
 

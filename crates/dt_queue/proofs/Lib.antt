@@ -7,6 +7,7 @@ pub mod InOrder
 pub mod RowLists
 pub mod RowsUsed
 pub mod RowSets
+pub mod Listings
 pub mod LanesOfCells
 pub mod CellUses
 pub mod NearCells

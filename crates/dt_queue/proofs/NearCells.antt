@@ -13,13 +13,14 @@ use Rattle.dt_access.specs.declared.access.Mode.TheVariants.{Read, Write, Whole}
 use Rattle.dt_queue.specs.declared.cell.Cell.{Cell}
 use Rattle.dt_queue.specs.declared.mark.Mark.{Mark}
 use Rattle.dt_queue.specs.declared.kept.Kept.{Kept}
-use Rattle.dt_queue.specs.KeptInner.{CellsClash, AreQueuesKept, HasOneNear, IsNearInMode, IsNearMark, IsNearOf, lane, mark_of, newest_at}
+use Rattle.dt_queue.specs.KeptInner.{CellsClash, AreQueuesKept, HasOneNear, IsNearInMode, IsNearMark, IsNearOf, IsTakenWhole, lane, mark_of}
 use Rattle.dt_queue.specs.LanesInner.{AreMarks, HasRisingNumbers, IsBetween, IsLastBetween, IsLastIn, IsNearInRow, is_between, number_or}
-use Rattle.dt_queue.specs.ListedInner.{rows_at}
+use Rattle.dt_queue.specs.ListedInner.{rows_between}
 use Rattle.dt_queue.specs.RowsInner.{granule_at, links}
 use Rattle.dt_queue.proofs.NearMarks.{AreLanesOfRow, either_between, in_between, near_reads, near_write, row_of, same_mark, trichotomy}
+use Rattle.dt_queue.proofs.RowsUsed.{marks_found}
 use Rattle.dt_queue.proofs.CellUses.{InUseOf, IsMarkOf, IsNarrow, apart_lanes, cell_in_row, cell_of, clash_turned, clash_uses, lane_tells, one_use}
-use Rattle.dt_queue.proofs.CellUses.{number_of_mark, on_one_row, one_cell, one_granule, narrow_cell, reads_agree, taker_of, use_clashes, whole_clashes, write_clashes}
+use Rattle.dt_queue.proofs.CellUses.{number_of_mark, on_one_row, one_cell, one_granule, narrow_cell, reads_agree, row_in_granule, taker_of, use_clashes, whole_clashes, write_clashes}
 
 -- ---- a row where no mark is nearest has none
 
@@ -79,14 +80,14 @@ pub near_is_clear : (mode : Mode) (k : Kept) → AreQueuesKept k → (x : Cell) 
 near_is_clear Read k kept x low m c a near = (near.0, near.1, λ j d b used lt le clash. near.2 j used (lt, le))
 near_is_clear Write k kept x low m c a near = (one_use near.1, near.0, λ j d b used lt le clash. clear_row k kept x x.row low m c a near j d b used lt le clash)
 near_is_clear Whole k kept x low m c a near =
-    let r = any_get (λ row. IsNearInRow (lane k Read row) (lane k Write row) low x.number m) (rows_at k.listed (granule_at (links k.rows) x.row)) near in (
-      any_put (λ row. Has (lane k Read row) m ⊎ Has (lane k Write row) m) (rows_at k.listed (granule_at (links k.rows) x.row)) r.0 r.1 (one_use r.2.1),
+    let r = any_get (λ row. IsNearInRow (lane k Read row) (lane k Write row) low x.number m) (rows_between k.listed (granule_at (links k.rows) x.row) low x.number) near in (
+      (r.0, row_in_granule k kept (granule_at (links k.rows) x.row) low x.number r.0 r.1, one_use r.2.1),
       r.2.0,
-      λ j d b used lt le clash. clear r.0 r.2 j d b (any_get (λ row. Has (lane k Read row) j ⊎ Has (lane k Write row) j) (rows_at k.listed (granule_at (links k.rows) x.row)) used) lt le clash,
+      λ j d b used lt le clash. clear r.0 r.2 j d b used lt le clash,
     )
   where
     clear : (row : ℕ) → IsNearInRow (lane k Read row) (lane k Write row) low x.number m → (j : Mark) (d : Cell) → IsMarkOf k j d
-        → (s : ℕ) × Has (rows_at k.listed (granule_at (links k.rows) x.row)) s × (Has (lane k Read s) j ⊎ Has (lane k Write s) j) → m.number < j.number → j.number < x.number → ¬ (CellsClash (links k.rows) c d)
+        → (s : ℕ) × (granule_at (links k.rows) s ≡ granule_at (links k.rows) x.row) × (Has (lane k Read s) j ⊎ Has (lane k Write s) j) → m.number < j.number → j.number < x.number → ¬ (CellsClash (links k.rows) c d)
     clear row near j d b s lt le clash =
         let p = narrow_cell k kept row m c a (one_use near.1) in
         let q = narrow_cell k kept s.0 j d b s.2 in
@@ -112,25 +113,26 @@ near_in_row k kept x row low m c a (inr w) b clear = (b, inr (w, (λ j h e. meet
         let q = lane_tells k kept Write row m c a w in
         clear j d.0 d.1 used e.0 e.1 (write_clashes (links k.rows) c d.0 q.0 (q.1 ∙ sym d.2))
 
-pub clear_is_near : (mode : Mode) (k : Kept) → AreQueuesKept k → (x : Cell) (low : ℕ) (m : Mark) (c : Cell) → IsMarkOf k m c → InUseOf mode k x.row m → IsBetween low x.number m → IsClearAfter mode k x m c
+pub clear_is_near : (mode : Mode) (k : Kept) → AreQueuesKept k → (x : Cell) (low : ℕ) → IsTakenWhole k (granule_at (links k.rows) x.row) low
+    → (m : Mark) (c : Cell) → IsMarkOf k m c → InUseOf mode k x.row m → IsBetween low x.number m → IsClearAfter mode k x m c
     → IsNearOf mode k x.row low x.number m
-clear_is_near Read k kept x low m c a used b clear = (used, b, λ j w e. meets j w e)
+clear_is_near Read k kept x low taken m c a used b clear = (used, b, λ j w e. meets j w e)
   where
     meets : (j : Mark) → Has (lane k Write x.row) j → IsBetween m.number x.number j → ⊥
     meets j w e =
         let d = cell_of k kept Write x.row j w in
         let q = lane_tells k kept Write x.row m c a used in
         clear j d.0 d.1 w e.0 e.1 (write_clashes (links k.rows) c d.0 q.0 (q.1 ∙ sym d.2.1))
-clear_is_near Write k kept x low m c a used b clear = near_in_row k kept x x.row low m c a used b clear
-clear_is_near Whole k kept x low m c a used b clear =
-    let rows = rows_at k.listed (granule_at (links k.rows) x.row) in
-    let r = any_get (λ row. Has (lane k Read row) m ⊎ Has (lane k Write row) m) rows used in
-    any_put (λ row. IsNearInRow (lane k Read row) (lane k Write row) low x.number m) rows r.0 r.1
-    (near_in_row k kept x r.0 low m c a r.2 b (λ j d f u lt le. clear j d f (any_put (λ row. Has (lane k Read row) j ⊎ Has (lane k Write row) j) rows r.0 r.1 u) lt le))
+clear_is_near Write k kept x low taken m c a used b clear = near_in_row k kept x x.row low m c a used b clear
+clear_is_near Whole k kept x low taken m c a used b clear =
+    any_put (λ row. IsNearInRow (lane k Read row) (lane k Write row) low x.number m) (rows_between k.listed (granule_at (links k.rows) x.row) low x.number) used.0
+    (marks_found k kept.listed (granule_at (links k.rows) x.row) used.0 low x.number m taken used.1 used.2 b.0 b.1)
+    (near_in_row k kept x used.0 low m c a used.2 b (λ j d f u lt le. clear j d f (used.0, used.1, u) lt le))
 
 -- where none is near, none is in use
-pub none_in_use : (mode : Mode) (k : Kept) → AreQueuesKept k → (x : Cell) (low : ℕ) → ((m : Mark) → ¬ (IsNearOf mode k x.row low x.number m)) → (m : Mark) → InUseOf mode k x.row m → ¬ (IsBetween low x.number m)
-none_in_use Read k kept x low none m used b = by (last_there low x.number (lane k Write x.row) (kept.lanes Write x.row).numbered)
+pub none_in_use : (mode : Mode) (k : Kept) → AreQueuesKept k → (x : Cell) (low : ℕ) → IsTakenWhole k (granule_at (links k.rows) x.row) low
+    → ((m : Mark) → ¬ (IsNearOf mode k x.row low x.number m)) → (m : Mark) → InUseOf mode k x.row m → ¬ (IsBetween low x.number m)
+none_in_use Read k kept x low taken none m used b = by (last_there low x.number (lane k Write x.row) (kept.lanes Write x.row).numbered)
   where
     by : (o : Option Mark) × IsLastBetween low x.number (lane k Write x.row) o → ⊥
     by (None, l) = l m used b
@@ -138,12 +140,16 @@ none_in_use Read k kept x low none m used b = by (last_there low x.number (lane 
       where
         after : (j : Mark) → j.number ≤ w.number → w.number < j.number → ⊥
         after j le lt = omega (arith, le, lt)
-none_in_use Write k kept x low none m used b = row_empty (lane k Read x.row) (lane k Write x.row) low x.number (row_of _ _ (apart_lanes k kept) x.row) none m b used
-none_in_use Whole k kept x low none m used b =
-    let rows = rows_at k.listed (granule_at (links k.rows) x.row) in
-    let r = any_get (λ row. Has (lane k Read row) m ⊎ Has (lane k Write row) m) rows used in
-    row_empty (lane k Read r.0) (lane k Write r.0) low x.number (row_of _ _ (apart_lanes k kept) r.0)
-    (λ j near. none j (any_put (λ row. IsNearInRow (lane k Read row) (lane k Write row) low x.number j) rows r.0 r.1 near)) m b r.2
+none_in_use Write k kept x low taken none m used b = row_empty (lane k Read x.row) (lane k Write x.row) low x.number (row_of _ _ (apart_lanes k kept) x.row) none m b used
+none_in_use Whole k kept x low taken none m used b =
+    row_empty (lane k Read used.0) (lane k Write used.0) low x.number (row_of _ _ (apart_lanes k kept) used.0)
+    (λ j near. none j (any_put (λ row. IsNearInRow (lane k Read row) (lane k Write row) low x.number j) (rows_between k.listed (granule_at (links k.rows) x.row) low x.number) used.0
+    (marks_found k kept.listed (granule_at (links k.rows) x.row) used.0 low x.number m taken used.1 used.2 b.0 b.1) near)) m b used.2
+
+-- the number of the last that takes the granule, or 0
+pub taken_low : (k : Kept) (g top : ℕ) (o : Option Mark) → IsLastBetween 0 top (lane k Whole g) o → IsTakenWhole k g (number_or o 0)
+taken_low k g top None last = inl refl
+taken_low k g top (Some w) last = inr (w, last.0, refl)
 
 -- ---- the nearest cells before a cell
 
@@ -208,7 +214,7 @@ module _ (k : Kept) (kept : AreQueuesKept k) (x : Cell) (o : Option Mark) (last 
       near_cell Read n = let d = cell_of k kept Write x.row m n.0 in (d.0, d.1)
       near_cell Write n = let d = cell_in_row k kept x.row m (one_use n.1) in (d.0, d.1)
       near_cell Whole n =
-          let r = any_get (λ row. IsNearInRow (lane k Read row) (lane k Write row) (number_or o 0) x.number m) (rows_at k.listed (granule_at (links k.rows) x.row)) n in
+          let r = any_get (λ row. IsNearInRow (lane k Read row) (lane k Write row) (number_or o 0) x.number m) (rows_between k.listed (granule_at (links k.rows) x.row) (number_or o 0) x.number) n in
           let d = cell_in_row k kept r.0 m (one_use r.2.1) in
           (d.0, d.1)
 
@@ -234,7 +240,8 @@ module _ (k : Kept) (kept : AreQueuesKept k) (x : Cell) (o : Option Mark) (last 
       let a : IsMarkOf k m c = record { there = n.1; is = n.2 } in
       elim (clash_uses x.mode k kept x refl m c a n.4 c.mode refl) [
         | inl h ↦ inl h
-        | inr used ↦ inr (clear_is_near x.mode k kept x (number_or o 0) m c a used (later m c a (use_clashes x.mode k kept x refl m c a used).0 n.4 (below c a n.3) n.5, below c a n.3)
+        | inr used ↦ inr (clear_is_near x.mode k kept x (number_or o 0) (taken_low k (granule_at (links k.rows) x.row) x.number o last) m c a used
+            (later m c a (use_clashes x.mode k kept x refl m c a used).0 n.4 (below c a n.3) n.5, below c a n.3)
             (λ j d b u lt le clash. n.5 j.slot d b.there (omega (arith, lt, number_of_mark k m c a, number_of_mark k j d b)) (omega (arith, le, number_of_mark k j d b)) clash (use_clashes x.mode k kept x refl j d b u).1))
       ]
     where
@@ -268,7 +275,8 @@ module _ (k : Kept) (kept : AreQueuesKept k) (x : Cell) (o : Option Mark) (last 
 
   -- where none is, the last that takes the granule as a whole is near
   pub near_taker : AreMarks (IsNearInMode k x (number_or o 0)) [] → AreMarks (IsNearMark k x) (option_to_list o)
-  near_taker marks = by o last (λ m u. none_in_use x.mode k kept x (number_or o 0) (λ j n. (marks.members j).1 n) m u) (λ m n. elim (mode_of_near m n) [ inl h ↦ h | inr g ↦ absurd ((marks.members m).1 g) ])
+  near_taker marks = by o last (λ m u. none_in_use x.mode k kept x (number_or o 0) (taken_low k (granule_at (links k.rows) x.row) x.number o last) (λ j n. (marks.members j).1 n) m u)
+      (λ m n. elim (mode_of_near m n) [ inl h ↦ h | inr g ↦ absurd ((marks.members m).1 g) ])
     where
       by : (o : Option Mark) → IsLastBetween 0 x.number taken o → ((m : Mark) → InUseOf x.mode k x.row m → ¬ (IsBetween (number_or o 0) x.number m)) → ((m : Mark) → IsNearMark k x m → Has taken m)
           → AreMarks (IsNearMark k x) (option_to_list o)
@@ -351,17 +359,3 @@ pub near_or_taker : (k : Kept) → AreQueuesKept k → (x : Cell) (o : Option Ma
     → (w : Option Mark) → AreMarks (IsNearInMode k x (number_or o 0)) (option_to_list w) → AreMarks (IsNearMark k x) (option_to_list (option_or w o))
 near_or_taker k kept x o last None marks = near_taker k kept x o last marks
 near_or_taker k kept x o last (Some w) marks = near_marks k kept x o last (w ∷ []) w (inl refl) marks
-
--- where all that reads or writes rows of its granule was pushed before a number, nothing after the number is near to what takes it whole
-pub none_after : (k : Kept) → AreQueuesKept k → (x : Cell) (low : ℕ) → x.mode ≡ Whole → newest_at k (granule_at (links k.rows) x.row) ≤ low → AreMarks (IsNearInMode k x low) []
-none_after k kept x low is le = record { numbered = tt; members = λ m. (λ h. absurd h, λ near. none m (subst (λ d. IsNearOf d k x.row low x.number m) is near)) }
-  where
-    none : (m : Mark) → IsNearOf Whole k x.row low x.number m → ⊥
-    none m near =
-        let g = granule_at (links k.rows) x.row in
-        let r = any_get (λ r. IsNearInRow (lane k Read r) (lane k Write r) low x.number m) (rows_at k.listed g) near in
-        let c = cell_in_row k kept r.0 m (one_use r.2.1) in
-        let p = narrow_cell k kept r.0 m c.0 c.1 (one_use r.2.1) in
-        let at : granule_at (links k.rows) c.0.row ≡ g = ap (granule_at (links k.rows)) p.1 ∙ (kept.listed.own g r.0 r.1).1 in
-        let noted : c.0.number ≤ newest_at k g = subst (λ h. c.0.number ≤ newest_at k h) at (kept.newest m.slot c.0 c.1.there p.0) in
-        omega (arith, le, noted, r.2.0.0, number_of_mark k m c.0 c.1)

@@ -1,7 +1,7 @@
 -- How cells are numbered anew: a cell and its mark get a lesser number, and no other number lies between. So the order stays,
 -- and the same entries are shown.
 use Rattle.std.proofs.Common.{◌≡◌, ◌≢◌, ◌⊎◌, ℕ, zero, suc, ◌+◌, ◌<◌, ◌≤◌, ◌^◌, Bool, true, false, cond, ◌==◌, List, [], ◌∷◌, map, length, is_some, nat_lt, Option}
-use Rattle.std.proofs.Common.{le_refl, slice_index_or, slice_set, Some, None, refl, ap, ap₂, sym, subst, inl, inr, arith, ◌∙◌}
+use Rattle.std.proofs.Common.{slice_index_or, slice_set, Some, None, refl, ap, ap₂, sym, subst, inl, inr, arith, ◌∙◌}
 use Rattle.std.proofs.lemmas.Option.{none-some, same_Some}
 use Rattle.std.proofs.lemmas.List.Recursion.{is_count_by}
 use Rattle.std.proofs.lemmas.Simd.{map-map}
@@ -13,15 +13,13 @@ use Rattle.dt_access.specs.declared.access.Mode.{Mode}
 use Rattle.dt_queue.specs.declared.cell.Cell.{Cell}
 use Rattle.dt_queue.specs.declared.mark.Mark.{Mark}
 use Rattle.dt_queue.specs.declared.kept.Kept.{Kept}
-use Rattle.dt_queue.specs.KeptInner.{AreQueuesKept, IsInLane, IsLane, entry, in_order, lane, mark_of, newest_at, place_at, put_cell, waiting_of}
+use Rattle.dt_queue.specs.KeptInner.{AreQueuesKept, IsInLane, IsLane, entry, in_order, lane, mark_of, place_at, put_cell, waiting_of}
 use Rattle.dt_queue.specs.LanesInner.{EndsBelow, HasRisingNumbers}
 use Rattle.dt_queue.specs.NumbersInner.{AreGiven, IsBeside, IsFirstBelow, IsFirstFrom, IsGap, ShowsSame, anew, renumbered}
-use Rattle.dt_queue.specs.ListedInner.{rows_at}
-use Rattle.dt_queue.specs.RowsInner.{AreRowsLinked, KeepsRows, RowLinks, granule_at, links}
-use Rattle.dt_access.specs.Clash.{is_whole}
+use Rattle.dt_queue.specs.RowsInner.{AreRowsLinked, RowLinks, links}
 use Rattle.dt_queue.proofs.InOrder.{AreAlone, IsListed, Rise, listed, same_list}
 use Rattle.dt_queue.proofs.LanesOfCells.{either_place, kept_same, rows_refl, same_lanes, same_self}
-use Rattle.dt_queue.proofs.RowsUsed.{rows_same, used_mapped}
+use Rattle.dt_queue.proofs.RowsUsed.{all_the_same, listed_free, listed_same, rows_renumbered}
 use Rattle.dt_queue.proofs.EntriesOfCells.{shown_same}
 
 -- ---- numbers
@@ -203,8 +201,8 @@ gap_in k kept n i gap m p = all_put (IsGap n i) (lane k m p) (λ x h. let r = ((
 module _ (k n : Kept) (slot : ℕ) (c : Cell) (i : ℕ) (kept : AreQueuesKept k) (rows : (links n.rows) ≡ (links k.rows)) (there : get k.cells slot ≡ Some c) (up : Updates k.cells n.cells slot (Some (record c { number = i })))
     (le : i ≤ c.number) (gap : (s : ℕ) (d : Cell) → get k.cells s ≡ Some d → IsBeside c.number i d.number) where
   pub kept_renumbered : n.next_number ≡ k.next_number → 0 < i → lane n c.mode (place_at (links k.rows) c.mode c.row) ≡ map (renumbered c.number i) (lane k c.mode (place_at (links k.rows) c.mode c.row))
-      → ((m : Mode) (p : ℕ) → ¬ ((m ≡ c.mode) × (p ≡ place_at (links k.rows) c.mode c.row)) → lane n m p ≡ lane k m p) → ((g : ℕ) → newest_at n g ≡ newest_at k g) → n.listed ≡ k.listed → AreQueuesKept n
-  kept_renumbered next positive changed others same used = record {
+      → ((m : Mode) (p : ℕ) → ¬ ((m ≡ c.mode) × (p ≡ place_at (links k.rows) c.mode c.row)) → lane n m p ≡ lane k m p) → k.listed.exact ≡ false → n.listed ≡ k.listed → AreQueuesKept n
+  kept_renumbered next positive changed others free used = record {
     linked = subst AreRowsLinked (sym rows) kept.linked;
     first = subst (λ x. 0 < x) (sym next) kept.first;
     last = subst (λ x. x < 2 ^ 64) (sym next) kept.last;
@@ -212,10 +210,7 @@ module _ (k n : Kept) (slot : ℕ) (c : Cell) (i : ℕ) (kept : AreQueuesKept k)
     alone = λ s t d x e f g. alone s t d x e f g (either_nat s slot) (either_nat t slot);
     known = λ s d e. subst (λ (r : RowLinks). d.row < length r.names) (sym rows) (known s d e (either_nat s slot));
     lanes = λ m p. subst (λ (r : RowLinks). IsLane n.cells (IsInLane r m p) (lane n m p)) (sym rows) (lanes m p (either_place m c.mode p (place_at (links k.rows) c.mode c.row)));
-    newest = λ s d e part. subst (λ (r : RowLinks). d.number ≤ newest_at n (granule_at r d.row)) (sym rows)
-        (subst (λ x. d.number ≤ x) (sym (same (granule_at (links k.rows) d.row))) (newest s d e (either_nat s slot) part));
-    listed = rows_same k n kept (subst (KeepsRows (links k.rows)) (sym rows) (rows_refl (links k.rows))) (λ g. ap (λ u. rows_at u g) used)
-        (used_mapped k n (renumbered c.number i) c.mode (place_at (links k.rows) c.mode c.row) changed others);
+    listed = rows_renumbered k n (renumbered c.number i) c.mode (place_at (links k.rows) c.mode c.row) kept free rows used changed others;
   }
     where
       is_new : (s : ℕ) (d : Cell) → s ≡ slot → get n.cells s ≡ Some d → d ≡ record c { number = i }
@@ -227,10 +222,6 @@ module _ (k n : Kept) (slot : ℕ) (c : Cell) (i : ℕ) (kept : AreQueuesKept k)
       counted : (s : ℕ) (d : Cell) → get n.cells s ≡ Some d → (s ≡ slot) ⊎ (s ≢ slot) → (0 < d.number) × (d.number < n.next_number)
       counted s d e (inl s') = let v : d.number ≡ i = ap (λ (x : Cell). x.number) (is_new s d s' e) in (omega (arith, v, positive), omega (arith, v, le, next, (kept.counted slot c there).1))
       counted s d e (inr ne) = let b = kept.counted s d (is_old s d ne e) in (b.0, omega (arith, b.1, next))
-
-      newest : (s : ℕ) (d : Cell) → get n.cells s ≡ Some d → (s ≡ slot) ⊎ (s ≢ slot) → is_whole d.mode ≡ false → d.number ≤ newest_at k (granule_at (links k.rows) d.row)
-      newest s d e (inl s') = subst (λ (x : Cell). is_whole x.mode ≡ false → x.number ≤ newest_at k (granule_at (links k.rows) x.row)) (sym (is_new s d s' e)) (λ part. omega (arith, le, kept.newest slot c there part))
-      newest s d e (inr ne) = kept.newest s d (is_old s d ne e)
 
       apart : (t : ℕ) (x : Cell) → t ≢ slot → get k.cells t ≡ Some x → x.number ≢ i
       apart t x ne e f = elim (gap t x e) [ inl lt ↦ omega (arith, lt, f) | inr ge ↦ ne (kept.alone t slot x c e there (omega (arith, ge, f, le))) ]
@@ -384,10 +375,21 @@ first_found k number slot limit (Some t) kept le f =
 pub reserved : (k : Kept) (cells : Slab Cell) → AreQueuesKept k → cells.slots ≡ k.cells.slots → ShowsSame k (record k { cells = cells })
 reserved k cells kept slots = record {
   kept = kept_same k (record k { cells = cells }) kept kept.linked (rows_refl (links k.rows)) (λ s. ap (λ l. slice_index_or l s None) slots) refl
-      (λ m p. same_lanes (record k { cells = cells }) k (same_self _) (same_self _) refl m p) (λ g. le_refl (newest_at k g)) (record { own = kept.listed.own; used = kept.listed.used });
+      (λ m p. same_lanes (record k { cells = cells }) k (same_self _) (same_self _) refl m p)
+      (listed_same k (record k { cells = cells }) kept.listed (rows_refl (links k.rows)) (all_the_same k (record k { cells = cells }) refl) (omega arith)
+      (λ m p x h. subst (λ l. Has l x) (same_lanes (record k { cells = cells }) k (same_self _) (same_self _) refl m p) h));
   rows = refl;
   shown = shown_same k (record k { cells = cells }) kept (front_refl (links k.rows).names) slots;
 }
 
 pub shows_same : (a b c : Kept) → ShowsSame a b → ShowsSame b c → ShowsSame a c
 shows_same a b c f g = record { kept = g.kept; rows = g.rows ∙ f.rows; shown = g.shown ∙ f.shown }
+
+-- numbers of pushes tell nothing of listings any more
+pub freed : (k : Kept) → AreQueuesKept k → ShowsSame k (record k { listed = record k.listed { exact = false } })
+freed k kept = record {
+  kept = kept_same k (record k { listed = record k.listed { exact = false } }) kept kept.linked (rows_refl (links k.rows)) (λ s. refl) refl
+      (λ m p. same_lanes (record k { listed = record k.listed { exact = false } }) k (same_self _) (same_self _) refl m p) (listed_free k kept.listed);
+  rows = refl;
+  shown = refl;
+}

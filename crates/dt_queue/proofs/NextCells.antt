@@ -11,15 +11,16 @@ use Rattle.dt_access.specs.declared.access.Mode.TheVariants.{Read, Write, Whole}
 use Rattle.dt_queue.specs.declared.cell.Cell.{Cell}
 use Rattle.dt_queue.specs.declared.mark.Mark.{Mark}
 use Rattle.dt_queue.specs.declared.kept.Kept.{Kept}
-use Rattle.dt_queue.specs.KeptInner.{CellsClash, AreQueuesKept, IsNextInMode, IsNextMark, IsNextOfMode, lane, mark_of}
+use Rattle.dt_queue.specs.KeptInner.{CellsClash, AreQueuesKept, IsKeptCell, IsNextInMode, IsNextMark, IsNextOfMode, IsTakenWhole, lane, mark_of}
 use Rattle.dt_queue.specs.LanesInner.{IsBetween, IsFirstBetween, IsNextInRow, number_or}
 use Rattle.dt_queue.specs.NextInner.{AreEachOnce, or_else_one}
-use Rattle.dt_queue.specs.ListedInner.{rows_at}
+use Rattle.dt_queue.specs.ListedInner.{rows_between}
 use Rattle.dt_queue.specs.RowsInner.{granule_at, links}
 use Rattle.dt_queue.proofs.NearMarks.{AreLanesOfRow, next_reads, next_write, row_of, same_mark, trichotomy}
 use Rattle.dt_queue.proofs.FollowerMarks.{first_there, once_of_one}
-use Rattle.dt_queue.proofs.CellUses.{InUseOf, IsMarkOf, IsNarrow, apart_lanes, cell_in_row, cell_of, clash_turned, clash_uses, lane_tells, one_use}
-use Rattle.dt_queue.proofs.CellUses.{number_of_mark, on_one_row, one_cell, one_granule, narrow_cell, reads_agree, taker_of, use_clashes, whole_clashes, write_clashes}
+use Rattle.dt_queue.proofs.RowsUsed.{marks_found}
+use Rattle.dt_queue.proofs.CellUses.{InUseOf, IsMarkOf, IsNarrow, apart_lanes, cell_in_row, cell_of, clash_turned, clash_uses, in_lane, lane_tells, one_use}
+use Rattle.dt_queue.proofs.CellUses.{number_of_mark, on_one_row, one_cell, one_granule, narrow_cell, reads_agree, row_in_granule, taker_of, use_clashes, whole_clashes, write_clashes}
 
 -- ---- a row where no mark is next has none
 
@@ -58,14 +59,14 @@ next_is_clear : (mode : Mode) (k : Kept) → AreQueuesKept k → (x : Cell) (hig
 next_is_clear Read k kept x high m c a near = (near.0, near.1, λ j d b used lt le clash. near.2 j used (lt, le))
 next_is_clear Write k kept x high m c a near = (one_use near.1, near.0, λ j d b used lt le clash. clear_row k kept x x.row high m c a near j d b used lt le clash)
 next_is_clear Whole k kept x high m c a near =
-    let r = any_get (λ row. IsNextInRow (lane k Read row) (lane k Write row) x.number high m) (rows_at k.listed (granule_at (links k.rows) x.row)) near in (
-      any_put (λ row. Has (lane k Read row) m ⊎ Has (lane k Write row) m) (rows_at k.listed (granule_at (links k.rows) x.row)) r.0 r.1 (one_use r.2.1),
+    let r = any_get (λ row. IsNextInRow (lane k Read row) (lane k Write row) x.number high m) (rows_between k.listed (granule_at (links k.rows) x.row) x.number high) near in (
+      (r.0, row_in_granule k kept (granule_at (links k.rows) x.row) x.number high r.0 r.1, one_use r.2.1),
       r.2.0,
-      λ j d b used lt le clash. clear r.0 r.2 j d b (any_get (λ row. Has (lane k Read row) j ⊎ Has (lane k Write row) j) (rows_at k.listed (granule_at (links k.rows) x.row)) used) lt le clash,
+      λ j d b used lt le clash. clear r.0 r.2 j d b used lt le clash,
     )
   where
     clear : (row : ℕ) → IsNextInRow (lane k Read row) (lane k Write row) x.number high m → (j : Mark) (d : Cell) → IsMarkOf k j d
-        → (s : ℕ) × Has (rows_at k.listed (granule_at (links k.rows) x.row)) s × (Has (lane k Read s) j ⊎ Has (lane k Write s) j) → x.number < j.number → j.number < m.number → ¬ (CellsClash (links k.rows) d c)
+        → (s : ℕ) × (granule_at (links k.rows) s ≡ granule_at (links k.rows) x.row) × (Has (lane k Read s) j ⊎ Has (lane k Write s) j) → x.number < j.number → j.number < m.number → ¬ (CellsClash (links k.rows) d c)
     clear row near j d b s lt le clash =
         let p = narrow_cell k kept row m c a (one_use near.1) in
         let q = narrow_cell k kept s.0 j d b s.2 in
@@ -91,25 +92,26 @@ next_in_row k kept x row high m c a (inr w) b clear = (b, inr (w, (λ j h e. mee
         let q = lane_tells k kept Write row m c a w in
         clear j d.0 d.1 used e.0 e.1 (clash_turned (links k.rows) c d.0 (write_clashes (links k.rows) c d.0 q.0 (q.1 ∙ sym d.2)))
 
-clear_is_next : (mode : Mode) (k : Kept) → AreQueuesKept k → (x : Cell) (high : ℕ) (m : Mark) (c : Cell) → IsMarkOf k m c → InUseOf mode k x.row m → IsBetween x.number high m → IsClearBefore mode k x m c
+clear_is_next : (mode : Mode) (k : Kept) → AreQueuesKept k → (x : Cell) → (mode ≡ Whole → IsTakenWhole k (granule_at (links k.rows) x.row) x.number)
+    → (high : ℕ) (m : Mark) (c : Cell) → IsMarkOf k m c → InUseOf mode k x.row m → IsBetween x.number high m → IsClearBefore mode k x m c
     → IsNextOfMode mode k x.row x.number high m
-clear_is_next Read k kept x high m c a used b clear = (used, b, λ j w e. meets j w e)
+clear_is_next Read k kept x taken high m c a used b clear = (used, b, λ j w e. meets j w e)
   where
     meets : (j : Mark) → Has (lane k Write x.row) j → IsBetween x.number m.number j → ⊥
     meets j w e =
         let d = cell_of k kept Write x.row j w in
         let q = lane_tells k kept Write x.row m c a used in
         clear j d.0 d.1 w e.0 e.1 (write_clashes (links k.rows) d.0 c d.2.0 (d.2.1 ∙ sym q.1))
-clear_is_next Write k kept x high m c a used b clear = next_in_row k kept x x.row high m c a used b clear
-clear_is_next Whole k kept x high m c a used b clear =
-    let rows = rows_at k.listed (granule_at (links k.rows) x.row) in
-    let r = any_get (λ row. Has (lane k Read row) m ⊎ Has (lane k Write row) m) rows used in
-    any_put (λ row. IsNextInRow (lane k Read row) (lane k Write row) x.number high m) rows r.0 r.1
-    (next_in_row k kept x r.0 high m c a r.2 b (λ j d f u lt le. clear j d f (any_put (λ row. Has (lane k Read row) j ⊎ Has (lane k Write row) j) rows r.0 r.1 u) lt le))
+clear_is_next Write k kept x taken high m c a used b clear = next_in_row k kept x x.row high m c a used b clear
+clear_is_next Whole k kept x taken high m c a used b clear =
+    any_put (λ row. IsNextInRow (lane k Read row) (lane k Write row) x.number high m) (rows_between k.listed (granule_at (links k.rows) x.row) x.number high) used.0
+    (marks_found k kept.listed (granule_at (links k.rows) x.row) used.0 x.number high m (taken refl) used.1 used.2 b.0 b.1)
+    (next_in_row k kept x used.0 high m c a used.2 b (λ j d f u lt le. clear j d f (used.0, used.1, u) lt le))
 
 -- where none is next, none is in use
-none_in_use : (mode : Mode) (k : Kept) → AreQueuesKept k → (x : Cell) (high : ℕ) → ((m : Mark) → ¬ (IsNextOfMode mode k x.row x.number high m)) → (m : Mark) → InUseOf mode k x.row m → ¬ (IsBetween x.number high m)
-none_in_use Read k kept x high none m used b = by (first_there x.number high (lane k Write x.row) (kept.lanes Write x.row).numbered)
+none_in_use : (mode : Mode) (k : Kept) → AreQueuesKept k → (x : Cell) → (mode ≡ Whole → IsTakenWhole k (granule_at (links k.rows) x.row) x.number) → (high : ℕ)
+    → ((m : Mark) → ¬ (IsNextOfMode mode k x.row x.number high m)) → (m : Mark) → InUseOf mode k x.row m → ¬ (IsBetween x.number high m)
+none_in_use Read k kept x taken high none m used b = by (first_there x.number high (lane k Write x.row) (kept.lanes Write x.row).numbered)
   where
     by : (o : Option Mark) × IsFirstBetween x.number high (lane k Write x.row) o → ⊥
     by (None, l) = l m used b
@@ -117,16 +119,20 @@ none_in_use Read k kept x high none m used b = by (first_there x.number high (la
       where
         before : (j : Mark) → w.number ≤ j.number → j.number < w.number → ⊥
         before j le lt = omega (arith, le, lt)
-none_in_use Write k kept x high none m used b = row_empty (lane k Read x.row) (lane k Write x.row) x.number high (row_of _ _ (apart_lanes k kept) x.row) none m b used
-none_in_use Whole k kept x high none m used b =
-    let rows = rows_at k.listed (granule_at (links k.rows) x.row) in
-    let r = any_get (λ row. Has (lane k Read row) m ⊎ Has (lane k Write row) m) rows used in
-    row_empty (lane k Read r.0) (lane k Write r.0) x.number high (row_of _ _ (apart_lanes k kept) r.0)
-    (λ j near. none j (any_put (λ row. IsNextInRow (lane k Read row) (lane k Write row) x.number high j) rows r.0 r.1 near)) m b r.2
+none_in_use Write k kept x taken high none m used b = row_empty (lane k Read x.row) (lane k Write x.row) x.number high (row_of _ _ (apart_lanes k kept) x.row) none m b used
+none_in_use Whole k kept x taken high none m used b =
+    row_empty (lane k Read used.0) (lane k Write used.0) x.number high (row_of _ _ (apart_lanes k kept) used.0)
+    (λ j near. none j (any_put (λ row. IsNextInRow (lane k Read row) (lane k Write row) x.number high j) (rows_between k.listed (granule_at (links k.rows) x.row) x.number high) used.0
+    (marks_found k kept.listed (granule_at (links k.rows) x.row) used.0 x.number high m (taken refl) used.1 used.2 b.0 b.1) near)) m b used.2
+
+-- a cell that waits to take a granule whole has its number
+taken_here : (k : Kept) → AreQueuesKept k → (x : Cell) → IsKeptCell k x → x.mode ≡ Whole → IsTakenWhole k (granule_at (links k.rows) x.row) x.number
+taken_here k kept x (slot, there) whole =
+    inr (mark_of slot x, in_lane k kept (mark_of slot x) x (record { there = there; is = refl }) Whole (granule_at (links k.rows) x.row) (whole, refl), refl)
 
 -- ---- the nearest cells after a cell; no number reaches the top
 
-module _ (k : Kept) (kept : AreQueuesKept k) (x : Cell) (top : ℕ) (within : k.next_number ≤ top) (o : Option Mark) (first : IsFirstBetween x.number top (lane k Whole (granule_at (links k.rows) x.row)) o) where
+module _ (k : Kept) (kept : AreQueuesKept k) (x : Cell) (waits : IsKeptCell k x) (top : ℕ) (within : k.next_number ≤ top) (o : Option Mark) (first : IsFirstBetween x.number top (lane k Whole (granule_at (links k.rows) x.row)) o) where
   abbrev taken : List Mark
   taken = lane k Whole (granule_at (links k.rows) x.row)
 
@@ -184,7 +190,7 @@ module _ (k : Kept) (kept : AreQueuesKept k) (x : Cell) (top : ℕ) (within : k.
       near_cell Read n = let d = cell_of k kept Write x.row m n.0 in (d.0, d.1)
       near_cell Write n = let d = cell_in_row k kept x.row m (one_use n.1) in (d.0, d.1)
       near_cell Whole n =
-          let r = any_get (λ row. IsNextInRow (lane k Read row) (lane k Write row) x.number (number_or o top) m) (rows_at k.listed (granule_at (links k.rows) x.row)) n in
+          let r = any_get (λ row. IsNextInRow (lane k Read row) (lane k Write row) x.number (number_or o top) m) (rows_between k.listed (granule_at (links k.rows) x.row) x.number (number_or o top)) n in
           let d = cell_in_row k kept r.0 m (one_use r.2.1) in
           (d.0, d.1)
 
@@ -210,7 +216,7 @@ module _ (k : Kept) (kept : AreQueuesKept k) (x : Cell) (top : ℕ) (within : k.
       let a : IsMarkOf k m c = record { there = n.1; is = n.2 } in
       elim (clash_uses x.mode k kept x refl m c a (clash_turned (links k.rows) x c n.4) c.mode refl) [
         | inl h ↦ inl h
-        | inr used ↦ inr (clear_is_next x.mode k kept x (number_or o top) m c a used (above c a n.3, earlier m c a (use_clashes x.mode k kept x refl m c a used).0 n.4 (above c a n.3) n.5)
+        | inr used ↦ inr (clear_is_next x.mode k kept x (taken_here k kept x waits) (number_or o top) m c a used (above c a n.3, earlier m c a (use_clashes x.mode k kept x refl m c a used).0 n.4 (above c a n.3) n.5)
             (λ j d b u lt le clash. n.5 j.slot d b.there (omega (arith, lt, number_of_mark k j d b)) (omega (arith, le, number_of_mark k m c a, number_of_mark k j d b))
             (clash_turned (links k.rows) d x (use_clashes x.mode k kept x refl j d b u).1) clash))
       ]
@@ -239,7 +245,7 @@ module _ (k : Kept) (kept : AreQueuesKept k) (x : Cell) (top : ℕ) (within : k.
 
   -- where none is, the first that takes the granule as a whole is next
   pub next_taker : ((m : Mark) → ¬ (IsNextInMode k x (number_or o top) m)) → (m : Mark) → IsNextMark k x m ↔ (o ≡ Some m)
-  next_taker nothing m = by o first (λ j u. none_in_use x.mode k kept x (number_or o top) nothing j u) (λ j n. elim (mode_of_next j n) [ inl h ↦ h | inr g ↦ absurd (nothing j g) ])
+  next_taker nothing m = by o first (λ j u. none_in_use x.mode k kept x (taken_here k kept x waits) (number_or o top) nothing j u) (λ j n. elim (mode_of_next j n) [ inl h ↦ h | inr g ↦ absurd (nothing j g) ])
     where
       by : (o : Option Mark) → IsFirstBetween x.number top taken o → ((j : Mark) → InUseOf x.mode k x.row j → ¬ (IsBetween x.number (number_or o top) j)) → ((j : Mark) → IsNextMark k x j → Has taken j)
           → IsNextMark k x m ↔ (o ≡ Some m)

@@ -1,21 +1,17 @@
 -- What is nearest in several rows: the marks of all of them, put together and sorted by their numbers.
-use Rattle.std.proofs.Common.{◌≡◌, ◌↔◌, ℕ, zero, suc, ◌<◌, ◌≤◌, Bool, true, false, ◌==◌, List, []}
-use Rattle.std.proofs.Common.{◌∷◌, ◌++◌, length, get_or, take, refl, sym, subst, inl, inr, eqb-true, eq-eqb, arith}
-use Rattle.std.specs.List.{Contains}
+use Rattle.std.proofs.Common.{◌≡◌, ◌↔◌, ℕ, suc, ◌<◌, ◌≤◌, Bool, true, false, ◌==◌, List, []}
+use Rattle.std.proofs.Common.{◌∷◌, ◌++◌, get_or, refl, sym, subst, inl, inr, eqb-true, eq-eqb, arith}
 use Rattle.std.specs.List.Sorted.{IsNonDecreasingBy, IsPermutation}
-use Rattle.std.proofs.lemmas.List.Sorted.{Contains-permutation, IsPermutation-sym}
 use Rattle.dt_lists.specs.Lists.{AnyIn, Distinct, EachThen, Has}
-use Rattle.dt_lists.proofs.Callers.{all_get, all_map, all_put, any_append, any_append_left, any_append_right, any_get, each_append, each_map, has_at, permuted_apart}
+use Rattle.dt_lists.proofs.Callers.{all_get, all_map, all_put, any_append, any_append_left, any_append_right, any_get, each_append, each_map, permuted_apart, permuted_has}
 use Rattle.dt_queue.specs.declared.mark.Mark.{Mark}
 use Rattle.dt_queue.specs.LanesInner.{AddsMarks, AreApart, AreMarks, HasRisingNumbers, IsNearInRow}
-use Rattle.dt_queue.proofs.Marks.{has_index}
 
 -- an item of a list without repeats is none of those before it
-pub fresh_at : (xs : List ℕ) (i : ℕ) → Distinct xs → i < length xs → ¬ (Has (take i xs) (get_or xs i 0))
-fresh_at [] i d lt h = absurd (omega (arith, lt))
-fresh_at (x ∷ xs) zero d lt h = absurd h
-fresh_at (x ∷ xs) (suc i) d lt (inl e) = all_get (λ y. ¬ (x ≡ y)) xs d.0 (get_or xs i 0) (has_at xs i 0 (omega arith)) e
-fresh_at (x ∷ xs) (suc i) d lt (inr h) = fresh_at xs i d.1 (omega arith) h
+pub fresh_next : (done : List ℕ) (x : ℕ) (rest : List ℕ) → Distinct (done ++ x ∷ rest) → ¬ (Has done x)
+fresh_next [] x rest d h = h
+fresh_next (y ∷ done) x rest d (inl e) = all_get (λ z. ¬ (y ≡ z)) (done ++ x ∷ rest) d.0 x (any_append_right (λ z. z ≡ x) done (x ∷ rest) (inl refl)) e
+fresh_next (y ∷ done) x rest d (inr h) = fresh_next done x rest d.1 h
 
 -- the marks of some rows were put together: no number twice
 pub record AreGathered (P : ℕ → Mark → Type 0) (rows : List ℕ) (marks : List Mark) : Type 0 where
@@ -69,14 +65,6 @@ turned m k = by (same_number m k) (same_number k m) refl refl
     by true false e f = absurd (grind (arith, e, f))
     by false true e f = absurd (grind (arith, e, f))
 
-contains_of : (xs : List Mark) (m : Mark) → Has xs m → Contains xs m
-contains_of [] m h = absurd h
-contains_of (x ∷ xs) m (inl e) = (0, omega arith, e)
-contains_of (x ∷ xs) m (inr h) = let r = contains_of xs m h in (suc r.0, omega (arith, r.1), r.2)
-
-has_of : (xs : List Mark) (m : Mark) → Contains xs m → Has xs m
-has_of xs m c = subst (Has xs) c.2 (has_index xs c.0 m c.1)
-
 -- numbers that do not fall and differ rise
 rising : (xs : List Mark) → IsNonDecreasingBy (λ m. m.number) xs → EachThen (λ m k. ¬ (m.number ≡ k.number)) xs → HasRisingNumbers xs
 rising [] s d = tt
@@ -96,8 +84,8 @@ pub sorted_marks : (P : ℕ → Mark → Type 0) (rows : List ℕ) (old new : Li
 sorted_marks P rows old new had moves sorted = record {
   numbered = rising new sorted (permuted_apart (λ (m k : Mark). m.number ≡ k.number) same_number (λ m k. eqb-true m.number k.number) (λ m k. eq-eqb m.number k.number) turned old new moves had.apart);
   members = λ m. (
-    λ h. (had.members m).0 (has_of old m (Contains-permutation new old m (IsPermutation-sym old new moves) (contains_of new m h))),
-    λ p. has_of new m (Contains-permutation old new m moves (contains_of old m ((had.members m).1 p))),
+    λ h. (had.members m).0 ((permuted_has old new moves m).0 h),
+    λ p. (permuted_has old new moves m).1 ((had.members m).1 p),
   );
 }
 

@@ -2,7 +2,7 @@
 -- and it has a mark in the lane of its mode, that of its row, or for the mode Whole that of its granule. `waiting_of` is the
 -- list of entries that is kept so, and `AreQueuesKept` what all queues keep. Read next: `LanesInner`, then `RowsInner`, `ListedInner` and
 -- `WholesInner`.
-use Rattle.std.specs.Prelude.{◌≡◌, ℕ, ◌<◌, ◌≤◌, ◌↔◌, ◌⊎◌, ◌^◌, nat_lt, true, false, List, [], ◌∷◌, map, get_or, length, if◌then◌else◌, None, Some}
+use Rattle.std.specs.Prelude.{◌≡◌, ℕ, ◌<◌, ◌≤◌, ◌↔◌, ◌⊎◌, ◌^◌, nat_lt, true, List, [], ◌∷◌, map, get_or, length, if◌then◌else◌, None, Some}
 use Rattle.slab.specs.Slab.{Slab, Updates, get, entries}
 use Rattle.dt_lists.specs.Lists.{AnyIn, Has}
 use Rattle.dt_access.specs.Clash.{Bytes, is_whole, may_change}
@@ -12,7 +12,7 @@ use Rattle.dt_queue.specs.Queues.{Waiting}
 use Rattle.dt_queue.specs.LanesInner.{HasRisingNumbers, IsFirstIn, IsLastIn, IsNearInRow, IsNextInRow}
 use Rattle.dt_queue.specs.TableInner.{lanes_read, lanes_written}
 use Rattle.dt_queue.specs.RowsInner.{AreRowsLinked, RowLinks, granule_at, links, name_at}
-use Rattle.dt_queue.specs.ListedInner.{rows_at}
+use Rattle.dt_queue.specs.ListedInner.{AreLogged, IsListedBy, IsListedRow, last_listing, listings_at, rows_between}
 use Rattle.dt_queue.specs.declared.cell.Cell.{Cell}
 use Rattle.dt_queue.specs.declared.mark.Mark.{Mark}
 use Rattle.dt_queue.specs.declared.kept.Kept.{Kept}
@@ -60,21 +60,33 @@ pub record IsLane (cells : Slab Cell) (P : Cell → Type 0) (marks : List Mark) 
   pub numbered : HasRisingNumbers marks
   pub members : (m : Mark) → Has marks m ↔ ((c : Cell) × (get cells m.slot ≡ Some c) × P c × (m ≡ mark_of m.slot c))
 
--- something waits to read or write the row
-abbrev pub IsInUse : Kept → ℕ → Type 0
-IsInUse k row = (m : Mark) × (Has (lane k Read row) m ⊎ Has (lane k Write row) m)
+-- the number is that of an entry that waits to take the granule whole, or 0
+abbrev pub IsTakenWhole : Kept → ℕ → ℕ → Type 0
+IsTakenWhole k g low = (low ≡ 0) ⊎ ((m : Mark) × Has (lane k Whole g) m × (m.number ≡ low))
 
--- the greatest number that was noted of what came to read or write a row of a granule
-abbrev pub newest_at : Kept → ℕ → ℕ
-newest_at k g = get_or k.newest.items g 0
+-- and this where numbers tell something of listings; else it is 0
+abbrev pub IsLow : Kept → ℕ → ℕ → Type 0
+IsLow k g low = (low ≡ 0) ⊎ (k.listed.exact ≡ true) × ((m : Mark) × Has (lane k Whole g) m × (m.number ≡ low))
 
--- listed rows are known, and listed of their granules; and all rows in use are listed
+-- the number is that of the last listing of a row, or of something that waits to read or write it
+abbrev pub IsTop : Kept → ℕ → ℕ → Type 0
+IsTop k row top = (top ≡ last_listing k.listed row) ⊎ ((m : Mark) × (Has (lane k Read row) m ⊎ Has (lane k Write row) m) × (m.number ≡ top))
+
+-- listed rows are known, and listed of their granules; listings are no later than the next push; and for each mark of a row, and each
+-- that waits to take the granule whole and came before it, a listing of the row lies between the two, the older ones of which came
+-- before both
 pub record AreRowsListed (k : Kept) : Type 0 where
-  pub own : (g row : ℕ) → Has (rows_at k.listed g) row → (row < length (links k.rows).names) × (granule_at (links k.rows) row ≡ g)
-  pub used : (row : ℕ) → IsInUse k row → Has (rows_at k.listed (granule_at (links k.rows) row)) row
+  pub logged : AreLogged k.listed
+  pub own : (g row : ℕ) → IsListedRow (listings_at k.listed g) row → (row < length (links k.rows).names) × (granule_at (links k.rows) row ≡ g)
+  pub latest : k.listed.exact ≡ true → (row : ℕ) → last_listing k.listed row ≤ k.next_number
+  pub covered : (row low top : ℕ) → IsLow k (granule_at (links k.rows) row) low → IsTop k row top → low < top → IsListedBy k.listed (granule_at (links k.rows) row) row low top
 
--- what all queues keep: a cell has a number that was given, no other has it, and its row is known; its mark is in its lane; its
--- number is noted for its granule, or a greater one, where it reads or writes a row; and the rows in use are listed
+-- and so it is for the mark of the next push, if it reads or writes this row
+abbrev pub IsEntered : Kept → ℕ → Type 0
+IsEntered k row = (low : ℕ) → IsLow k (granule_at (links k.rows) row) low → low < k.next_number → IsListedBy k.listed (granule_at (links k.rows) row) row low k.next_number
+
+-- what all queues keep: a cell has a number that was given, no other has it, and its row is known; its mark is in its lane; and the
+-- rows in use are listed
 pub record AreQueuesKept (k : Kept) : Type 0 where
   pub linked : AreRowsLinked (links k.rows)
   pub first : 0 < k.next_number
@@ -83,8 +95,11 @@ pub record AreQueuesKept (k : Kept) : Type 0 where
   pub alone : (s t : ℕ) (c d : Cell) → get k.cells s ≡ Some c → get k.cells t ≡ Some d → c.number ≡ d.number → s ≡ t
   pub known : (slot : ℕ) (c : Cell) → get k.cells slot ≡ Some c → c.row < length (links k.rows).names
   pub lanes : (mode : Mode) (place : ℕ) → IsLane k.cells (IsInLane (links k.rows) mode place) (lane k mode place)
-  pub newest : (slot : ℕ) (c : Cell) → get k.cells slot ≡ Some c → is_whole c.mode ≡ false → c.number ≤ newest_at k (granule_at (links k.rows) c.row)
   pub listed : AreRowsListed k
+
+-- the cell is one of those that are kept
+abbrev pub IsKeptCell : Kept → Cell → Type 0
+IsKeptCell k x = (slot : ℕ) × (get k.cells slot ≡ Some x)
 
 -- one lane has become another, and all other lanes and all else are as before
 pub record ChangesLaneOf (old : Kept) (mode : Mode) (place : ℕ) (marks : List Mark) (new : Kept) : Type 0 where
@@ -117,7 +132,7 @@ pub record AddsCell (old new : Kept) (slot : ℕ) (row_name : ℕ × Bytes) (mod
 abbrev pub IsNearOf : Mode → Kept → ℕ → ℕ → ℕ → Mark → Type 0
 IsNearOf Read k row low high m = IsLastIn (lane k Write row) low high m
 IsNearOf Write k row low high m = IsNearInRow (lane k Read row) (lane k Write row) low high m
-IsNearOf Whole k row low high m = AnyIn (λ r. IsNearInRow (lane k Read r) (lane k Write r) low high m) (rows_at k.listed (granule_at (links k.rows) row))
+IsNearOf Whole k row low high m = AnyIn (λ r. IsNearInRow (lane k Read r) (lane k Write r) low high m) (rows_between k.listed (granule_at (links k.rows) row) low high)
 
 -- and this for the cell's own mode, row and number
 abbrev pub IsNearInMode : Kept → Cell → ℕ → Mark → Type 0
@@ -127,7 +142,7 @@ IsNearInMode k x low m = IsNearOf x.mode k x.row low x.number m
 abbrev pub IsNextOfMode : Mode → Kept → ℕ → ℕ → ℕ → Mark → Type 0
 IsNextOfMode Read k row low high m = IsFirstIn (lane k Write row) low high m
 IsNextOfMode Write k row low high m = IsNextInRow (lane k Read row) (lane k Write row) low high m
-IsNextOfMode Whole k row low high m = AnyIn (λ r. IsNextInRow (lane k Read r) (lane k Write r) low high m) (rows_at k.listed (granule_at (links k.rows) row))
+IsNextOfMode Whole k row low high m = AnyIn (λ r. IsNextInRow (lane k Read r) (lane k Write r) low high m) (rows_between k.listed (granule_at (links k.rows) row) low high)
 
 -- and this for the cell's own mode, row and number
 abbrev pub IsNextInMode : Kept → Cell → ℕ → Mark → Type 0

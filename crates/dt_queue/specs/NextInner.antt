@@ -5,6 +5,7 @@ use Rattle.std.specs.Prelude.{◌≡◌, ℕ, ◌↔◌, List, [], ◌∷◌, �
 use Rattle.std.specs.List.{filter, flat_map}
 use Rattle.dt_lists.specs.Lists.{EachThen, Has}
 use Rattle.dt_queue.specs.LanesInner.{is_between, number_or}
+use Rattle.dt_queue.specs.ListedInner.{listed_left}
 use Rattle.dt_queue.specs.TableInner.{lanes_read, lanes_written}
 use Rattle.dt_queue.specs.declared.follower.Follower.{Follower}
 use Rattle.dt_queue.specs.declared.mark.Mark.{Mark}
@@ -33,7 +34,7 @@ reads_left n = filter (is_between n.after n.limit) (get_or (lanes_read n.table.n
 
 -- what is left of the rows
 abbrev pub rows_left : NextMarks → List Mark
-rows_left n = reads_left n ++ next_of_rows (lanes_read n.table.now) (lanes_written n.table.now) n.low n.high n.rows.now
+rows_left n = reads_left n ++ next_of_rows (lanes_read n.table.now) (lanes_written n.table.now) n.low n.high (listed_left n.rows)
 
 -- what is left in all
 abbrev pub marks_left : NextMarks → List Mark

@@ -1,6 +1,6 @@
 -- Scaffolding: how the cells are numbered anew where no number is left. One cell after the other, in the order of their
 -- numbers, gets the least number that is not given again yet; so their order stays. Read next: `KeptInner`, for what cells are.
-use Rattle.std.specs.Prelude.{◌≡◌, ℕ, ◌<◌, ◌≤◌, ◌⊎◌, ◌+◌, ◌^◌, ◌==◌, if◌then◌else◌, Option, None, Some}
+use Rattle.std.specs.Prelude.{◌≡◌, ℕ, ◌<◌, ◌≤◌, ◌⊎◌, ◌+◌, ◌^◌, ◌==◌, false, if◌then◌else◌, Option, None, Some}
 use Rattle.slab.specs.Slab.{Slab, Updates, get}
 use Rattle.dt_queue.specs.RowsInner.{links}
 use Rattle.dt_queue.specs.KeptInner.{AreQueuesKept, waiting_of}
@@ -46,11 +46,13 @@ pub record ShowsSame (old new : Kept) : Type 0 where
 abbrev pub AreGiven : Slab Cell → ℕ → Type 0
 AreGiven cells number = (n : ℕ) → 0 < n → n < number → (s : ℕ) × (c : Cell) × (get cells s ≡ Some c) × (c.number ≡ n)
 
--- the cells are being numbered anew: the same entries are kept, and each number below the next one is given
+-- the cells are being numbered anew: the same entries are kept, each number below the next one is given, and the numbers of listings
+-- tell nothing
 pub record IsNumbering (old now : Kept) (number : ℕ) : Type 0 where
   pub same : ShowsSame old now
   pub positive : 0 < number
   pub given : AreGiven now.cells number
+  pub free : now.listed.exact ≡ false
 
 -- of the cells at slots below a slot, a limit is the least number from a number on, and the slot that was found has it
 pub record IsFirstBelow (cells : Slab Cell) (number slot limit : ℕ) (found : Option ℕ) : Type 0 where

@@ -16,7 +16,7 @@ pub fn is_up(flags: &[bool], place: usize) -> bool
 }
 
 /// Keeps a flag for a place. All flags are as they were, also after `NoMemory`.
-pub fn make_flag(flags: &mut Vec<bool>, place: usize) -> Result<(), NoMemory>
+fn make_flag(flags: &mut Vec<bool>, place: usize) -> Result<(), NoMemory>
     ensures known { OnOk result (place < length flags.new.items) }
     ensures same { SameFlags flags.old.items flags.new.items }
 {

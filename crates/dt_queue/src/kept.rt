@@ -1,7 +1,7 @@
-ghost use Rattle.std.specs.Prelude.{◌≡◌, ◌<◌, ◌≤◌, ◌==◌, ◌-◌, ◌^◌, false, [], ◌∷◌, ◌++◌, length, not, nat_lt, option_to_list, ℕ, IsTrue, None, IfOk, OnOk, OnErr};
+ghost use Rattle.std.specs.Prelude.{◌≡◌, ◌<◌, ◌==◌, ◌-◌, ◌^◌, false, [], ◌∷◌, ◌++◌, length, not, option_to_list, IsTrue, None, IfOk, OnOk, OnErr};
 ghost use Rattle.std.specs.List.{filter};
 ghost use Rattle.slab.specs.Slab.{ContainsKey, Updates};
-ghost use Rattle.dt_lists.specs.Lists.{AllIn, Has, IsFront};
+ghost use Rattle.dt_lists.specs.Lists.{AllIn, IsFront};
 ghost use Rattle.dt_queue.specs.LanesInner.{AreMarks};
 ghost use Rattle.dt_queue.specs.NextInner.{AreEachOnce, marks_left};
 
@@ -9,7 +9,6 @@ use crate::cell::Cell;
 use crate::listed::ListedRows;
 use crate::mark::{Mark, Marks};
 use crate::nearest::{near_row, near_rows, near_write, number_or, only};
-use crate::newest::{newest_of, note};
 use crate::next::NextMarks;
 use crate::row::{Way, has_no_read, last_write, push, remove};
 use crate::rows::Rows;
@@ -17,7 +16,6 @@ use crate::wholes::Wholes;
 use dt_access::Mode;
 use dt_text::{Key, NoMemory};
 use slab::Slab;
-use smallvec::SmallVec;
 use std::alloc::Global;
 
 /// All entries that wait, as they are kept: a cell for each at its slot, its row, and a mark in the lane of its mode at the
@@ -28,16 +26,13 @@ pub struct Kept {
     pub rows: Rows,
     pub listed: ListedRows,
     pub wholes: Wholes,
-    /// Of each granule the number of the last entry that came to read or write a row of it, or more.
-    pub newest: Vec<u64>,
     pub next_number: u64,
 }
 
 impl Kept {
     ghost use Rattle.dt_access.specs.Clash.{is_whole};
-    ghost use Rattle.dt_queue.specs.KeptInner.{AddsCell, ChangesLaneOf, AreQueuesKept, AreRowsListed, HasOneNear, IsNearInMode, IsNearMark, IsNextMark, KeepsLanes, lane, newest_at, place_at};
-    ghost use Rattle.dt_queue.specs.ListedInner.{rows_at};
-    ghost use Rattle.dt_queue.specs.RowsInner.{AreRowsLinked, granule_at, links};
+    ghost use Rattle.dt_queue.specs.KeptInner.{AddsCell, AreQueuesKept, ChangesLaneOf, HasOneNear, IsEntered, IsKeptCell, IsNearInMode, IsNearMark, IsNextMark, IsTakenWhole, KeepsLanes, lane, place_at};
+    ghost use Rattle.dt_queue.specs.RowsInner.{granule_at, links};
 
     /// No entry waits. Takes no memory.
     pub fn new(alloc: Global) -> Self
@@ -49,7 +44,6 @@ impl Kept {
             rows: Rows::new(alloc),
             listed: ListedRows::new(alloc),
             wholes: Wholes::new(alloc),
-            newest: Vec::new(alloc),
             next_number: 1,
         }
     }
@@ -152,7 +146,7 @@ impl Kept {
     /// The marks of the followers of an entry, one after the other.
     pub fn next(&self, cell: &Cell) -> NextMarks<'_>
         requires kept { AreQueuesKept self.now }
-        requires row_in { cell.now.row < length self.now.rows.names.keys }
+        requires there { IsKeptCell self.now cell.now }
         ensures marks { AreEachOnce (IsNextMark self.now cell.now) (marks_left result) }
         ensures table { result.table.now ≡ self.now.rows.table.items }
     {
@@ -164,46 +158,49 @@ impl Kept {
             Mode::Read => NextMarks::of_read(table, cell.row, cell.number, high, whole),
             Mode::Write => NextMarks::of_write(table, cell.row, cell.number, high, whole),
             Mode::Whole => {
-                let rows = self.listed.of_granule(granule);
+                let rows = self.listed.between(granule, cell.number, high);
                 NextMarks::of_rows(table, rows, cell.number, high, whole)
             }
         }
     }
 
-    /// Before something waits for a row in this mode: lists the row, or, where its granule is to be taken whole, sees to it that just
-    /// those of its rows are listed in which something waits. So the rows that were listed in vain are looked at once at most.
+    /// Before something waits for a row in this mode: lists the row, or, where its granule is to be taken whole, tidies the log of the
+    /// granule, if that pays.
     fn enter(&mut self, alloc: Global, row: usize, mode: Mode) -> Result<(), NoMemory>
-        requires linked { AreRowsLinked (links self.old.rows) }
-        requires listed { AreRowsListed self.old }
+        requires kept { AreQueuesKept self.old }
         requires row_in { row < length self.old.rows.names.keys }
-        ensures listed { AreRowsListed self.new }
-        ensures entered { OnOk result (is_whole mode ≡ false → Has (rows_at self.new.listed (granule_at (links self.new.rows) row)) row) }
-        ensures noted { OnOk result (is_whole mode ≡ false → self.old.next_number ≤ newest_at self.new (granule_at (links self.old.rows) row)) }
-        ensures grows { (g : ℕ) → newest_at self.old g ≤ newest_at self.new g }
-        ensures same { self.new ≡ record self.old { listed = self.new.listed; newest = self.new.newest } }
+        ensures kept { AreQueuesKept self.new }
+        ensures entered { OnOk result (is_whole mode ≡ false → IsEntered self.new row) }
+        ensures same { self.new ≡ record self.old { listed = self.new.listed } }
     {
         let granule = self.rows.granule_of(row);
         match mode {
             Mode::Read | Mode::Write => {
-                note(&mut self.newest, granule, self.next_number)?;
-                self.listed.add(alloc, granule, row)
+                let whole = self.wholes.last_between(granule, 0, u64::MAX);
+                self.listed
+                    .add(alloc, granule, row, self.next_number, number_or(whole, 0))
             }
             Mode::Whole => {
-                let whole = self.wholes.last_between(granule, 0, u64::MAX);
-                if self.has_after(granule, number_or(whole, 0)) {
-                    self.listed.tidy(granule, self.rows.table.as_slice());
-                }
+                self.tidy(granule);
                 Ok(())
             }
         }
     }
 
-    /// Whether something may wait to read or write a row of a granule that was pushed after a number. So what was pushed before an
-    /// entry that takes the granule whole is not looked at for the next one that does.
-    fn has_after(&self, granule: usize, number: u64) -> bool
-        ensures { result ≡ nat_lt number (newest_at self.now granule) }
+    /// Tidies the log of a granule before an entry is pushed that takes it whole, where nothing waits to do so, or where the log has
+    /// doubled. In the first case the entry looks at all that is listed of the granule, and each listing that stays gives it a
+    /// neighbour. In the second case half of the listings came since the log was tidied last, or more. So tidying costs, in all, a
+    /// few steps for each neighbour that is given and for each listing that a push made. Takes no memory.
+    fn tidy(&mut self, granule: usize)
+        requires { AreQueuesKept self.old }
+        ensures kept { AreQueuesKept self.new }
+        ensures same { self.new ≡ record self.old { listed = self.new.listed } }
     {
-        number < newest_of(self.newest.as_slice(), granule)
+        let first = self.wholes.first_between(granule, 0, u64::MAX);
+        if first.is_none() || self.listed.has_doubled(granule) {
+            let table = self.rows.table.as_slice();
+            self.listed.tidy(granule, number_or(first, u64::MAX), table);
+        }
     }
 
     /// Adds a mark at the back of the lane of its mode and row; after `NoMemory` all lanes are as before.
@@ -219,7 +216,6 @@ impl Kept {
         requires last { AllIn (λ m. m.number < mark.number) (lane self.old mode (place_at (links self.old.rows) mode row)) }
         ensures added { OnOk result (ChangesLaneOf self.old mode (place_at (links self.old.rows) mode row) (lane self.old mode (place_at (links self.old.rows) mode row) ++ mark ∷ []) self.new) }
         ensures same { OnErr result (KeepsLanes self.old self.new) }
-        ensures newest { (g : ℕ) → newest_at self.new g ≡ newest_at self.old g }
     {
         match mode {
             Mode::Read => push(alloc, &mut self.rows.table, row, Way::Read, mark),
@@ -231,8 +227,7 @@ impl Kept {
     /// Takes a mark out of the lane of its mode and row. Takes no memory.
     fn remove_mark(&mut self, row: usize, mode: Mode, number: u64)
         requires { row < length self.old.rows.table.items }
-        ensures change { ChangesLaneOf self.old mode (place_at (links self.old.rows) mode row) (filter (λ m. not (m.number == number)) (lane self.old mode (place_at (links self.old.rows) mode row))) self.new }
-        ensures newest { (g : ℕ) → newest_at self.new g ≡ newest_at self.old g }
+        ensures { ChangesLaneOf self.old mode (place_at (links self.old.rows) mode row) (filter (λ m. not (m.number == number)) (lane self.old mode (place_at (links self.old.rows) mode row))) self.new }
     {
         match mode {
             Mode::Read => remove(&mut self.rows.table, row, Way::Read, number),
@@ -241,10 +236,12 @@ impl Kept {
         }
     }
 
-    /// Of the marks of reads and writes above a number those of neighbours of an entry.
+    /// Of the marks of reads and writes above a number those of neighbours of an entry. The number is that of an entry that waits to
+    /// take the granule whole, or 0.
     fn near_in_rows(&self, alloc: Global, cell: &Cell, low: u64) -> Result<Marks, NoMemory>
         requires kept { AreQueuesKept self.now }
         requires row_in { cell.now.row < length self.now.rows.names.keys }
+        requires taken { IsTakenWhole self.now (granule_at (links self.now.rows) cell.now.row) low }
         ensures { IfOk result (λ marks. AreMarks (IsNearInMode self.now cell.now low) marks.items) }
     {
         let table = self.rows.table.as_slice();
@@ -253,10 +250,7 @@ impl Kept {
             Mode::Write => near_row(alloc, table, cell.row, low, cell.number),
             Mode::Whole => {
                 let granule = self.rows.granule_of(cell.row);
-                if !self.has_after(granule, low) {
-                    return Ok(SmallVec::new(alloc));
-                }
-                let rows = self.listed.of_granule(granule);
+                let rows = self.listed.between(granule, low, cell.number);
                 near_rows(alloc, table, rows, low, cell.number)
             }
         }

@@ -1,8 +1,10 @@
 ghost use Rattle.std.specs.Prelude.{◌≡◌, ◌++◌, [], get_or, option_to_list, IfOk, OnOk};
 ghost use Rattle.dt_lists.specs.Lists.{AnyIn, Distinct};
 ghost use Rattle.dt_queue.specs.LanesInner.{AddsMarks, AreApart, AreMarks, HasRisingNumbers, IsLastIn, IsNearInRow, number_or};
+ghost use Rattle.dt_queue.specs.ListedInner.{listed_left};
 ghost use Rattle.dt_queue.specs.TableInner.{lanes_read, lanes_written};
 
+use crate::listing::ListedBetween;
 use crate::mark::{Mark, Marks};
 use crate::row::{Row, add_reads, last_write};
 use dt_text::NoMemory;
@@ -93,17 +95,17 @@ pub fn near_row(
 pub fn near_rows(
     alloc: Global,
     table: &[Row],
-    rows: &[usize],
+    mut rows: ListedBetween<'_>,
     low: u64,
     high: u64,
 ) -> Result<Marks, NoMemory>
     requires apart { AreApart (lanes_read table.now) (lanes_written table.now) }
-    requires once { Distinct rows.now }
-    ensures { IfOk result (λ marks. AreMarks (λ m. AnyIn (λ row. IsNearInRow (get_or (lanes_read table.now) row []) (get_or (lanes_written table.now) row []) low high m) rows.now) marks.items) }
+    requires once { Distinct (listed_left rows) }
+    ensures { IfOk result (λ marks. AreMarks (λ m. AnyIn (λ row. IsNearInRow (get_or (lanes_read table.now) row []) (get_or (lanes_written table.now) row []) low high m) (listed_left rows.entry)) marks.items) }
 {
     let mut marks = SmallVec::new(alloc);
-    for row in rows {
-        add_row(table, *row, low, high, &mut marks)?;
+    while let Some(row) = rows.next() {
+        add_row(table, row, low, high, &mut marks)?;
     }
     marks.as_mut_slice().sort_by_key(alloc, |mark| mark.number)?;
     Ok(marks)

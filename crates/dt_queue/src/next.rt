@@ -1,7 +1,9 @@
 ghost use Rattle.std.specs.Prelude.{◌≡◌, ◌++◌, [], ◌∷◌, get_or, option_to_list, MatchOption, None};
 ghost use Rattle.dt_queue.specs.LanesInner.{AreApart, HasRisingNumbers};
+ghost use Rattle.dt_queue.specs.ListedInner.{listed_left};
 ghost use Rattle.dt_queue.specs.TableInner.{lanes_read, lanes_written};
 
+use crate::listing::ListedBetween;
 use crate::mark::Mark;
 use crate::nearest::number_or;
 use crate::row::{Row, Way, first_between};
@@ -12,7 +14,7 @@ use crate::row::{Row, Way, first_between};
 pub struct NextMarks<'a> {
     pub table: &'a [Row],
     /// The rows that are still to be searched, for what lies between two numbers.
-    pub rows: &'a [usize],
+    pub rows: ListedBetween<'a>,
     pub low: u64,
     pub high: u64,
     /// The row that the search is in: what waits to read it with a number between these two is still to be given.
@@ -34,7 +36,7 @@ impl<'a> NextMarks<'a> {
     {
         NextMarks {
             table,
-            rows: &[],
+            rows: ListedBetween::none(),
             low,
             high,
             row,
@@ -53,7 +55,7 @@ impl<'a> NextMarks<'a> {
         let write = first_between(table, row, Way::Write, low, high);
         NextMarks {
             table,
-            rows: &[],
+            rows: ListedBetween::none(),
             low,
             high,
             row,
@@ -66,12 +68,12 @@ impl<'a> NextMarks<'a> {
     /// For an entry that takes a granule whole: those of all of these rows, or the other one.
     pub fn of_rows(
         table: &'a [Row],
-        rows: &'a [usize],
+        rows: ListedBetween<'a>,
         low: u64,
         high: u64,
         other: Option<Mark>,
     ) -> Self
-        ensures marks { marks_left result ≡ or_else_one (next_of_rows (lanes_read table.now) (lanes_written table.now) low high rows.now) other }
+        ensures marks { marks_left result ≡ or_else_one (next_of_rows (lanes_read table.now) (lanes_written table.now) low high (listed_left rows.entry)) other }
         ensures table { result.table.now ≡ table.now }
     {
         NextMarks {
@@ -111,9 +113,8 @@ impl<'a> NextMarks<'a> {
             self.after = read.number;
             return Some(read);
         }
-        while let Some((row, rest)) = self.rows.split_first() {
-            self.rows = rest;
-            let next = self.enter(*row);
+        while let Some(row) = self.rows.next() {
+            let next = self.enter(row);
             if next.is_some() {
                 return next;
             }

@@ -1,4 +1,4 @@
-ghost use Rattle.std.specs.Prelude.{◌<◌, ◌≤◌, ◌+◌, ◌-◌, ◌^◌, ◌≡◌, ℕ, Some, length, map, OnOk};
+ghost use Rattle.std.specs.Prelude.{◌<◌, ◌≤◌, ◌+◌, ◌-◌, ◌^◌, ◌≡◌, false, Some, length, map, OnOk};
 ghost use Rattle.dt_lists.specs.Lists.{AllIn};
 ghost use Rattle.dt_queue.specs.NumbersInner.{IsFirstFrom, IsGap, IsNumberAt, Renumbers, ShowsSame, renumbered};
 
@@ -8,7 +8,7 @@ use dt_access::Mode;
 use dt_text::NoMemory;
 
 impl Kept {
-    ghost use Rattle.dt_queue.specs.KeptInner.{AreQueuesKept, ChangesLaneOf, lane, newest_at, place_at, waiting_of};
+    ghost use Rattle.dt_queue.specs.KeptInner.{AreQueuesKept, ChangesLaneOf, lane, place_at, waiting_of};
     ghost use Rattle.dt_queue.specs.RowsInner.{links};
 
     /// Sees to it that a number is left. Where none is, all entries are numbered anew, in the order of their pushes; so a push
@@ -28,13 +28,15 @@ impl Kept {
     }
 
     /// Numbers all entries anew from 1 on, in the order of their pushes: the next in order gets the next number, until all have
-    /// got one. It looks at all entries for each, which is little beside 2^64 pushes. Takes no memory.
+    /// got one. It looks at all entries for each, which is little beside 2^64 pushes. From then on it is not known any more between
+    /// which pushes a row was listed. Takes no memory.
     fn number_anew(&mut self)
         requires kept { AreQueuesKept self.old }
         requires few { length (waiting_of self.old) < 2 ^ 64 - 2 }
         ensures same { ShowsSame self.old self.new }
         ensures left { self.new.next_number < 2 ^ 64 - 1 }
     {
+        self.listed.forget_numbers();
         let mut number = 1;
         while let Some(slot) = self.first_from(number) {
             self.renumber(slot, number);
@@ -74,10 +76,12 @@ impl Kept {
     /// Gives the entry at a slot a number, where it has the least from this number on. Takes no memory.
     fn renumber(&mut self, slot: usize, number: u64)
         requires kept { AreQueuesKept self.old }
+        requires free { self.old.listed.exact ≡ false }
         requires positive { 0 < number }
         requires first { IsFirstFrom self.old.cells number (Some slot) }
         ensures same { ShowsSame self.old self.new }
         ensures renumbers { Renumbers self.old.cells self.new.cells slot number }
+        ensures listed { self.new.listed ≡ self.old.listed }
     {
         let cell = self.cells[slot];
         self.renumber_mark(cell.row, cell.mode, cell.number, number);
@@ -90,8 +94,7 @@ impl Kept {
         requires positive { 0 < new }
         requires lesser { new ≤ number }
         requires gap { AllIn (IsGap number new) (lane self.old mode (place_at (links self.old.rows) mode row)) }
-        ensures change { ChangesLaneOf self.old mode (place_at (links self.old.rows) mode row) (map (renumbered number new) (lane self.old mode (place_at (links self.old.rows) mode row))) self.new }
-        ensures newest { (g : ℕ) → newest_at self.new g ≡ newest_at self.old g }
+        ensures { ChangesLaneOf self.old mode (place_at (links self.old.rows) mode row) (map (renumbered number new) (lane self.old mode (place_at (links self.old.rows) mode row))) self.new }
     {
         match mode {
             Mode::Read => renumber(&mut self.rows.table, row, Way::Read, number, new),

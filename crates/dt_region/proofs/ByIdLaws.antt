@@ -1,13 +1,13 @@
 -- The places of entries by their ids: what stands at the place of an id is what a look-up finds, and an entry more, whose id is new,
 -- has the last place.
-use Rattle.std.proofs.Common.{◌≡◌, ◌≢◌, ◌<◌, ◌⊎◌, ℕ, zero, suc, true, false, cond, List, [], ◌∷◌, ◌++◌, length, map, Option, Some, None}
+use Rattle.std.proofs.Common.{◌≡◌, ◌≢◌, ◌<◌, ◌⊎◌, ℕ, suc, true, false, cond, List, [], ◌∷◌, ◌++◌, length, map, Option, Some, None}
 use Rattle.std.proofs.Common.{get_or, refl, sym, ap, subst, ◌∙◌, inl, inr, arith}
 use Rattle.std.specs.Option.{option_map}
 use Rattle.std.specs.Map.{lookup}
 use Rattle.dt_lists.specs.Lists.{Has}
 use Rattle.dt_access.specs.Ids.{same_id}
 use Rattle.dt_access.specs.declared.TxnId.{TxnId}
-use Rattle.dt_access.proofs.Callers.{either_id, id_of_test, test_of_id, test_of_other}
+use Rattle.dt_access.proofs.Callers.{either_id, test_of_id, test_of_other}
 use Rattle.dt_index.specs.Index.{IdIndexView, place_of}
 use Rattle.dt_region.specs.ByIdInner.{LeadsTo, entry_place}
 

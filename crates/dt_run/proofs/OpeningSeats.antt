@@ -68,10 +68,13 @@ module _ {cluster : Cluster} (ok : IsValidCluster cluster) {workload : Workload}
 
   few : (region : ℕ) → length (opened region).sessions.seats < 2 ^ 32
   few region =
-      let a : length (map idle_seat (sessions_at region workload.sessions)) ≡ length (sessions_at region workload.sessions) = length-map (sessions_at region workload.sessions) idle_seat in
-      let b : length (sessions_at region workload.sessions) ≡ session_count_at region workload.sessions = many_at region workload.sessions ∙ length-filter (λ (s : Session). eqb s.region region) workload.sessions in
+      let a : length (map idle_seat seated) ≡ length seated = length-map seated idle_seat in
+      let b : length seated ≡ session_count_at region workload.sessions = many_at region workload.sessions ∙ length-filter (λ (s : Session). eqb s.region region) workload.sessions in
       let c : session_count_at region workload.sessions ≤ 64 = fits.few_sessions region in
       omega (arith, a, b, c)
+    where
+      seated : List Session
+      seated = sessions_at region workload.sessions
 
   knows : (region other : ℕ) → KnowsNoMore (opening_world cluster workload) (opened region) other
   knows region other = record {

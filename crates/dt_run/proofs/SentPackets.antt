@@ -3,6 +3,7 @@ use Rattle.std.proofs.Common.{◌≡◌, ◌≢◌, ◌<◌, ◌≤◌, ◌+◌,
 use Rattle.std.proofs.Common.{get_or, set, min, slice_get, Some, option_map, eqb, refl, sym, ap, subst, ◌∙◌, inl, inr, arith, eq-eqb}
 use Rattle.std.specs.Prelude.{filter_map, slice_index}
 use Rattle.std.proofs.lemmas.List.{length-map, length-take, map-append}
+use Rattle.std.proofs.Math.Seq.{take-nil}
 use Rattle.dt_lists.specs.Lists.{AllIn, EachThen, Has}
 use Rattle.dt_lists.proofs.Callers.{all_get, all_image, all_map, all_put, any_append_right, has_filter, has_map, place_of}
 use Rattle.dt_access.specs.declared.Part.{Part}
@@ -48,11 +49,7 @@ take_drop m zero xs = whole m xs ∙ ap (λ k. take k xs) (let z : length (take 
     whole zero ys = refl
     whole (suc n) [] = refl
     whole (suc n) (y ∷ ys) = ap (λ l. y ∷ l) (whole n ys)
-take_drop m (suc k) [] = nothing m ∙ sym (ap (drop (suc k)) (nothing (suc k + length (take m (drop (suc k) [])))))
-  where
-    nothing : {B : Type 0} (n : ℕ) → ◌≡◌ {A = List B} (take n []) []
-    nothing zero = refl
-    nothing (suc n) = refl
+take_drop m (suc k) [] = take-nil m ∙ sym (ap (drop (suc k)) (take-nil (suc k + length (take m (drop (suc k) [])))))
 take_drop m (suc k) (x ∷ xs) =
     take_drop m k xs ∙ ap (λ c. drop (suc k) (take c (x ∷ xs))) (let z : suc (k + length (take m (drop k xs))) ≡ suc k + length (take m (drop k xs)) = omega arith in z)
 

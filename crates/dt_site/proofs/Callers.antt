@@ -1,4 +1,5 @@
 -- What the proofs of crates above may cite of this crate; they cite nothing else of its proofs.
+pub use Rattle.dt_site.proofs.Results.{on_ok}
 pub use Rattle.dt_site.proofs.Lists.{attempt_at, attempts_have}
 pub use Rattle.dt_site.proofs.ListLengths.{HasShortLists, legal_short}
 pub use Rattle.dt_site.proofs.SitesInWorlds.{Steps, after_more, held_in_log, received_stay, a_region, inv, many_here, order, others_stand, own_of, outcome_here, own_log, run_more, txns_stay}

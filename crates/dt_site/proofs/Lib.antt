@@ -1,3 +1,4 @@
+pub mod Results
 pub mod Lists
 pub mod ListLengths
 pub mod SitesInWorlds

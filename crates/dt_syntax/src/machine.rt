@@ -1,6 +1,6 @@
 //! The machine that says at each token whether some procedures begin with the tokens so far.
 
-ghost use Rattle.std.specs.Prelude.{◌≡◌, ◌-◌, ◌++◌, reverse, IfOk, OnOk};
+ghost use Rattle.std.specs.Prelude.{◌≡◌, ◌++◌, reverse, IfOk, OnOk};
 ghost use Rattle.dt_syntax.specs.MachineInner as machine;
 
 use crate::operator::Op;

@@ -1,8 +1,10 @@
-//! The ends of a link: packets that are known by their stamps.
+//! The ends of a link: packets that are known by their stamps, and what comes of steps at the ends.
 use dt_packet::{Inlet, Outlet, Packet};
+use dt_test_texts::wrong;
 use dt_text::{NoMemory, put_u64};
 use dt_txn::{Entries, Txns};
 use std::alloc::Global;
+use std::test::Fail;
 
 /// A packet of this stamp, with nothing in it.
 pub fn stamped(alloc: Global, stamp: u64) -> Packet {
@@ -45,5 +47,22 @@ pub fn take<I: Inlet>(alloc: Global, out: &mut Vec<u8>, inlet: &mut I) -> Result
     };
     put_u64(alloc, out, packet.stamp)?;
     out.push(b',')?;
+    Ok(())
+}
+
+/// Fails at the first row of which something else comes. A row has the places of a link, steps, and what comes of them; `played`
+/// makes the steps on such a link.
+pub fn check_steps<F: Fn(Global, u32, &[u8]) -> Result<Vec<u8>, Fail>>(
+    alloc: Global,
+    rows: &[(u32, &[u8], &[u8])],
+    played: &F,
+) -> Result<(), Fail>
+    requires { F.IsAlwaysCallable played.now }
+{
+    for (row, (places, steps, want)) in rows.iter().enumerate() {
+        if played(alloc, *places, *steps)?.as_slice() != *want {
+            return Err(wrong(row));
+        }
+    }
     Ok(())
 }

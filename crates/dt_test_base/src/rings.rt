@@ -1,7 +1,7 @@
 //! Rings: what is put at one end, and what is taken at the other.
 ghost use Rattle.dt_ring.specs.Rings.{AreEnds, SameIn, SameOut};
 
-use crate::ends::{put, stamped, take};
+use crate::ends::{check_steps, put, stamped, take};
 use dt_packet::{Inlet, Outlet};
 use dt_ring::{RingIn, RingOut, beside, ring};
 use dt_test_texts::wrong;
@@ -62,21 +62,11 @@ const STEPS: &[(u32, &[u8], &[u8])] = &[
     (0, b"+|+-", b"0!2!-"),
 ];
 
-/// Fails at the first steps of which something else comes.
-fn check_steps(alloc: Global) -> Result<(), Fail> {
-    for (row, (places, steps, want)) in STEPS.iter().enumerate() {
-        if played(alloc, *places, steps)?.as_slice() != *want {
-            return Err(wrong(row));
-        }
-    }
-    Ok(())
-}
-
 #[test]
 fn what_is_put_is_taken_in_order_once_the_ends_were_beside_each_other(
     rt: HostRuntime,
 ) -> Result<(), Fail> {
-    check_steps(rt.alloc())
+    check_steps(rt.alloc(), STEPS, &played)
 }
 
 /// Puts n packets with rising stamps, and counts how many came back.

@@ -1,5 +1,5 @@
 //! Shelves: what is put on them, and what is taken from them.
-use crate::ends::{put, stamped, take};
+use crate::ends::{check_steps, put, stamped, take};
 use dt_packet::{Inlet, Outlet, Shelf};
 use dt_test_texts::wrong;
 use std::alloc::Global;
@@ -28,21 +28,11 @@ const STEPS: &[(u32, &[u8], &[u8])] = &[
     (0, b"+-", b"0!-"),
 ];
 
-/// Fails at the first steps of which something else comes.
-fn check_steps(alloc: Global) -> Result<(), Fail> {
-    for (row, (places, steps, want)) in STEPS.iter().enumerate() {
-        if played(alloc, *places, steps)?.as_slice() != *want {
-            return Err(wrong(row));
-        }
-    }
-    Ok(())
-}
-
 #[test]
 fn what_is_put_is_taken_in_order_and_no_more_than_there_are_places(
     rt: HostRuntime,
 ) -> Result<(), Fail> {
-    check_steps(rt.alloc())
+    check_steps(rt.alloc(), STEPS, &played)
 }
 
 /// The same value, which may be moved to a thread.

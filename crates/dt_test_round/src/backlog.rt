@@ -99,7 +99,7 @@ struct Patient {
 }
 
 /// How often a worker looks.
-const LOOKS: u32 = 10000;
+const LOOKS: u32 = 1000;
 
 impl Gate for Patient {
     fn between(&self, id: TxnId) {

@@ -1,7 +1,7 @@
 -- Bytes that are compared by words: fourteen bytes are the same where the number of the first eight, that of the four after them
 -- and that of the last two are.
 use Rattle.std.proofs.Common.{arith, ◌≡◌, ◌<◌, ◌+◌, ℕ, zero, suc, List, [], ◌∷◌, ◌++◌, ap, drop, drop-drop, get_or, length, refl, subst, sym, take, ◌∙◌}
-use Rattle.std.specs.Int.{from_le_bytes, to_le_bytes, w16, w32, w64}
+use Rattle.std.specs.Int.{from_le_bytes, w16, w32, w64}
 use Rattle.std.proofs.lemmas.Nat.{le_bytes_2, le_bytes_4, le_bytes_8}
 use Rattle.std.proofs.lemmas.List.{get_or-drop, length-drop, length-take-le, take-append-drop}
 

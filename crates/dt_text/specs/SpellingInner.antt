@@ -1,6 +1,6 @@
 -- Scaffolding: how the bytes of a key, a name or a text are kept. A few lie in the spelling itself, with their number; more lie
 -- elsewhere, in common with its copies. Read next: Texts.antt, for what the bytes may be.
-use Rattle.std.specs.Prelude.{ℕ, ◌≤◌, List, length, take}
+use Rattle.std.specs.Prelude.{ℕ, ◌≤◌, List, take}
 use Rattle.dt_text.specs.declared.spelling.Form.{Form}
 use Rattle.dt_text.specs.declared.spelling.Form.TheVariants.{Short, Long}
 

@@ -1,4 +1,4 @@
-ghost use Rattle.std.specs.Prelude.{◌≡◌, ◌↔◌, ◌<◌, ◌≤◌, ◌^◌, ℕ, List, length, IfOk, IsTrue, OnOk, OnErr, Some, [], ◌∷◌, ◌++◌};
+ghost use Rattle.std.specs.Prelude.{◌≡◌, ◌↔◌, ◌<◌, ◌≤◌, ◌^◌, ℕ, List, length, IfOk, IsTrue, Some};
 ghost use Rattle.dt_text.specs.Texts.{IsStr, is_text_byte, first_outside};
 
 use crate::bytes::is_text_byte;

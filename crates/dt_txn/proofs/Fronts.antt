@@ -1,18 +1,15 @@
 -- The fronts of logs that a region has inserted: each by its home, and while a log goes on.
-use Rattle.std.proofs.Common.{◌≡◌, ◌≤◌, ℕ, zero, suc, List, [], ◌∷◌, ◌++◌, length, set, take, refl, ap}
+use Rattle.std.proofs.Common.{◌≡◌, ◌≤◌, ℕ, zero, suc, List, [], ◌∷◌, ◌++◌, length, set, take, refl, sym, ap}
 use Rattle.std.specs.Prelude.{slice_index}
 use Rattle.std.proofs.lemmas.List.{take-append-le}
+use Rattle.std.proofs.Math.Seq.{take-nil}
 use Rattle.dt_access.specs.declared.Part.{Part}
 use Rattle.dt_sched.specs.Views.{View, log_at}
 use Rattle.dt_txn.specs.Replica.{fronts}
 
 -- the front of each log
 pub fronts_at : (lengths : List ℕ) (logs : View) (home : ℕ) → log_at (fronts lengths logs) home ≡ take (slice_index lengths home) (log_at logs home)
-fronts_at lengths [] home = take_none (slice_index lengths home)
-  where
-    take_none : (n : ℕ) → ◌≡◌ {A = List Part} [] (take n [])
-    take_none zero = refl
-    take_none (suc n) = refl
+fronts_at lengths [] home = sym (take-nil (slice_index lengths home))
 fronts_at [] (log ∷ logs) zero = refl
 fronts_at [] (log ∷ logs) (suc home) = fronts_at [] logs home
 fronts_at (n ∷ lengths) (log ∷ logs) zero = refl

@@ -403,8 +403,11 @@ module _ (view : View) (resolved : List (List TxnId)) (done : List TxnId) (t : T
             λ u h s. sooner_of_next (IsSooner view) irreflexive transitive Row opened.ordered Later (suc kept.next) more.front_done more.rest_waits (id_at old.ids next) next_at u ((opened.members u).1 h) s,
           )
 
-          unchanged : Leaves [] (record old { ready = new.ready; classes = with_one_done old.classes place kept }) new
-          unchanged = subst (Leaves [] (record old { ready = new.ready; classes = with_one_done old.classes place kept })) (sym f.rest) (leaves_none (record old { ready = new.ready; classes = with_one_done old.classes place kept }))
+          counted : GraphView
+          counted = record old { ready = new.ready; classes = with_one_done old.classes place kept }
+
+          unchanged : Leaves [] counted new
+          unchanged = subst (Leaves [] counted) (sym f.rest) (leaves_none counted)
 
           ready_right : (u : ℕ) → Has new.ready u → (u < length old.ids) × IsExecutable view resolved Later (id_at old.ids u)
           ready_right u h = elim ((f.ready u).0 h) [

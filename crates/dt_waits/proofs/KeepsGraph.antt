@@ -5,7 +5,7 @@ use Rattle.std.proofs.Common.{◌-◌, refl, sym, ap, subst, inl, inr, arith}
 use Rattle.std.proofs.lemmas.List.{length-append}
 use Rattle.std.proofs.lemmas.Option.{get_or_from_slice_get, slice_get-get_or, slice_get_within}
 use Rattle.dt_lists.specs.Lists.{AllIn, Has, EachThen}
-use Rattle.dt_lists.proofs.Callers.{any_at, any_from_at, any_get, pairwise_length, last_place}
+use Rattle.dt_lists.proofs.Callers.{any_at, any_from_at, any_get, pairwise_length, last_place, some_same}
 use Rattle.dt_access.specs.Orders.{AreAscendingHomes}
 use Rattle.dt_access.specs.declared.TxnId.{TxnId}
 use Rattle.dt_access.specs.declared.Part.{Part}
@@ -56,13 +56,10 @@ keeping_first regions = record {
 
 -- what was pushed is the last item
 pub last_pushed : {A : Type 0} (xs : List A) (x y : A) → Some y ≡ slice_get (xs ++ x ∷ []) (length (xs ++ x ∷ []) - 1) → y ≡ x
-last_pushed {A = A} xs x y e = same (e ∙ ap (slice_get (xs ++ x ∷ [])) (before (length xs) _ (length-append xs (x ∷ []))) ∙ last_place xs x)
+last_pushed {A = A} xs x y e = some_same (e ∙ ap (slice_get (xs ++ x ∷ [])) (before (length xs) _ (length-append xs (x ∷ []))) ∙ last_place xs x)
   where
     before : (n m : ℕ) → m ≡ n + 1 → m - 1 ≡ n
     before n m e = omega (arith, e)
-
-    same : Some y ≡ Some x → y ≡ x
-    same e = cc
 
 -- by the place of an id
 pub at_named : (ids : List TxnId) (v : ℕ) (id : TxnId) → slice_get ids v ≡ Some id → id_at ids v ≡ id

@@ -1,6 +1,6 @@
 -- A vertex that is complete, neither ready nor stuck, and in no class that isn't done is of a transaction that has left: so no entry
 -- waits for it.
-use Rattle.std.proofs.Common.{◌≡◌, ◌≤◌, ◌<◌, ◌∙◌, ℕ, List, [], length, map, take, get_or, slice_get, Option, None, Some, refl, sym, ap, subst, inl, inr}
+use Rattle.std.proofs.Common.{◌≡◌, ◌≤◌, ◌<◌, ◌∙◌, ℕ, List, [], length, map, slice_get, Option, None, Some, sym, subst, inl, inr}
 use Rattle.std.proofs.lemmas.List.{length-map}
 use Rattle.dt_lists.specs.Lists.{AllIn, Has}
 use Rattle.dt_lists.proofs.Callers.{all_get, all_map, any_at, any_get, either_nat, has_place, some_same}

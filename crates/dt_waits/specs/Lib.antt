@@ -1,4 +1,3 @@
-pub mod Place
 pub mod LeftInGraph
 pub mod Waits
 pub mod Graph

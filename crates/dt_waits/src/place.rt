@@ -11,7 +11,7 @@ pub struct Place {
 
 impl Model for Place {
     ghost use Rattle.std.specs.Prelude.{Option, ℕ};
-    ghost use Rattle.dt_waits.specs.Place.{place_before};
+    ghost use Rattle.dt_lists.specs.Place.{place_before};
 
     ghost Value = { Option ℕ };
 

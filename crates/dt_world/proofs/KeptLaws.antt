@@ -1,10 +1,10 @@
 -- Of a list of events each region keeps its own that take effect, in their order.
-use Rattle.std.proofs.Common.{eq-eqb, eqb-true, ◌≡◌, ◌<◌, ℕ, zero, suc, Bool, true, false, cond, eqb, ◌&&◌, List, [], ◌∷◌, ◌++◌, length, get_or, set, replicate, refl}
+use Rattle.std.proofs.Common.{eq-eqb, eqb-true, ◌≡◌, ◌<◌, ℕ, Bool, true, false, cond, eqb, ◌&&◌, List, [], ◌∷◌, ◌++◌, length, get_or, set, replicate, refl}
 use Rattle.std.proofs.Common.{sym, ap, subst, ◌∙◌, inl, inr, append_assoc, append-nil}
 use Rattle.std.proofs.lemmas.Bool.{false_from_ne_true}
 use Rattle.std.proofs.lemmas.List.{get_or-set_same, get_or-set_other, length-set}
 use Rattle.dt_lists.specs.Lists.{Either}
-use Rattle.dt_lists.proofs.Callers.{either_nat}
+use Rattle.dt_lists.proofs.Callers.{either_nat, get_of_replicate}
 use Rattle.dt_events.specs.Events.{region_of}
 use Rattle.dt_events.specs.declared.Event.{Event}
 use Rattle.dt_cluster.specs.declared.Cluster.{Cluster}
@@ -12,15 +12,6 @@ use Rattle.dt_workload.specs.declared.Workload.{Workload}
 use Rattle.dt_session.specs.World.{World, opening_world}
 use Rattle.dt_session.specs.Step.{next}
 use Rattle.dt_world.specs.WorldView.{kept_next, kept_after, kept_from, own_events, own_from, takes_effect}
-
-all_empty : (n region : ℕ) → get_or (replicate {A = List Event} n []) region [] ≡ []
-all_empty zero region = refl
-all_empty (suc n) zero = refl
-all_empty (suc n) (suc region) = all_empty n region
-
-many_replicated : (n : ℕ) → length (replicate {A = List Event} n []) ≡ n
-many_replicated zero = refl
-many_replicated (suc n) = ap suc (many_replicated n)
 
 -- the one event of a list of one, where it is the region's and takes effect
 abbrev one_own : Bool → Bool → Event → List Event
@@ -71,5 +62,5 @@ module _ (cluster : Cluster) (workload : Workload) (region : ℕ) where
 
   pub kept_is_own : (events : List Event) → region < cluster.regions → get_or (kept_after cluster workload events) region [] ≡ own_events cluster workload region events
   kept_is_own events lr =
-      kept_from_is (opening_world cluster workload) (replicate cluster.regions []) events (subst (λ n. region < n) (sym (many_replicated cluster.regions)) lr)
-      ∙ ap (λ l. l ++ own_events cluster workload region events) (all_empty cluster.regions region)
+      kept_from_is (opening_world cluster workload) (replicate cluster.regions []) events (subst (λ n. region < n) (sym (length-replicate {A = List Event} cluster.regions [])) lr)
+      ∙ ap (λ l. l ++ own_events cluster workload region events) (get_of_replicate cluster.regions region [])

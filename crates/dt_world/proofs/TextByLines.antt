@@ -1,6 +1,6 @@
 -- The text of a report, line by line: the list that an event makes longer by an item has the item's line after its text, and the
 -- sections that are appended one after another are the whole text.
-use Rattle.std.proofs.Common.{◌≡◌, ℕ, List, [], ◌∷◌, ◌++◌, codes, Ok, Err, sym, ap, subst, ◌∙◌, append_assoc, append-nil}
+use Rattle.std.proofs.Common.{◌≡◌, ℕ, List, [], ◌∷◌, ◌++◌, codes, sym, ap, subst, ◌∙◌, append_assoc, append-nil}
 use Rattle.std.specs.Prelude.{Result, OnOk, flat_map}
 use Rattle.std.proofs.lemmas.List.Concat.{flat_map-append}
 use Rattle.std.proofs.lemmas.Result.{on_ok_weaker}
@@ -8,6 +8,7 @@ use Rattle.dt_lists.specs.Lists.{AllIn}
 use Rattle.dt_lists.proofs.Callers.{all_more}
 use Rattle.dt_events.specs.declared.Event.{Event}
 use Rattle.dt_table.specs.declared.Shown.{Shown}
+use Rattle.dt_site.proofs.Callers.{on_ok}
 use Rattle.dt_report.specs.Report.{events_text, line_of, order_text, replies_text, reply_line, report_text, tables_text}
 use Rattle.dt_report.specs.declared.Ran.{Ran}
 use Rattle.dt_report.specs.declared.Reply.{Reply}
@@ -20,11 +21,6 @@ module _ {A : Type 0} (line : A → List ℕ) (start : List ℕ) {so_far : List 
       ∙ ap (λ t. start ++ (flat_map line before ++ t)) (sym (append-nil (line item)))
       ∙ ap (λ t. start ++ t) (sym (flat_map-append line before (item ∷ []))) ∙ ap (λ l. start ++ flat_map line l) (sym one)
 
--- what holds anyway
-held : {T E P : Type 0} (answer : Result T E) → P → OnOk answer P
-held (Ok x) p = p
-held (Err e) p = tt
-
 -- a list that an item makes longer by itself: where its line was appended, and it is such as the others are
 module _ {A : Type 0} {T E : Type 0} (answer : Result T E) (before after : List A) (item : A) (added : after ≡ before ++ item ∷ []) where
   -- the lines are those of all items
@@ -33,7 +29,7 @@ module _ {A : Type 0} {T E : Type 0} (answer : Result T E) (before after : List 
 
   -- all items are such
   pub all_put : (P : A → Type 0) → P item → OnOk answer (AllIn P before → AllIn P after)
-  all_put P holds = held answer (λ all. subst (AllIn P) (sym added) (all_more P before item all holds))
+  all_put P holds = on_ok answer (λ all. subst (AllIn P) (sym added) (all_more P before item all holds))
 
 -- the lines after the first one of a section are the section
 pub section_is : (old : List ℕ) {begun out : List ℕ} (head lines : List ℕ) → begun ≡ old ++ (head ++ []) → out ≡ begun ++ lines → out ≡ old ++ (head ++ lines)

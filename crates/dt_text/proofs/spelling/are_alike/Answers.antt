@@ -1,4 +1,4 @@
-use Rattle.std.proofs.Common.{rules, arith, ◌≡◌, ℕ, refl}
+use Rattle.std.proofs.Common.{rules}
 use Rattle.dt_text.proofs.SameWords.{same_words}
 use Rattle.dt_text.proofs.spelling.are_alike.Goals as goal
 

@@ -18,11 +18,11 @@ returns c =
     let k : Kept = c.args.self.now in
     let x : Cell = c.remove-cell.result in
     let n : Kept = c.remove_mark.new.self in
-    let change = c.remove_mark.ensures.change in
+    let change = c.remove_mark.ensures in
     let updates : Updates k.cells n.cells c.args.slot None = subst (λ (s : Slab Cell). Updates k.cells s c.args.slot None) (sym change.cells) c.remove-cell.ensures.updates in
     record {
-      kept = kept_removed k n c.args.slot x c.requires.kept change.rows c.remove-cell.ensures.value updates change.number change.changed change.others c.remove_mark.ensures.newest
-          (rows_removed k n x.mode (place_at (links k.rows) x.mode x.row) x.number c.requires.kept change.rows change.listed change.changed change.others);
+      kept = kept_removed k n c.args.slot x c.requires.kept change.rows c.remove-cell.ensures.value updates change.number change.changed change.others
+          (rows_removed k n x.mode (place_at (links k.rows) x.mode x.row) x.number c.requires.kept change.rows change.listed change.number change.changed change.others);
       updates = updates;
       rows = change.rows;
     }

@@ -20,7 +20,7 @@ returns-clause-same c =
     let x : Cell = c.index-cell.result.now in
     let y : Cell = c.index_mut.result.now in
     let marked : Kept = c.renumber_mark.new.self in
-    let change = c.renumber_mark.ensures.change in
+    let change = c.renumber_mark.ensures in
     let n : Kept = record marked { cells = with_value marked.cells c.args.slot (record y { number = c.args.number }) } in
     let one : y ≡ x = value y x (sym c.index_mut.ensures.value ∙ ap (λ (s : Slab Cell). get s c.args.slot) change.cells ∙ c.index-cell.ensures) in
     let up : Updates k.cells n.cells c.args.slot (Some (record x { number = c.args.number })) =
@@ -29,7 +29,7 @@ returns-clause-same c =
     let first = first_is k.cells c.args.slot c.args.number x c.index-cell.ensures c.requires.first in
     let kept = kept_renumbered k n c.args.slot x c.args.number c.requires.kept change.rows c.index-cell.ensures up first.0 first.1 change.number c.requires.positive
     (same_lanes n marked (same_self _) (same_self _) refl _ _ ∙ change.changed)
-    (λ m p ne. same_lanes n marked (same_self _) (same_self _) refl m p ∙ change.others m p ne) c.renumber_mark.ensures.newest change.listed in
+    (λ m p ne. same_lanes n marked (same_self _) (same_self _) refl m p ∙ change.others m p ne) c.requires.free change.listed in
     record {
       kept = kept;
       rows = change.rows;

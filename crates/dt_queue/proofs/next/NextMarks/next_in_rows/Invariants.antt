@@ -1,4 +1,5 @@
 use Rattle.std.proofs.Common.{◌≡◌, [], length}
+use Rattle.dt_queue.specs.ListedInner.{listed_left}
 use Rattle.dt_queue.specs.NextInner.{reads_left, rows_left}
 use Rattle.dt_queue.proofs.next.NextMarks.next_in_rows.Given as goal
 
@@ -11,4 +12,4 @@ invariant-loop-row l = record {
 }
 
 abbrev pub decreases-loop-row : goal.decreases-loop-row
-decreases-loop-row l = length l.self.rows.now
+decreases-loop-row l = length (listed_left l.self.rows)

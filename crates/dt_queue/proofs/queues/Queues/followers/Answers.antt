@@ -16,3 +16,6 @@ pub returns : goal.returns
 returns c =
     let k = c.self.inside.kept in
     rw (← c.self.view_is) (followers_are k c.self.invariant c.args.slot c.index.result.now c.index.ensures (marks_left c.next.result) c.next.ensures.marks)
+
+pub next-requires : goal.next-requires
+next-requires c = record { kept = c.self.invariant; there = (c.args.slot, c.index.ensures) }
