@@ -264,9 +264,6 @@ logged_tidied l new granule first reads writes logged t apart = record {
 
 -- ---- rows in which nothing waits have no last listing any more
 
-pub none_forgotten : (reads writes : List (List Mark)) (P : ℕ → Type 0) (old : List ℕ) → ((row : ℕ) → ¬ (P row)) → Forgets reads writes P old old
-none_forgotten reads writes P old none = record { used = λ r u. refl; gone = λ r u h. absurd (none r h); others = λ r no. refl }
-
 -- one more row was looked at
 pub forgets_more : (reads writes : List (List Mark)) (done : List Listing) (a : Listing) (old mid new : List ℕ) → Forgets reads writes (IsListedRow done) old mid → Forgets reads writes (λ r. r ≡ a.row) mid new
     → Forgets reads writes (IsListedRow (done ++ a ∷ [])) old new

@@ -4,7 +4,7 @@ use Rattle.std.proofs.Common.{◌++◌, length, get_or, map, slice_get, slice_in
 use Rattle.std.specs.List.{list_any, position, position_from}
 use Rattle.std.proofs.lemmas.Iterator.Adapters.{position_from-zero}
 use Rattle.std.specs.Cmp.Lexicographic.{bytes_decides}
-use Rattle.std.proofs.lemmas.Bool.{and_from, and_parts}
+use Rattle.std.proofs.lemmas.Bool.{and_from, and_parts, true≢false}
 use Rattle.std.proofs.lemmas.List.{get_or_append_left, length_push}
 use Rattle.std.proofs.Math.Seq.{get_or-append_seam}
 use Rattle.dt_lists.specs.Lists.{Has}
@@ -95,10 +95,7 @@ unnamed_from name (x ∷ xs) start e h = by (same_name name x) refl e (λ f. unn
   where
     by : (t : Bool) → same_name name x ≡ t → None ≡ cond t (Some start) (position_from (same_name name) (start + 1) xs) → (None ≡ position_from (same_name name) (start + 1) xs → ¬ (Has xs name)) → ⊥
     by true t f rest = cc
-    by false t f rest = elim h [ inl s ↦ clash (sym (subst (λ y. same_name name y ≡ true) (sym s) (test_of_self name)) ∙ t) | inr g ↦ rest f g ]
-      where
-        clash : true ≡ false → ⊥
-        clash e = cc
+    by false t f rest = elim h [ inl s ↦ true≢false (sym (subst (λ y. same_name name y ≡ true) (sym s) (test_of_self name)) ∙ t) | inr g ↦ rest f g ]
 
 pub unnamed : (name : ℕ × Bytes) (xs : List (ℕ × Bytes)) → None ≡ position (same_name name) xs → ¬ (Has xs name)
 unnamed name xs e = unnamed_from name xs 0 (e ∙ position_from-zero (same_name name) xs)

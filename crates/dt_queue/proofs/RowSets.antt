@@ -1,6 +1,6 @@
 -- Lists by the numbers of rows and granules: what they tell of each, as they get longer or one of their items is changed.
 use Rattle.std.proofs.Common.{◌≡◌, ℕ, zero, suc, ◌<◌, ◌≤◌, List, [], ◌∷◌, ◌++◌, map, length, get_or, set, slice_index_or}
-use Rattle.std.proofs.Common.{true, false, refl, ap, sym, arith, ◌∙◌}
+use Rattle.std.proofs.Common.{refl, ap, sym, arith, ◌∙◌}
 use Rattle.std.proofs.lemmas.List.{get_or_read, get_or-set_same, length-map, map-set}
 use Rattle.std.proofs.Math.ListN.{get_or-map}
 
@@ -37,6 +37,3 @@ told_behind [] d zero = refl
 told_behind [] d (suc r) = refl
 told_behind (x ∷ xs) d zero = refl
 told_behind (x ∷ xs) d (suc r) = told_behind xs d r
-
-pub true_no : true ≡ false → ⊥
-true_no e = cc

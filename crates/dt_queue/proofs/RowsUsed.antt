@@ -3,7 +3,7 @@
 use Rattle.std.proofs.Common.{◌≡◌, ◌≢◌, ◌⊎◌, ℕ, ◌<◌, ◌≤◌, Bool, true, false, not, ◌==◌, ◌||◌, nat_lt, if◌then◌else◌, List, [], ◌∷◌, ◌++◌, map, Result, Ok, Err, OnOk, OnErr}
 use Rattle.std.proofs.Common.{◌+◌, ◌^◌, length, Option, None, Some, refl, ap, sym, subst, inl, inr, arith, ◌∙◌}
 use Rattle.std.specs.List.{filter}
-use Rattle.std.proofs.lemmas.Bool.{and_from}
+use Rattle.std.proofs.lemmas.Bool.{and_from, false≢true, true≢false}
 use Rattle.slab.specs.Slab.{Updates, get}
 use Rattle.dt_lists.specs.Lists.{AnyIn, Has}
 use Rattle.dt_lists.proofs.Callers.{any_append, any_append_right, any_get, any_of_image, any_put, either_any, either_le, either_nat, front_length, has_filter, has_longer, has_of_filtered}
@@ -27,17 +27,11 @@ use Rattle.dt_queue.proofs.LanesOfCells.{either_place, kept_pushed, rows_refl}
 abbrev IsPart : Mode → Type 0
 IsPart mode = is_whole mode ≡ false
 
-whole_no : {A : Type 0} → true ≡ false → A
-whole_no e = cc
-
-no_whole : {A : Type 0} → false ≡ true → A
-no_whole e = cc
-
 -- reads and writes have their lanes at their row
 at_row : (r : RowLinks) (mode : Mode) (row : ℕ) → IsPart mode → place_at r mode row ≡ row
 at_row r Read row part = refl
 at_row r Write row part = refl
-at_row r Whole row part = whole_no part
+at_row r Whole row part = absurd (true≢false part)
 
 -- a mark of a row, by its lane
 abbrev pub IsOfRow : Kept → ℕ → Mark → Type 0
@@ -50,7 +44,7 @@ of_row k row m (inr h) = (Write, refl, h)
 to_row : (k : Kept) (row : ℕ) (m : Mark) (mode : Mode) → IsPart mode → Has (lane k mode row) m → IsOfRow k row m
 to_row k row m Read part h = inl h
 to_row k row m Write part h = inr h
-to_row k row m Whole part h = whole_no part
+to_row k row m Whole part h = absurd (true≢false part)
 
 -- where something is listed before a top, the row is known
 known_of : (k : Kept) → AreRowsListed k → (row top : ℕ) → IsTop k row top → 0 < top → row < length (links k.rows).names
@@ -190,17 +184,17 @@ push_steps mid marked n slot c kept change rows list same up vacant number next 
 -- numbers of pushes tell nothing of listings any more
 pub listed_free : (k : Kept) → AreRowsListed k → AreRowsListed (record k { listed = record k.listed { exact = false } })
 listed_free k listed = record {
-  logged = record { rising = λ e g. no_whole e; chained = listed.logged.chained; each = listed.logged.each };
+  logged = record { rising = λ e g. absurd (false≢true e); chained = listed.logged.chained; each = listed.logged.each };
   own = listed.own;
-  latest = λ e row. no_whole e;
+  latest = λ e row. absurd (false≢true e);
   covered = λ row low top lo to lt. covered row low top lo to lt;
 }
   where
     covered : (row low top : ℕ) → (low ≡ 0) ⊎ (false ≡ true) × ((m : Mark) × Has (lane k Whole (granule_at (links k.rows) row)) m × (m.number ≡ low)) → IsTop k row top → low < top
         → IsListedBy (record k.listed { exact = false }) (granule_at (links k.rows) row) row low top
     covered row low top (inl e) to lt =
-        listed_by k.listed (record k.listed { exact = false }) (granule_at (links k.rows) row) row low top top (λ a h. h) (λ e. no_whole e) (listed.covered row low top (inl e) to lt)
-    covered row low top (inr b) to lt = no_whole b.0
+        listed_by k.listed (record k.listed { exact = false }) (granule_at (links k.rows) row) row low top top (λ a h. h) (λ e. absurd (false≢true e)) (listed.covered row low top (inl e) to lt)
+    covered row low top (inr b) to lt = absurd (false≢true b.0)
 
 -- then marks may have other numbers
 pub rows_renumbered : (k n : Kept) (f : Mark → Mark) (mode : Mode) (place : ℕ) → AreQueuesKept k → k.listed.exact ≡ false → (links n.rows) ≡ (links k.rows) → n.listed ≡ k.listed
@@ -216,7 +210,7 @@ rows_renumbered k n f mode place kept free rows list changed others = record {
 }
   where
     not_free : {A : Type 0} → n.listed.exact ≡ true → A
-    not_free e = no_whole (sym free ∙ sym (ap (λ (l : ListedRows). l.exact) list) ∙ e)
+    not_free e = absurd (false≢true (sym free ∙ sym (ap (λ (l : ListedRows). l.exact) list) ∙ e))
 
     is_zero : (g low : ℕ) → IsLow n g low → low ≡ 0
     is_zero g low (inl e) = e
@@ -233,7 +227,7 @@ rows_renumbered k n f mode place kept free rows list changed others = record {
     ]
 
     freely : (r low top other : ℕ) → IsListedBy k.listed (granule_at (links k.rows) r) r low other → IsListedBy k.listed (granule_at (links k.rows) r) r low top
-    freely r low top other b = listed_by k.listed k.listed (granule_at (links k.rows) r) r low other top (λ a h. h) (λ e. no_whole (sym free ∙ e)) b
+    freely r low top other b = listed_by k.listed k.listed (granule_at (links k.rows) r) r low other top (λ a h. h) (λ e. absurd (false≢true (sym free ∙ e))) b
 
     covered : (r low top : ℕ) → low ≡ 0 → IsTop n r top → low < top → IsListedBy k.listed (granule_at (links k.rows) r) r low top
     covered r low top zero (inl e) lt = kept.listed.covered r low top (inl zero) (inl (e ∙ ap (λ l. last_listing l r) list)) lt
@@ -323,7 +317,7 @@ listed_tidied k granule first new listed takers t = record {
         → IsListedBy new (granule_at (links k.rows) row) row low top
     covered row low top lo to lt true u =
         kept_on (granule_at (links k.rows) row) row low top u lo (either_nat (granule_at (links k.rows) row) granule) (listed.covered row low top lo (elim to [ inl e ↦ inl (e ∙ t.last.used row u) | inr r ↦ inr r ]) lt)
-    covered row low top lo (inr (m, h, is)) lt false u = whole_no (sym (told_used k row m h) ∙ u)
+    covered row low top lo (inr (m, h, is)) lt false u = absurd (true≢false (sym (told_used k row m h) ∙ u))
     covered row low top lo (inl e) lt false u = elim (listed_here row) [
       | inl h ↦ absurd (omega (arith, t.last.gone row u h, e, lt))
       | inr absent ↦
@@ -353,7 +347,7 @@ last_of_takers k kept g top o within last = (below o last, λ low lo. by k.liste
     by : (t : Bool) → k.listed.exact ≡ t → (low : ℕ) → IsLow k g low → low ≤ (if k.listed.exact then number_or o 0 else 0)
     by t e low (inl zero) = omega (arith, zero)
     by true e low (inr (f, (m, h, is))) = subst (λ x. low ≤ (if x then number_or o 0 else 0)) (sym e) (omega (arith, most m h o last, is))
-    by false e low (inr (f, r)) = whole_no (sym f ∙ e)
+    by false e low (inr (f, r)) = absurd (true≢false (sym f ∙ e))
 
 module _ (k : Kept) (kept : AreQueuesKept k) (row granule whole : ℕ) (new : ListedRows) (row_in : row < length (links k.rows).names) (in_granule : granule ≡ granule_at (links k.rows) row)
     (before : whole < k.next_number) (lows : (low : ℕ) → IsLow k granule low → low ≤ since k.listed whole) (change : ListsRow granule row k.next_number whole k.listed new) where
