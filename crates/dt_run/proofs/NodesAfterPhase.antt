@@ -2,7 +2,7 @@
 use Rattle.std.proofs.Common.{◌≡◌, ◌<◌, ◌≤◌, ◌+◌, ℕ, suc, false, Bool, List, [], ◌∷◌, ◌++◌, length, get_or, refl, sym, ap, subst, ◌∙◌, inl, inr, arith, append-nil, append_assoc, eqb, eq-eqb}
 use Rattle.std.proofs.lemmas.List.{map-append, nil_from_length}
 use Rattle.dt_lists.specs.Lists.{Either, Has, IsFront}
-use Rattle.dt_lists.proofs.Callers.{Spot, all_get, any_get, either_le, either_nat, has_filter, has_of_filtered, spot}
+use Rattle.dt_lists.proofs.Callers.{Spot, all_get, any_get, either_le, either_nat, has_filter, has_of_filtered, none_in_empty, spot}
 use Rattle.dt_events.specs.declared.Event.{Event}
 use Rattle.dt_events.specs.declared.Event.TheVariants.{Submit, Append, Deliver, Insert, Resolve, Execute, Answer}
 use Rattle.dt_events.specs.declared.Stamped.{Stamped}
@@ -205,11 +205,7 @@ module _ {cluster : Cluster} {workload : Workload} {seats seats' seats'' : List 
               let last : mark_at v (region_at x) step.made ≡ length (kept_by_region v (region_at x)) = (step.each (region_at x) lr).marks.last in
               let zero_mark : mark_at v (region_at x) step.made ≡ 0 = ap (mark_at v (region_at x)) first in
               let here : Has (kept_by_region v (region_at x)) x = subst (λ l. Has l x) (waiting.kept_is a sound (region_at x)) kept in
-              some_long (kept_by_region v (region_at x)) here (omega (arith, last, zero_mark))
-            where
-              some_long : (xs : List Stamped) → Has xs x → length xs ≡ 0 → ⊥
-              some_long [] k e = k
-              some_long (y ∷ ys) k e = omega (arith, e)
+              none_in_empty (kept_by_region v (region_at x)) x here (omega (arith, last, zero_mark))
           by (inr far) = subst (λ l. Has l x) (none_kept v.nodes (region_at x) (let m = n.many in omega (arith, far, m))) kept
 
   begun : (region : ℕ) → region < cluster.regions → Either (step.made ≡ 0) → BeganEagerly cluster workload region (kept_by_region v' region)

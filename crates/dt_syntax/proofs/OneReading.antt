@@ -153,7 +153,8 @@ one_proc p q r s h k e =
       b.2,
     )
 
-none_spelled : (p : ProcSyntax) (ts : List Placed) → [] ≡ proc_tokens p ++ ts → ⊥
+-- a procedure is spelled with some token
+pub none_spelled : (p : ProcSyntax) (ts : List Placed) → [] ≡ proc_tokens p ++ ts → ⊥
 none_spelled p ts e = cc
 
 -- the same tokens are spelled by the same procedures

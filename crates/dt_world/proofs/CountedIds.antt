@@ -1,13 +1,13 @@
 -- The ids of legal events are counted from 1, and the groups that regions resolve have two or more of them.
 use Rattle.std.proofs.Common.{◌≡◌, ◌<◌, ◌+◌, ℕ, List, [], Some, sym, ap, subst, ◌∙◌, arith}
-use Rattle.dt_lists.specs.Lists.{AllIn, Has, IsFront}
-use Rattle.dt_lists.proofs.Callers.{all_any, all_get, all_of_gets, all_put, any_at, any_front, pairwise_any}
+use Rattle.dt_lists.specs.Lists.{AllIn, Has}
+use Rattle.dt_lists.proofs.Callers.{all_any, all_get, all_of_gets, all_put, any_at}
 use Rattle.dt_access.specs.declared.TxnId.{TxnId}
 use Rattle.dt_access.specs.declared.Part.{Part}
 use Rattle.dt_events.specs.declared.Event.{Event}
 use Rattle.dt_events.specs.declared.Event.TheVariants.{Submit, Append, Deliver, Insert, Resolve, Execute, Answer}
-use Rattle.dt_sched.specs.Views.{View, HasPart, IsComplete, IsLonger, IsPresent}
-use Rattle.dt_sched.proofs.Callers.{present_of_complete}
+use Rattle.dt_sched.specs.Views.{HasPart, IsComplete, IsPresent}
+use Rattle.dt_sched.proofs.Callers.{present_longer, present_of_complete}
 use Rattle.dt_report.specs.Printable.{HasCountedIds}
 use Rattle.dt_cluster.specs.declared.Cluster.{Cluster}
 use Rattle.dt_workload.specs.declared.Workload.{Workload}
@@ -17,10 +17,6 @@ use Rattle.dt_agreement.specs.Invariant.{Inv, IsPartAt}
 use Rattle.dt_agreement.specs.LegalRun.{IsLegalRun}
 use Rattle.dt_agreement.proofs.Callers.{WasSubmitted, executable_known, fronts_longer, legal_keeps, log_is, logs_length, numbered, txn_there}
 use Rattle.dt_world.proofs.GrowingNodes.{legal_at}
-
-still_present : (short long : View) (t : TxnId) → IsLonger short long → IsPresent short t → IsPresent long t
-still_present short long t longer here =
-    pairwise_any IsFront (λ log. HasPart log t) (λ log. HasPart log t) short long (λ x y front has. any_front (λ (p : Part). p.id ≡ t) x y front has) longer here
 
 module _ {cluster : Cluster} {workload : Workload} {w : World} {order : List TxnId} (i : Inv cluster workload w order) where
   from_one : (id : TxnId) → WasSubmitted w id → 0 < id.seq
@@ -35,7 +31,7 @@ module _ {cluster : Cluster} {workload : Workload} {w : World} {order : List Txn
   complete_known region t complete =
       let inserted = fronts_longer (node_at w region).here.inserted (received_logs w region) in
       let received = fronts_longer (received_lengths w region) (logs_of w) in
-      let present : IsPresent (logs_of w) t = still_present _ _ t received (still_present _ _ t inserted (present_of_complete (view_at w region) t complete)) in
+      let present : IsPresent (logs_of w) t = present_longer _ _ received t (present_longer _ _ inserted t (present_of_complete (view_at w region) t complete)) in
       let place = any_at (λ log. HasPart log t) [] (logs_of w) present in
       let home : place.0 < cluster.regions = subst (λ n. place.0 < n) (logs_length w ∙ i.nodes) place.1 in
       let there : HasPart (log_of w place.0) t = subst (λ l. HasPart l t) (log_is w place.0) place.2 in
