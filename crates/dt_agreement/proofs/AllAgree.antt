@@ -30,7 +30,7 @@ use Rattle.dt_txn.specs.Transaction.{IsValid}
 use Rattle.dt_txn.specs.Execution.{see, reads_of, result_of}
 use Rattle.dt_txn.specs.Serial.{outcomes, table_after}
 use Rattle.dt_txn.specs.Replica.{IsDrained, fronts, done_ids}
-use Rattle.dt_serial.specs.Order.{IsHistory, txn_ids}
+use Rattle.dt_serial.specs.Order.{txn_ids}
 use Rattle.dt_serial.specs.Evidence.{MadeMove, IsGrounded, HasReason}
 use Rattle.dt_serial.proofs.Callers.{looked_filter, looked_from, one_outcome, one_restricted, one_set, outcomes_ids, reasons}
 use Rattle.dt_cluster.specs.declared.Cluster.{Cluster}
@@ -110,9 +110,6 @@ IsDrainedAt w region = IsDrained (received_logs w region) (node_at w region).her
 
 -- a world that keeps the invariant, and in which every annotation is rooted
 module _ {cluster : Cluster} {workload : Workload} {w : World} {order : List TxnId} (i : Inv cluster workload w order) (rooted : Rooted cluster w order) where
-  past : IsHistory cluster.procs (Precedes (logs_of w)) (opening_table cluster) (txns_of w order)
-  past = order_is_history i rooted
-
   pub outcome_ids : map (λ e. e.0) (outcomes_in_order cluster w order) ≡ order
   outcome_ids = outcomes_ids cluster.procs (txns_of w order) (opening_table cluster) ∙ order_ids i
 
@@ -123,7 +120,7 @@ module _ {cluster : Cluster} {workload : Workload} {w : World} {order : List Txn
   kept_outcome : (region : ℕ) (id : TxnId) (outcome : Outcome) → region < cluster.regions → Has (node_at w region).here.done (id, outcome) → Has (outcomes_in_order cluster w order) (id, outcome)
   kept_outcome region id outcome lr h =
       all_get (Has (outcomes_in_order cluster w order)) (outcomes cluster.procs (executions_at w region) (opening_table cluster))
-      (one_outcome cluster.procs (Precedes (logs_of w)) (opening_table cluster) (txns_of w order) past (executions_at w region)
+      (one_outcome cluster.procs (Precedes (logs_of w)) (opening_table cluster) (txns_of w order) (order_is_history i rooted) (executions_at w region)
       (region_members i rooted region lr)
       (region_down i rooted region lr))
       (id, outcome) (subst (λ l. Has l (id, outcome)) (i.tables region lr).outcomes h)
@@ -136,7 +133,7 @@ module _ {cluster : Cluster} {workload : Workload} {w : World} {order : List Txn
       → (node_at w region).here.table ≡ table_after cluster.procs (txns_of w (filter (is_among (done_ids (node_at w region).here)) order)) (opening_table cluster)
   tables_agree region lr =
       (i.tables region lr).table
-      ∙ one_restricted cluster.procs (Precedes (logs_of w)) (opening_table cluster) (txns_of w order) past (executions_at w region)
+      ∙ one_restricted cluster.procs (Precedes (logs_of w)) (opening_table cluster) (txns_of w order) (order_is_history i rooted) (executions_at w region)
       (region_members i rooted region lr)
       (region_down i rooted region lr)
       ∙ ap (λ l. table_after cluster.procs (filter (λ x. is_among l x.id) (txns_of w order)) (opening_table cluster)) (done_txn_ids i region lr)
@@ -204,7 +201,7 @@ module _ {cluster : Cluster} {workload : Workload} {w : World} {order : List Txn
     pub drained_agree : (node_at w region).here.table ≡ (node_at w other).here.table
     drained_agree =
         (i.tables region lr).table
-        ∙ one_set cluster.procs (Precedes (logs_of w)) (opening_table cluster) (txns_of w order) past (executions_at w region) (executions_at w other)
+        ∙ one_set cluster.procs (Precedes (logs_of w)) (opening_table cluster) (txns_of w order) (order_is_history i rooted) (executions_at w region) (executions_at w other)
         (region_members i rooted region lr) (region_members i rooted other lo)
         (region_down i rooted region lr) (region_down i rooted other lo)
         (λ id. (there id, back id))

@@ -84,9 +84,6 @@ by_done : (a b c d e f f' : ℕ) → f' ≡ f + 1 → a + b + c + d + e + f < a 
 by_done a b c d e f f' p = omega arith
 
 module _ (cluster : Cluster) (ok : IsValidCluster cluster) (workload : Workload) (w : World) (g : HasInvariant cluster workload w) (region : ℕ) (lr : region < cluster.regions) where
-  room : region < length w.nodes
-  room = node_there g region lr
-
   Rises : World → Type 0
   Rises v = weight region (own workload w region) < weight region (own workload v region)
 
@@ -106,7 +103,7 @@ module _ (cluster : Cluster) (ok : IsValidCluster cluster) (workload : Workload)
       let sum_now : sum_by (λ p. p.answered) places + s.place.answered ≡ sum_by (λ p. p.answered) (own workload w region).places + s.place.answered =
       answered_changed (local region workload.sessions) (own workload w region).places region s.session.name s.session s.place now (in_own name s.session s.place s.named s.found) in
       subst (λ v. weight region (own workload w region) < weight region (own workload v region)) (sym s.next)
-      (subst (λ x. weight region (own workload w region) < weight region x) (sym (own_submitted cluster workload w region room s.session s.place s.call))
+      (subst (λ x. weight region (own workload w region) < weight region x) (sym (own_submitted cluster workload w region (node_there g region lr) s.session s.place s.call))
       (by_submitted (length (node_at w region).submitted) (length ((node_at w region).submitted ++ attempt ∷ []))
       (sum_by (λ p. p.answered) (own workload w region).places) (sum_by (λ p. p.answered) places)
       (sum (received_lengths w region)) (sum (node_at w region).here.inserted) (length (node_at w region).here.resolved) (length (node_at w region).here.done)
@@ -144,7 +141,7 @@ module _ (cluster : Cluster) (ok : IsValidCluster cluster) (workload : Workload)
     where
       rises : (txn : Txn) → weight region (own workload w region) < weight region (own workload (placed w region source (Some txn)) region)
       rises txn =
-          subst (λ x. weight region (own workload w region) < weight region x) (sym (own_appended cluster workload w region room source true (Some txn)))
+          subst (λ x. weight region (own workload w region) < weight region x) (sym (own_appended cluster workload w region (node_there g region lr) source true (Some txn)))
           (by_received (length (node_at w region).submitted) (sum_by (λ p. p.answered) (own workload w region).places)
           (sum (received_lengths w region))
           (sum (set (node_at w region).received region (length ((node_at w region).log ++ part_of txn region ∷ []))))
@@ -171,7 +168,7 @@ module _ (cluster : Cluster) (ok : IsValidCluster cluster) (workload : Workload)
               let end : last ≤ length (log_of w region) = subst (λ h. last ≤ length (log_of w h)) is l.allowed.1 in
               absurd (let none : ⊥ = omega (arith, below) in none)
           by (inr n) =
-              subst (λ x. weight region (own workload w region) < weight region x) (sym (own_delivered cluster workload w region room home last true))
+              subst (λ x. weight region (own workload w region) < weight region x) (sym (own_delivered cluster workload w region (node_there g region lr) home last true))
               (by_received (length (node_at w region).submitted) (sum_by (λ p. p.answered) (own workload w region).places)
               (sum (received_lengths w region))
               (sum (set (set (node_at w region).received home last) region (length (node_at w region).log)))
@@ -186,7 +183,7 @@ module _ (cluster : Cluster) (ok : IsValidCluster cluster) (workload : Workload)
   insert_rises home lh =
       let before : List ℕ = (node_at w region).here.inserted in
       subst (λ x. weight region (own workload w region) < weight region x)
-      (sym (own_moved cluster workload w region room (stepped cluster.procs (txn_of w) (node_at w region).here (Insert region home))))
+      (sym (own_moved cluster workload w region (node_there g region lr) (stepped cluster.procs (txn_of w) (node_at w region).here (Insert region home))))
       (by_inserted (length (node_at w region).submitted) (sum_by (λ p. p.answered) (own workload w region).places) (sum (received_lengths w region))
       (sum (node_at w region).here.inserted) (sum (set (node_at w region).here.inserted home (slice_index (node_at w region).here.inserted home + 1)))
       (length (node_at w region).here.resolved) (length (node_at w region).here.done)
@@ -196,7 +193,7 @@ module _ (cluster : Cluster) (ok : IsValidCluster cluster) (workload : Workload)
   unfolding Rises
   resolve_rises ids =
       subst (λ x. weight region (own workload w region) < weight region x)
-      (sym (own_moved cluster workload w region room (stepped cluster.procs (txn_of w) (node_at w region).here (Resolve region ids))))
+      (sym (own_moved cluster workload w region (node_there g region lr) (stepped cluster.procs (txn_of w) (node_at w region).here (Resolve region ids))))
       (by_resolved (length (node_at w region).submitted) (sum_by (λ p. p.answered) (own workload w region).places) (sum (received_lengths w region))
       (sum (node_at w region).here.inserted) (length (node_at w region).here.resolved) (length ((node_at w region).here.resolved ++ ids ∷ [])) (length (node_at w region).here.done)
       (length_push (node_at w region).here.resolved ids))
@@ -207,7 +204,8 @@ module _ (cluster : Cluster) (ok : IsValidCluster cluster) (workload : Workload)
       let known : WasSubmitted w id = executable_known cluster workload w g.order region id lr may g.inv in
       let outcome : _ = (known.0.id, (one cluster.procs known.0 (node_at w region).here.table).0) in
       subst (λ x. weight region (own workload w region) < weight region x)
-      (sym (own_moved cluster workload w region room (executed cluster.procs (node_at w region).here (txn_of w id)) ∙ ap (λ t. move_own (own workload w region) (executed cluster.procs (node_at w region).here t)) known.1))
+      (sym (own_moved cluster workload w region (node_there g region lr) (executed cluster.procs (node_at w region).here (txn_of w id))
+      ∙ ap (λ t. move_own (own workload w region) (executed cluster.procs (node_at w region).here t)) known.1))
       (by_done (length (node_at w region).submitted) (sum_by (λ p. p.answered) (own workload w region).places) (sum (received_lengths w region))
       (sum (node_at w region).here.inserted) (length (node_at w region).here.resolved) (length (node_at w region).here.done) (length ((node_at w region).here.done ++ outcome ∷ []))
       (length_push (node_at w region).here.done outcome))

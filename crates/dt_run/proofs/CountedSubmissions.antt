@@ -49,9 +49,6 @@ still e n m s p x y = record {
 }
 
 module _ {cluster : Cluster} (ok : IsValidCluster cluster) (workload : Workload) (w : World) (g : HasInvariant cluster workload w) (region : ℕ) (lr : region < cluster.regions) where
-  room : region < length w.nodes
-  room = node_there g region lr
-
   by_own : (e : Event) (v : World) (o : Own) → own workload v region ≡ o → Counts e (node_at w region) o.node → Counts e (node_at w region) (node_at v region)
   by_own e v o is c = subst (λ (p : Own). Counts e (node_at w region) p.node) (sym is) c
 
@@ -59,7 +56,7 @@ module _ {cluster : Cluster} (ok : IsValidCluster cluster) (workload : Workload)
   submit_counts name may =
       let s : Submits cluster workload w region name = submits cluster ok workload w g.order region name may g.inv in
       subst (λ v. Counts (Submit region name) (node_at w region) (node_at v region)) (sym s.next)
-      (by_own (Submit region name) _ _ (own_submitted cluster workload w region room s.session s.place s.call) (record {
+      (by_own (Submit region name) _ _ (own_submitted cluster workload w region (node_there g region lr) s.session s.place s.call) (record {
         submitted = length_push (node_at w region).submitted (attempt_of_own cluster region s.session s.place s.call (own workload w region) (next_attempt w s.place.waits));
         placed = let z : length (node_at w region).log ≡ length (node_at w region).log + 0 = omega arith in z;
       }))
@@ -72,7 +69,7 @@ module _ {cluster : Cluster} (ok : IsValidCluster cluster) (workload : Workload)
   ]
     where
       made : (txn : Txn) → Counts (Append region source number) (node_at w region) (node_at (placed w region source (Some txn)) region)
-      made txn = by_own (Append region source number) _ _ (own_appended cluster workload w region room source true (Some txn)) (record {
+      made txn = by_own (Append region source number) _ _ (own_appended cluster workload w region (node_there g region lr) source true (Some txn)) (record {
         submitted = let z : length (node_at w region).submitted ≡ length (node_at w region).submitted + 0 = omega arith in z;
         placed = length_push (node_at w region).log (part_of txn region);
       })
@@ -82,7 +79,7 @@ module _ {cluster : Cluster} (ok : IsValidCluster cluster) (workload : Workload)
     where
       go : (b : Bool) → Counts (Deliver region home first last) (node_at w region) (node_at (cond b (received w region home last) w) region)
       go false = still (Deliver region home first last) (node_at w region) (node_at w region) refl refl refl refl
-      go true = by_own (Deliver region home first last) _ _ (own_delivered cluster workload w region room home last true) (still (Deliver region home first last) (node_at w region) _ refl refl refl refl)
+      go true = by_own (Deliver region home first last) _ _ (own_delivered cluster workload w region (node_there g region lr) home last true) (still (Deliver region home first last) (node_at w region) _ refl refl refl refl)
 
   answer_counts : (name : Bytes) → MayAnswer cluster w region (session_at workload.sessions w.places region name) → Counts (Answer region name) (node_at w region) (node_at (next cluster workload w (Answer region name)) region)
   answer_counts name may = go (session_at workload.sessions w.places region name) may
@@ -106,15 +103,15 @@ module _ {cluster : Cluster} (ok : IsValidCluster cluster) (workload : Workload)
   event_counts (Insert r home) is l c =
       subst (λ q. Counts (Insert r home) (node_at w q) (node_at (next cluster workload w (Insert r home)) q)) is
       (subst (λ q. Counts (Insert q home) (node_at w q) (node_at (next cluster workload w (Insert q home)) q)) (sym is)
-      (by_own (Insert region home) _ _ (own_moved cluster workload w region room _) (still (Insert region home) (node_at w region) _ refl refl refl refl)))
+      (by_own (Insert region home) _ _ (own_moved cluster workload w region (node_there g region lr) _) (still (Insert region home) (node_at w region) _ refl refl refl refl)))
   event_counts (Resolve r ids) is l c =
       subst (λ q. Counts (Resolve r ids) (node_at w q) (node_at (next cluster workload w (Resolve r ids)) q)) is
       (subst (λ q. Counts (Resolve q ids) (node_at w q) (node_at (next cluster workload w (Resolve q ids)) q)) (sym is)
-      (by_own (Resolve region ids) _ _ (own_moved cluster workload w region room _) (still (Resolve region ids) (node_at w region) _ refl refl refl refl)))
+      (by_own (Resolve region ids) _ _ (own_moved cluster workload w region (node_there g region lr) _) (still (Resolve region ids) (node_at w region) _ refl refl refl refl)))
   event_counts (Execute r id) is l c =
       subst (λ q. Counts (Execute r id) (node_at w q) (node_at (next cluster workload w (Execute r id)) q)) is
       (subst (λ q. Counts (Execute q id) (node_at w q) (node_at (next cluster workload w (Execute q id)) q)) (sym is)
-      (by_own (Execute region id) _ _ (own_moved cluster workload w region room _) (still (Execute region id) (node_at w region) _ refl refl refl refl)))
+      (by_own (Execute region id) _ _ (own_moved cluster workload w region (node_there g region lr) _) (still (Execute region id) (node_at w region) _ refl refl refl refl)))
   event_counts (Answer r name) is l c =
       subst (λ q. Counts (Answer r name) (node_at w q) (node_at (next cluster workload w (Answer r name)) q)) is
       (subst (λ q. IsLegal cluster workload w (Answer q name) → Counts (Answer q name) (node_at w q) (node_at (next cluster workload w (Answer q name)) q)) (sym is) (λ k. answer_counts name k.allowed) l)

@@ -10,7 +10,7 @@ use Rattle.dt_run.specs.Phase.{EndsInStep, IsPhase}
 use Rattle.dt_run.specs.SeatsInner.{EndsAreApart, AreLinkedBy, AreSeated, EachGoes, SeatCan, SeatTurned, SeatView, no_seat, nodes_view, seat_at}
 use Rattle.dt_run.proofs.NodesAfterPhase.{phase_seated}
 use Rattle.dt_run.proofs.FinishedRun.{each_seat}
-use Rattle.dt_run.proofs.NodesAfterTurns.{broken_seated, phase_is, turns_of}
+use Rattle.dt_run.proofs.NodesAfterTurns.{phase_is, turns_of}
 use Rattle.dt_run.proofs.PhaseInStep.{apart_now, ends_in_step, turns_now}
 use Rattle.dt_run.proofs.WaitingPackets as waiting
 
@@ -22,9 +22,6 @@ module _ {cluster : Cluster} {workload : Workload} {seats : List SeatView} {brok
   -- a turn was made at each
   module _ {seats' : List SeatView} (g : EachGoes cluster.procs seats seats') where
     -- some turn failed
-    pub failed_seated : AreSeated cluster workload seats' true
-    failed_seated = broken_seated a sound g
-
     pub failed_phase : IsPhase (nodes_view cluster workload seats broken) (nodes_view cluster workload seats' true)
     failed_phase = phase_is a sound (turns_of g) true
 
@@ -55,9 +52,6 @@ put_back_is len items now full same = ap (λ n. take n (now ++ drop (length now)
 -- the same of seats in their vector
 module _ {cluster : Cluster} {workload : Workload} {seats : List SeatView} {broken : Bool} (a : AreSeated cluster workload seats broken) (sound : broken ≡ false) {turned : List SeatView}
     (g : EachGoes cluster.procs seats turned) where
-  pub failed_seats : AreSeated cluster workload turned true
-  failed_seats = failed_seated a sound g
-
   pub phase_failed : IsPhase (nodes_view cluster workload seats broken) (nodes_view cluster workload turned true)
   phase_failed = failed_phase a sound g
 

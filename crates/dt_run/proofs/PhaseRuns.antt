@@ -11,14 +11,15 @@ use Rattle.dt_run.specs.Phase.{EndsInStep, IsPhase}
 use Rattle.dt_run.specs.SeatsInner.{HasCounts, AreRunning, AreSeated, EachGoes, SeatView, events_at, nodes_view, seat_at}
 use Rattle.dt_run.specs.Silence.{ComesToAnEnd, PhaseIsCounted}
 use Rattle.dt_run.specs.declared.counts.Counts.{Counts}
-use Rattle.dt_run.proofs.PhaseOfTurns.{failed_seats, in_step_made, phase_made, put_back, seats_made}
+use Rattle.dt_run.proofs.NodesAfterTurns.{broken_seated}
+use Rattle.dt_run.proofs.PhaseOfTurns.{in_step_made, phase_made, put_back, seats_made}
 use Rattle.dt_run.proofs.SeatCounts as counting
 
 module _ {cluster : Cluster} {workload : Workload} {seats : List SeatView} {broken : Bool} {counts : Counts} (r : AreRunning cluster workload seats broken counts) (sound : broken ≡ false) {turned : List SeatView}
     (goes : EachGoes cluster.procs seats turned) where
   -- some turn failed
   pub failed_running : AreRunning cluster workload turned true counts
-  failed_running = record { seated = failed_seats r.seated sound goes; counted = λ e. absurd (false≢true (sym e)) }
+  failed_running = record { seated = broken_seated r.seated sound goes; counted = λ e. absurd (false≢true (sym e)) }
 
   -- none failed, and the ends of all links were brought beside each other
   module _ (len : ℕ) (full : len ≡ length turned) {lent : List SeatView} (lent_is : lent ≡ turned) {asked : List SeatView} (asked_is : asked ≡ turned) (none : AllIn (λ s. s.failed ≡ false) asked)
