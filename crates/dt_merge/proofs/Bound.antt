@@ -245,14 +245,14 @@ module _ {cluster : Cluster} {workload : Workload} (ok : IsValidCluster cluster)
   few_in_log : (home : ℕ) → home < cluster.regions → length (log_of w home) ≤ there
   few_in_log home lh =
       subst (λ n. n ≤ there) (length-map (log_of w home) (λ p. p.id))
-      (few_ids (ids_of (log_of w home)) (log_distinct cluster workload w g.order g.inv home lh) (all_put (WasSubmitted w) (ids_of (log_of w home)) (in_log home lh)))
+      (few_ids (ids_of (log_of w home)) (log_distinct g.inv home lh) (all_put (WasSubmitted w) (ids_of (log_of w home)) (in_log home lh)))
 
   module _ (q : ℕ) (lq : q < cluster.regions) where
     sound : IsSound (view_at w q) (node_at w q).here.resolved (done_ids (node_at w q).here)
     sound = g.inv.sound q lq
 
     few_done : length (node_at w q).here.done ≤ there
-    few_done = subst (λ n. n ≤ there) (length-map (node_at w q).here.done (λ d. d.0)) (few_ids (done_ids (node_at w q).here) sound.done_once (done_known cluster workload w g.order g.inv q lq))
+    few_done = subst (λ n. n ≤ there) (length-map (node_at w q).here.done (λ d. d.0)) (few_ids (done_ids (node_at w q).here) sound.done_once (done_known g.inv q lq))
 
     -- what is closed in a region's view was submitted
     closed_known : (id : TxnId) → IsClosed (view_at w q) id → WasSubmitted w id
@@ -283,7 +283,7 @@ module _ {cluster : Cluster} {workload : Workload} (ok : IsValidCluster cluster)
         subst (λ n. sum (received_lengths w q) ≤ n * there) long
         (at_most_each (received_lengths w q) there (λ h lt.
         let lh : h < cluster.regions = subst (λ n. h < n) long lt in
-        let a : received_of w q h ≤ length (log_of w h) = received_within cluster workload w g.order g.inv q h lq lh in
+        let a : received_of w q h ≤ length (log_of w h) = received_within g.inv q h lq lh in
         let b : length (log_of w h) ≤ there = few_in_log h lh in
         let c : received_of w q h ≤ there = omega arith in c))
       where
@@ -296,7 +296,7 @@ module _ {cluster : Cluster} {workload : Workload} (ok : IsValidCluster cluster)
         (at_most_each (node_at w q).here.inserted there (λ h lt.
         let lh : h < cluster.regions = subst (λ n. h < n) (g.inv.sized q lq).inserted lt in
         let z : get_or (node_at w q).here.inserted h 0 ≤ received_of w q h = (g.inv.lengths q h lq lh).inserted in
-        let a : received_of w q h ≤ length (log_of w h) = received_within cluster workload w g.order g.inv q h lq lh in
+        let a : received_of w q h ≤ length (log_of w h) = received_within g.inv q h lq lh in
         let b : length (log_of w h) ≤ there = few_in_log h lh in
         let c : get_or (node_at w q).here.inserted h 0 ≤ there = omega arith in c))
 
@@ -404,7 +404,7 @@ lawful_after : (cluster : Cluster) → IsValidCluster cluster → (workload : Wo
     → AreLegalFrom cluster workload w events → HasInvariant cluster workload (world_from cluster workload w events)
 lawful_after cluster ok workload fits w [] g l = g
 lawful_after cluster ok workload fits w (e ∷ events) g l =
-    lawful_after cluster ok workload fits (next cluster workload w e) events (record { order = ordered g.order e; inv = next_keeps cluster ok workload fits w g.order e l.0 g.inv }) l.1
+    lawful_after cluster ok workload fits (next cluster workload w e) events (record { order = ordered g.order e; inv = next_keeps ok fits w g.order e l.0 g.inv }) l.1
 
 pub events_few : (cluster : Cluster) → IsValidCluster cluster → (workload : Workload) → IsValidWorkload cluster workload → (w : World) (events : List Event) → HasInvariant cluster workload w
     → AreLegalFrom cluster workload w events → AllChange cluster workload w events → length events ≤ most_events cluster workload

@@ -26,7 +26,7 @@ use Rattle.dt_session.specs.Step.{IsLegal, MayAnswer, MaySubmit, answered, next,
 use Rattle.dt_session.specs.Run.{world_from, AreLegalFrom}
 use Rattle.dt_session.specs.Eager.{AllChange}
 use Rattle.dt_agreement.specs.Invariant.{IsPlaceOf}
-use Rattle.dt_agreement.proofs.Callers.{WasSubmitted, Submits, answered_changed, append_cases, executable_known, next_keeps, ordered, received_own, session_found, submits}
+use Rattle.dt_agreement.proofs.Callers.{WasSubmitted, Submits, answered_changed, append_cases, executable_known, next_keeps, ordered, received_own, session_found, next_call_submits}
 use Rattle.dt_merge.specs.OwnPart.{own}
 use Rattle.dt_merge.specs.Weight.{sum_below, weight, world_weight}
 use Rattle.dt_merge.specs.WorldRegions.{HasInvariant}
@@ -96,7 +96,7 @@ module _ (cluster : Cluster) (ok : IsValidCluster cluster) (workload : Workload)
   submit_rises : (name : Bytes) → MaySubmit cluster w region (session_at workload.sessions w.places region name) → Rises (submitted cluster workload w region (session_at workload.sessions w.places region name))
   unfolding Rises
   submit_rises name may =
-      let s : Submits cluster workload w region name = submits cluster ok workload w g.order region name may g.inv in
+      let s : Submits cluster workload w region name = next_call_submits g.inv ok region name may in
       let attempt : Submission = attempt_of_own cluster region s.session s.place s.call (own workload w region) (next_attempt w s.place.waits) in
       let now : Place = record s.place { waits = Some attempt.txn.id } in
       let places : List Place = with_place (local region workload.sessions) (own workload w region).places region s.session.name now in
@@ -134,7 +134,7 @@ module _ (cluster : Cluster) (ok : IsValidCluster cluster) (workload : Workload)
   append_rises : (source number : ℕ) → IsLegal cluster workload w (Append region source number)
       → (next cluster workload w (Append region source number) ≡ w) ⊎ Rises (next cluster workload w (Append region source number))
   unfolding Rises
-  append_rises source number l = elim (append_cases cluster workload w g.order region source number l.regions.0 l.regions.1 l.allowed g.inv) [
+  append_rises source number l = elim (append_cases g.inv region source number l.regions.0 l.regions.1 l.allowed) [
     | inl same ↦ inl same
     | inr r ↦ inr (subst (λ v. weight region (own workload w region) < weight region (own workload v region)) (sym r.2) (rises r.0))
   ]
@@ -201,7 +201,7 @@ module _ (cluster : Cluster) (ok : IsValidCluster cluster) (workload : Workload)
   execute_rises : (id : TxnId) → MayStep (received_logs w region) (node_at w region).here (Execute region id) → Rises (next cluster workload w (Execute region id))
   unfolding Rises
   execute_rises id may =
-      let known : WasSubmitted w id = executable_known cluster workload w g.order region id lr may g.inv in
+      let known : WasSubmitted w id = executable_known g.inv region id lr may in
       let outcome : _ = (known.0.id, (one cluster.procs known.0 (node_at w region).here.table).0) in
       subst (λ x. weight region (own workload w region) < weight region x)
       (sym (own_moved cluster workload w region (node_there g region lr) (executed cluster.procs (node_at w region).here (txn_of w id))
@@ -239,5 +239,5 @@ module _ (cluster : Cluster) (ok : IsValidCluster cluster) (workload : Workload)
   events_weighed w (e ∷ events) g l c =
       let up : world_weight cluster.regions workload w < world_weight cluster.regions workload (next cluster workload w e) = world_rises cluster ok workload w e g l.0 c.0 in
       let later : length events + world_weight cluster.regions workload (next cluster workload w e) ≤ world_weight cluster.regions workload (world_from cluster workload (next cluster workload w e) events) =
-      events_weighed (next cluster workload w e) events (record { order = ordered g.order e; inv = next_keeps cluster ok workload fits w g.order e l.0 g.inv }) l.1 c.1 in
+      events_weighed (next cluster workload w e) events (record { order = ordered g.order e; inv = next_keeps ok fits w g.order e l.0 g.inv }) l.1 c.1 in
       omega arith

@@ -25,7 +25,7 @@ use Rattle.dt_site.specs.SessionsStandIn.{SessionsStandIn, seat_in}
 use Rattle.dt_site.specs.Site.{SiteView, MakesAttempt}
 use Rattle.dt_site.specs.StandsIn.{IsReached}
 use Rattle.dt_site.proofs.Callers.{HasShortLists, Steps, Submits, after_more, fits_region, ids, inv, kept_here, legal_short}
-use Rattle.dt_site.proofs.Callers.{many_here, numbers_are, order, origin_for, run_more, sessions_changed, submit_elsewhere, submit_legal, submit_made, waits_as}
+use Rattle.dt_site.proofs.Callers.{many_here, numbers_are, origin_for, run_more, sessions_changed, submit_elsewhere, submit_legal, submit_made, waits_as}
 use Rattle.dt_node.specs.NodeView.{NodeView, number_of}
 use Rattle.dt_node.specs.NodeInWorld.{NodeFits}
 use Rattle.dt_node.specs.Turn.{GoesAfter, last_at}
@@ -43,7 +43,7 @@ module _ {cluster : Cluster} {workload : Workload} {events : List Event} {a : No
   -- the world has the session, with its next call
   module _ (may : MayGo a.sessions name (last_at a name)) where
     allowed : agreed.Submits cluster workload w (number_of a) name
-    allowed = agreed.submits cluster f.run.sound workload w (order k) (number_of a) name (go_submit f name may) (inv k)
+    allowed = agreed.next_call_submits (inv k) f.run.sound (number_of a) name (go_submit f name may)
 
     tries : MayTry cluster.tries (length allowed.session.calls) allowed.place.answered (awaited_at w (number_of a) allowed.place.waits)
     tries = subst (MaySubmit cluster w (number_of a)) allowed.found (go_submit f name may)

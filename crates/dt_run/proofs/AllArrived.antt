@@ -135,7 +135,7 @@ module _ {cluster : Cluster} {workload : Workload} {events : List Event} (some :
   complete region lr id txn e = made (txn_there w id txn e)
     where
       valid : IsValid cluster.procs cluster.version cluster.regions txn
-      valid = (transaction_valid cluster workload w good.order good.inv id txn e).0
+      valid = (transaction_valid good.inv id txn e).0
 
       within : (home : ℕ) → Has (homes_of txn) home → home < cluster.regions
       within home h = all_get (λ x. x < cluster.regions) (homes_of txn) valid.homes home h
@@ -239,7 +239,7 @@ module _ {cluster : Cluster} {workload : Workload} {events : List Event} (some :
       no_wait id is = by (outcome_at w region id) refl
         where
           wait : WaitsAt cluster w session place id
-          wait = waiting_for cluster workload w good.order good.inv session place id (subst (λ q. q < cluster.regions) (sym its.2) lr) its.3 is
+          wait = waiting_for good.inv session place id (subst (λ q. q < cluster.regions) (sym its.2) lr) its.3 is
 
           is_done : Has (done_ids (node_in v region).site.region.state.here) id
           is_done = done_here region lr id wait.submission.txn (ap (option_map (λ (s : Submission). s.txn)) wait.found)

@@ -31,7 +31,7 @@ module _ {cluster : Cluster} (ok : IsValidCluster cluster) {workload : Workload}
       → HasInvariant cluster workload (world_from cluster workload w events) × HaveGrown w (world_from cluster workload w events)
   worlds_grow [] w good legal = (good, λ q. grown_refl (node_at w q))
   worlds_grow (e ∷ events) w good legal =
-      let then : HasInvariant cluster workload (next cluster workload w e) = record { order = ordered good.order e; inv = next_keeps cluster ok workload fits w good.order e legal.0 good.inv } in
+      let then : HasInvariant cluster workload (next cluster workload w e) = record { order = ordered good.order e; inv = next_keeps ok fits w good.order e legal.0 good.inv } in
       let rest = worlds_grow events (next cluster workload w e) then legal.1 in
       (rest.0, λ q. grown_trans (node_at w q) (node_at (next cluster workload w e) q) _ (legal_grows cluster workload w e good legal.0 q) (rest.1 q))
 

@@ -23,7 +23,7 @@ use Rattle.dt_session.specs.World.{World, Node, Place, no_node, node_at, opening
 use Rattle.dt_session.specs.Step.{IsLegal, MayAnswer, MaySubmit, answered, next, next_attempt, placed, received}
 use Rattle.dt_session.specs.Run.{AreLegal, world_after, world_from}
 use Rattle.dt_session.specs.Eager.{AllChange}
-use Rattle.dt_agreement.proofs.Callers.{Submits, append_cases, legal_more, submits, world_after_more}
+use Rattle.dt_agreement.proofs.Callers.{Submits, append_cases, legal_more, next_call_submits, world_after_more}
 use Rattle.dt_merge.specs.Merge.{region_at, those_at}
 use Rattle.dt_merge.specs.OwnPart.{Own, own}
 use Rattle.dt_merge.specs.WorldRegions.{HasInvariant}
@@ -54,7 +54,7 @@ module _ {cluster : Cluster} (ok : IsValidCluster cluster) (workload : Workload)
 
   submit_counts : (name : Bytes) → MaySubmit cluster w region (session_at workload.sessions w.places region name) → Counts (Submit region name) (node_at w region) (node_at (next cluster workload w (Submit region name)) region)
   submit_counts name may =
-      let s : Submits cluster workload w region name = submits cluster ok workload w g.order region name may g.inv in
+      let s : Submits cluster workload w region name = next_call_submits g.inv ok region name may in
       subst (λ v. Counts (Submit region name) (node_at w region) (node_at v region)) (sym s.next)
       (by_own (Submit region name) _ _ (own_submitted cluster workload w region (node_there g region lr) s.session s.place s.call) (record {
         submitted = length_push (node_at w region).submitted (attempt_of_own cluster region s.session s.place s.call (own workload w region) (next_attempt w s.place.waits));
@@ -63,7 +63,7 @@ module _ {cluster : Cluster} (ok : IsValidCluster cluster) (workload : Workload)
 
   append_counts : (source number : ℕ) → IsLegal cluster workload w (Append region source number) → next cluster workload w (Append region source number) ≢ w
       → Counts (Append region source number) (node_at w region) (node_at (next cluster workload w (Append region source number)) region)
-  append_counts source number l changes = elim (append_cases cluster workload w g.order region source number l.regions.0 l.regions.1 l.allowed g.inv) [
+  append_counts source number l changes = elim (append_cases g.inv region source number l.regions.0 l.regions.1 l.allowed) [
     | inl same ↦ absurd (changes same)
     | inr r ↦ subst (λ v. Counts (Append region source number) (node_at w region) (node_at v region)) (sym r.2) (made r.0)
   ]

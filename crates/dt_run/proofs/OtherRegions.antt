@@ -39,14 +39,14 @@ module _ {cluster : Cluster} (ok : IsValidCluster cluster) {workload : Workload}
       → WorldGoesOn cluster workload region w (world_from cluster workload w events)
   goes_on region [] w good legal mine = record { before = good; after = good; grown = λ q. grown_refl (node_at w q); txns = λ id txn e. e; others = λ q n. refl }
   goes_on region (e ∷ events) w good legal mine =
-      let then : HasInvariant cluster workload (next cluster workload w e) = record { order = ordered good.order e; inv = next_keeps cluster ok workload fits w good.order e legal.0 good.inv } in
+      let then : HasInvariant cluster workload (next cluster workload w e) = record { order = ordered good.order e; inv = next_keeps ok fits w good.order e legal.0 good.inv } in
       let rest = goes_on region events (next cluster workload w e) then legal.1 mine.1 in
       record {
         before = good;
         after = rest.after;
         grown = λ q. grown_trans (node_at w q) (node_at (next cluster workload w e) q) (node_at (world_from cluster workload (next cluster workload w e) events) q)
             (legal_grows cluster workload w e good legal.0 q) (rest.grown q);
-        txns = λ id txn f. rest.txns id txn (next_txns cluster ok workload fits w good.order e legal.0 good.inv id txn f);
+        txns = λ id txn f. rest.txns id txn (next_txns ok fits w good.order e legal.0 good.inv id txn f);
         others = λ q n. rest.others q n ∙ frame cluster workload w q e (λ is. n (sym is ∙ mine.0));
       }
 

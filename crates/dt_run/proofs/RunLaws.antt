@@ -97,7 +97,7 @@ module _ {v : NodesView} (n : AreNodes v) (sound : v.broken ≡ false) (some : 1
 
   answered : AreAnswered v.workload.sessions whole.places
   answered = all_answered v.workload.sessions whole.places
-      (each_found (λ t p. p.answered ≡ length t.calls) v.workload.sessions whole.places (sym (places_parallel v.cluster v.workload whole good.order good.inv)) n.workload.names_once each)
+      (each_found (λ t p. p.answered ≡ length t.calls) v.workload.sessions whole.places (sym (places_parallel good.inv)) n.workload.names_once each)
     where
       each : (t : Session) → Has v.workload.sessions t → (p : Place) → session_at v.workload.sessions whole.places t.region t.name ≡ Some (t, p) → p.answered ≡ length t.calls
       each t h p e =

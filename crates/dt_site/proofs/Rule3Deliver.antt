@@ -36,7 +36,7 @@ use Rattle.dt_agreement.proofs.Callers.{log_distinct, part_homed, received_withi
 use Rattle.dt_site.specs.Site.{SiteView, in_region, node_of}
 use Rattle.dt_site.specs.StandsIn.{IsReached, StandsIn}
 use Rattle.dt_site.proofs.Lists.{fronts_set, held_all}
-use Rattle.dt_site.proofs.SitesInWorlds.{Steps, inv, node_then, order, own_of, txns_stay, valid_txn}
+use Rattle.dt_site.proofs.SitesInWorlds.{Steps, inv, node_then, own_of, txns_stay, valid_txn}
 
 -- a list up to one place, and from there to a later one
 
@@ -93,7 +93,7 @@ module _ {cluster : Cluster} {workload : Workload} {w : World} (k : IsReached cl
   has_log = ap (λ l. log_at l home) s.logs ∙ received_log w region home
 
   in_log : received_of w region home ≤ length (log_of w home)
-  in_log = received_within cluster workload w (order k) (inv k) region home lr lh
+  in_log = received_within (inv k) region home lr lh
 
   pub has_received : length has_of ≡ received_of w region home
   has_received = ap length has_log ∙ length-take-le (received_of w region home) (log_of w home) in_log
@@ -202,7 +202,7 @@ module _ {cluster : Cluster} {workload : Workload} {w : World} (k : IsReached cl
         });
         distinct = λ le. subst (λ l. Distinct (ids_of l)) (sym (log_then le).3)
             (each_front _ (ids_of (take (log_then le).0 (log_of w home))) (ids_of (log_of w home)) (front_map (λ p. p.id) (take (log_then le).0 (log_of w home)) (log_of w home) (front_take (log_then le).0 (log_of w home)))
-            (log_distinct cluster workload w (order k) (inv k) home lh));
+            (log_distinct (inv k) home lh));
         few = λ le. let a : parts_in logs_with ≤ parts_in (logs_of w) = few other le in omega (arith, a, short);
       }
 

@@ -189,7 +189,7 @@ seat_alike {cluster} {workload} {w} {order} i v {region} lr attempts name (Some 
         → ◌≡◌ {A = Option Seat} (Some (seat_in w (session, record place { waits = waits }))) (Some (seat_in v (session, record place { waits = waits })))
     go None is = refl
     go (Some id) is =
-        let wait : WaitsAt cluster w session place id = waiting_for cluster workload w order i session place id (subst (λ q. q < cluster.regions) (sym r.2) lr) r.3 is in
+        let wait : WaitsAt cluster w session place id = waiting_for i session place id (subst (λ q. q < cluster.regions) (sym r.2) lr) r.3 is in
         let stays : attempt_of w id ≡ attempt_of v id = attempts id wait.submission wait.found (wait.region ∙ r.2) in
         λ i. Some (record { calls = session.calls; answered = place.answered; waits = Some (record { id = id; attempt = stays i }) })
 
@@ -205,7 +205,7 @@ module _ {cluster : Cluster} {workload : Workload} {w : World} (k : IsReached cl
   later = next cluster workload w event
 
   attempt_stays : (id : TxnId) (x : Submission) → submission_of w id ≡ Some x → attempt_of later id ≡ attempt_of w id
-  attempt_stays id x found = attempt_found later id x (next_found cluster k.run.sound workload k.run.fits w (order k) event legal (inv k) id x found) ∙ sym (attempt_found w id x found)
+  attempt_stays id x found = attempt_found later id x (next_found k.run.sound k.run.fits w (order k) event legal (inv k) id x found) ∙ sym (attempt_found w id x found)
 
   -- a session that stands where it stood is kept as it was
   seat_stays : (region : ℕ) → region < cluster.regions → (name : Bytes) (o : Option (Session × Place)) → session_at workload.sessions w.places region name ≡ o

@@ -26,7 +26,7 @@ use Rattle.dt_session.specs.Agreement.{WaitsFor}
 use Rattle.dt_agreement.specs.Invariant.{Inv, IsExecutedAt, IsPlaceOf}
 use Rattle.dt_agreement.specs.LegalRun.{IsLegalRun}
 use Rattle.dt_agreement.proofs.Callers.{answered_done, lookup_has, WaitsAt, places_parallel, from_region, submission_is_found, waiting_for}
-use Rattle.dt_agreement.proofs.Callers.{legal_agree, legal_keeps, run_front, world_after_more, session_found, session_of_test, find_has, Submits, submits}
+use Rattle.dt_agreement.proofs.Callers.{legal_agree, legal_keeps, run_front, world_after_more, session_found, session_of_test, find_has, Submits, next_call_submits}
 use Rattle.dt_world.specs.WorldSessions.{no_session}
 use Rattle.dt_world.specs.SessionReplayInner.{IsReply, after_reply, after_submission, replay_of, count_at, wait_at}
 use Rattle.dt_world.specs.WorldReport.{IsReplyOf, answered_session, replies_from, reply_for, reply_to}
@@ -92,7 +92,7 @@ module _ {cluster : Cluster} {workload : Workload} (xs ys : List Event) (event :
   now_inv = legal_keeps before.0
 
   pub now_places : length (world_after cluster workload xs).places ≡ length workload.sessions
-  now_places = sym (places_parallel cluster workload (world_after cluster workload xs) (order_of xs) now_inv)
+  now_places = sym (places_parallel now_inv)
 
   -- the session that it submits for or answers is one of the workload
   pub now_listed : (region : ℕ) (name : Bytes) → (event ≡ Submit region name) ⊎ (event ≡ Answer region name) → ¬ (position (is_session region name) workload.sessions ≡ None)
@@ -131,8 +131,7 @@ module _ {cluster : Cluster} {workload : Workload} (xs ys : List Event) (region 
         (now_legal xs ys (Submit region name) run).regions
 
     r : Submits cluster workload submit_before region name
-    r = submits cluster run.sound workload submit_before (order_of xs) region name (now_legal xs ys (Submit region name) run).allowed
-        (now_inv xs ys (Submit region name) run)
+    r = next_call_submits (now_inv xs ys (Submit region name) run) run.sound region name (now_legal xs ys (Submit region name) run).allowed
 
     found_own : position (is_session region r.session.name) workload.sessions ≡ Some place
     found_own = subst (λ n. position (is_session region n) workload.sessions ≡ Some place) (sym r.named) found
@@ -227,7 +226,7 @@ module _ {cluster : Cluster} {workload : Workload} (xs ys : List Event) (region 
           let x : Has workload.sessions session × (session.name ≡ name) × (session.region ≡ region) × IsPlaceOf cluster.tries answer_before session seat =
           session_found (IsPlaceOf cluster.tries answer_before) workload.sessions answer_before.places region name session seat
           (now_inv xs ys (Answer region name) run).sessions.places at_session in
-          waiting_for cluster workload answer_before (order_of xs) (now_inv xs ys (Answer region name) run) session seat id
+          waiting_for (now_inv xs ys (Answer region name) run) session seat id
           (subst (λ q. q < cluster.regions) (sym x.2) answer_region) x.3 waits_here
 
       pub answer_own : id.region ≡ region
