@@ -3,7 +3,7 @@
 use Rattle.std.proofs.Common.{◌≡◌, ◌≢◌, ◌⊎◌, ℕ, ◌<◌, ◌≤◌, Bool, true, false, not, ◌==◌, ◌||◌, nat_lt, if◌then◌else◌, List, [], ◌∷◌, ◌++◌, map, Result, Ok, Err, OnOk, OnErr}
 use Rattle.std.proofs.Common.{◌+◌, ◌^◌, length, Option, None, Some, refl, ap, sym, subst, inl, inr, arith, ◌∙◌}
 use Rattle.std.specs.List.{filter}
-use Rattle.std.proofs.lemmas.Bool.{and_from, false≢true, true≢false}
+use Rattle.std.proofs.lemmas.Bool.{and_from, false≢true, or_left, or_right, true≢false}
 use Rattle.slab.specs.Slab.{Updates, get}
 use Rattle.dt_lists.specs.Lists.{AnyIn, Has}
 use Rattle.dt_lists.proofs.Callers.{any_append, any_append_right, any_get, any_of_image, any_put, either_any, either_le, either_nat, front_length, has_filter, has_longer, has_of_filtered}
@@ -252,16 +252,11 @@ first_of_takers k kept g top o within first m h = by o first
 
 -- what waits in a row shows
 pub told_used : (k : Kept) (row : ℕ) (m : Mark) → IsOfRow k row m → is_used (lanes_read k.rows.table.items) (lanes_written k.rows.table.items) row ≡ true
-told_used k row m h = either _ _ (elim h [ inl r ↦ inl (some (lane k Read row) m r) | inr w ↦ inr (some (lane k Write row) m w) ])
+told_used k row m h = elim h [ inl r ↦ or_left _ _ (some (lane k Read row) m r) | inr w ↦ or_right _ _ (some (lane k Write row) m w) ]
   where
     some : (ms : List Mark) (m : Mark) → Has ms m → not (length ms == 0) ≡ true
     some [] m h = absurd h
     some (x ∷ ms) m h = grind arith
-
-    either : (a b : Bool) → (a ≡ true) ⊎ (b ≡ true) → (a || b) ≡ true
-    either true b e = refl
-    either false b (inl e) = cc
-    either false b (inr e) = e
 
 pub listed_tidied : (k : Kept) (granule first : ℕ) (new : ListedRows) → AreRowsListed k → ((m : Mark) → Has (lane k Whole granule) m → first ≤ m.number)
     → Tidies granule first (lanes_read k.rows.table.items) (lanes_written k.rows.table.items) k.listed new → AreRowsListed (record k { listed = new })

@@ -83,11 +83,8 @@ module _ {cluster : Cluster} {workload : Workload} {seats seats' seats'' : List 
   legal_parts = legal_append cluster workload (opening_world cluster workload) (events_of n.all) (events_of (new_below (node_in v) (node_in v') cluster.regions))
       (subst (AreLegal cluster workload) (map-append (λ (x : Stamped). x.event) n.all (new_below (node_in v) (node_in v') cluster.regions)) (chronicle_now a sound turned false).legal)
 
-  some : 0 < cluster.regions
-  some = let one = n.cluster.some in omega (arith, one)
-
   good : HasInvariant cluster workload w
-  good = good_world (n.stand 0 some).fits
+  good = good_world (n.stand 0 n.cluster.some).fits
 
   later_is : later ≡ world_from cluster workload w (events_of (new_below (node_in v) (node_in v') cluster.regions))
   later_is = ap (world_after cluster workload) (map-append (λ (x : Stamped). x.event) n.all (new_below (node_in v) (node_in v') cluster.regions))
@@ -97,7 +94,7 @@ module _ {cluster : Cluster} {workload : Workload} {seats seats' seats'' : List 
   grown = subst (HaveGrown w) (sym later_is) (worlds_grow n.cluster n.workload (events_of (new_below (node_in v) (node_in v') cluster.regions)) w good legal_parts.1).1
 
   good_later : HasInvariant cluster workload later
-  good_later = good_world (stand_now a sound turned false 0 some).fits
+  good_later = good_world (stand_now a sound turned false 0 n.cluster.some).fits
 
   fronts : (source home : ℕ) → source < cluster.regions → home < cluster.regions
       → IsFront (get_or (node_in v source).site.region.state.here.asked home []) (get_or (node_in v' source).site.region.state.here.asked home [])

@@ -48,7 +48,7 @@ module _ {cluster : Cluster} {workload : Workload} {seats : List SeatView} {brok
     -- the seats as they are counted
     module _ {given : List SeatView} (given_is : given ≡ left) where
       pub kept_fits : sum_by events_at given < 2 ^ 64
-      kept_fits = subst (λ l. sum_by events_at l < 2 ^ 64) (sym given_is) (counting.kept_fits r.seated sound counted seated phase ends)
+      kept_fits = subst (λ l. sum_by events_at l < 2 ^ 64) (sym given_is) (counting.kept_fits seated)
 
       pub quiet_fits : counts.quiet < length (seat_at given 0).marks
       quiet_fits = subst (λ l. counts.quiet < length (seat_at l 0).marks) (sym given_is) (counting.quiet_fits r.seated sound counted seated phase ends)

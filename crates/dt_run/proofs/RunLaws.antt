@@ -59,11 +59,8 @@ module _ {v : NodesView} (n : AreNodes v) (sound : v.broken ≡ false) (some : 1
   abbrev whole : World
   whole = world_after v.cluster v.workload (events_of n.all)
 
-  one : 0 < v.cluster.regions
-  one = let s = n.cluster.some in omega (arith, s)
-
   first : NodeFits v.cluster v.workload (events_of n.all) (node_in v 0)
-  first = (n.stand 0 one).fits
+  first = (n.stand 0 n.cluster.some).fits
 
   good : HasInvariant v.cluster v.workload whole
   good = good_world first
@@ -90,7 +87,7 @@ module _ {v : NodesView} (n : AreNodes v) (sound : v.broken ≡ false) (some : 1
           ∙ ap events_of (merge_keeps (kept_by v.nodes) (are_kept n.chronicle) m.merged m.is region ∙ get_or-map (λ (x : NodeView). x.site.region.events) v.nodes region no_running_node)
 
       phases : step.made ≢ 0
-      phases e = let k : length (marks_at v 0) ≡ step.made = (step.each 0 one).marks.many in absurd (omega (arith, k, e, some))
+      phases e = let k : length (marks_at v 0) ≡ step.made = (step.each 0 n.cluster.some).marks.many in absurd (omega (arith, k, e, some))
 
       begun : BeganEagerly v.cluster v.workload region (kept_by_region v region)
       begun = (step.each region lr).begun phases

@@ -16,7 +16,6 @@ use Rattle.dt_table.specs.Table.{shown}
 use Rattle.dt_cluster.specs.declared.Cluster.{Cluster}
 use Rattle.dt_workload.specs.declared.Workload.{Workload}
 use Rattle.dt_merge.specs.Merge.{IsMerge}
-use Rattle.dt_merge.specs.Weight.{most_events}
 use Rattle.dt_site.specs.Site.{SiteView}
 use Rattle.dt_gen.specs.Summary.{answer_count, is_answer, kept_answers, row_sum, summary_text}
 use Rattle.dt_world.specs.WorldReport.{report_of, tables_of}
@@ -26,11 +25,9 @@ use Rattle.dt_run.specs.NodesStand.{AreNodes}
 use Rattle.dt_run.specs.NodesView.{NodesView, kept_by, marks_at, no_running_node, node_in}
 use Rattle.dt_run.specs.Run.{AreMerged, IsRunSummary}
 use Rattle.dt_run.specs.SeatsInner.{AreSeated, SeatView, answers_at, events_at, nodes_view, seat_at}
-use Rattle.dt_run.specs.Silence.{all_kept_in}
-use Rattle.dt_run.proofs.Laws.{are_kept, merge_exists, merge_sums, most_few, tables_are}
-use Rattle.dt_run.proofs.RunEnds.{kept_few}
+use Rattle.dt_run.proofs.Laws.{are_kept, merge_exists, merge_sums, tables_are}
 use Rattle.dt_run.proofs.RunLaws.{run_report, sites_after}
-use Rattle.dt_run.proofs.SeatCounts.{kept_seen}
+use Rattle.dt_run.proofs.SeatCounts.{kept_fits}
 use Rattle.dt_run.proofs.WaitingPackets.{node_is, one_for_each}
 
 -- the answers among events, with or without their stamps
@@ -100,17 +97,10 @@ answers_within (s ∷ seats) =
 
 -- seats, as the code goes through them
 module _ {cluster : Cluster} {workload : Workload} {seats : List SeatView} {broken : Bool} (a : AreSeated cluster workload seats broken) where
-  kept_fits : sum_by events_at seats < 2 ^ 64
-  kept_fits =
-      let seen : sum_by events_at seats ≡ all_kept_in (nodes_view cluster workload seats broken) = kept_seen cluster workload seats broken (one_for_each a) in
-      let few : all_kept_in (nodes_view cluster workload seats broken) ≤ most_events cluster workload = kept_few a.nodes in
-      let most : most_events cluster workload ≤ 24640000 = most_few cluster a.nodes.cluster workload a.nodes.workload in
-      omega (arith, seen, few, most)
-
   pub answers_fit : sum_by answers_at seats < 2 ^ 64
   answers_fit =
       let few : sum_by answers_at seats ≤ sum_by events_at seats = answers_within seats in
-      let fits : sum_by events_at seats < 2 ^ 64 = kept_fits in
+      let fits : sum_by events_at seats < 2 ^ 64 = kept_fits a in
       omega (arith, few, fits)
 
   pub some_seat : 0 < length seats

@@ -2,7 +2,7 @@
 use Rattle.std.proofs.Common.{◌≡◌, ◌<◌, ◌≤◌, ◌⊎◌, ◌↔◌, ◌∙◌, ℕ, List, [], ◌∷◌, ◌++◌, length, map, slice_get, Option, None}
 use Rattle.std.proofs.Common.{Some, refl, sym, ap, subst, inl, inr, arith}
 use Rattle.dt_lists.specs.Lists.{AllIn, Has, EachThen, Either}
-use Rattle.dt_lists.proofs.Callers.{all_get, all_put, any_get, any_of_image, any_put, either_has, either_nat, has_last, has_longer, has_map, has_more, has_place, place_in_longer, last_place}
+use Rattle.dt_lists.proofs.Callers.{all_get, all_put, any_get, any_put, either_has, either_nat, has_last, has_longer, has_map, has_more, has_place, place_in_longer, last_place}
 use Rattle.dt_lists.proofs.Callers.{pairwise_more}
 use Rattle.dt_lists.specs.Chain.{here}
 use Rattle.dt_access.specs.declared.TxnId.{TxnId}
@@ -16,7 +16,7 @@ use Rattle.dt_waits.specs.Steps.{Resolves}
 use Rattle.dt_waits.proofs.LeftTransactions.{resolvable_waits}
 use Rattle.dt_waits.proofs.OrderlyStates.{orderly_resolve}
 use Rattle.dt_waits.proofs.ExecutableTest.{executable_in_resolved}
-use Rattle.dt_waits.proofs.DegreeZero.{same_place}
+use Rattle.dt_waits.proofs.DegreeZero.{place_listed, same_place}
 use Rattle.dt_waits.proofs.InsertStep.{in_resolved_decided}
 use Rattle.dt_waits.proofs.RunInOrder.{next_of_soonest, sooner_of_next}
 
@@ -72,9 +72,7 @@ module _ (view : View) (resolved : List (List TxnId)) (done ids : List TxnId) (k
         least n = omega arith
 
     member : (v : ℕ) → v < length old.ids → Has ids (id_at old.ids v) → Has members v
-    member v lt h =
-        let u : (u : ℕ) × Has members u × (id_at old.ids u ≡ id_at old.ids v) = any_get _ members (any_of_image (λ y. y ≡ id_at old.ids v) (id_at old.ids) members ((same (id_at old.ids v)).1 h)) in
-        subst (Has members) (same_place old.ids u.0 v g.once (all_get _ members within u.0 u.1) lt u.2) u.1
+    member v lt h = place_listed old.ids members v g.once within lt ((same (id_at old.ids v)).1 h)
 
     of_member : (v : ℕ) → Has members v → Has ids (id_at old.ids v)
     of_member v h = (same (id_at old.ids v)).0 (has_map (id_at old.ids) members v h)
