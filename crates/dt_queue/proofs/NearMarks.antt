@@ -5,7 +5,7 @@ use Rattle.std.proofs.Common.{refl, ap, sym, subst, inl, inr, arith, ◌∙◌, 
 use Rattle.std.specs.List.{filter}
 use Rattle.std.proofs.lemmas.Bool.{cases_lt, cases_order}
 use Rattle.dt_lists.specs.Lists.{Has}
-use Rattle.dt_lists.proofs.Callers.{all_get, filter_each, has_filter, has_of_filtered}
+use Rattle.dt_lists.proofs.Callers.{all_get, filter_each, has_filter, has_of_filtered, some_same}
 use Rattle.dt_queue.specs.declared.mark.Mark.{Mark}
 use Rattle.std.proofs.lemmas.List.{append-nil}
 use Rattle.std.proofs.Math.Nat.{lt_trans}
@@ -190,12 +190,9 @@ next_write reads writes low high (Some w) row first empty m = (
       ])
     ])
   ]),
-  λ e. subst (IsNextInRow reads writes low high) (of_some e) next_w,
+  λ e. subst (IsNextInRow reads writes low high) (some_same e) next_w,
 )
   where
-    of_some : Some w ≡ Some m → w ≡ m
-    of_some e = cc
-
     not_before : (k : Mark) → k.number < w.number → w.number ≤ k.number → ⊥
     not_before k a b = omega (arith, a, b)
 
@@ -254,11 +251,8 @@ next_first ms low high (Some w) num l m = (
     | inl e ↦ e
     | inr other ↦ absurd (elim other [ inl less ↦ p.2 w l.0 (l.1.0, less) | inr gt ↦ before m (l.2 m p.0 p.1) gt ])
   ])),
-  λ e. subst (IsFirstIn ms low high) (of_some e) (l.0, l.1, λ k g b. before k (l.2 k g (b.0, lt_trans b.1 l.1.1)) b.1),
+  λ e. subst (IsFirstIn ms low high) (some_same e) (l.0, l.1, λ k g b. before k (l.2 k g (b.0, lt_trans b.1 l.1.1)) b.1),
 )
   where
-    of_some : Some w ≡ Some m → w ≡ m
-    of_some e = cc
-
     before : (k : Mark) → w.number ≤ k.number → k.number < w.number → ⊥
     before k le lt = omega (arith, le, lt)

@@ -5,7 +5,7 @@ use Rattle.std.proofs.lemmas.Bool.{cases_order, false≢true}
 use Rattle.std.proofs.Math.Nat.{lt_trans}
 use Rattle.slab.specs.Slab.{get}
 use Rattle.dt_lists.specs.Lists.{Has}
-use Rattle.dt_lists.proofs.Callers.{any_get, any_put}
+use Rattle.dt_lists.proofs.Callers.{any_get, any_put, some_same}
 use Rattle.dt_access.specs.Clash.{is_whole}
 use Rattle.dt_access.specs.declared.access.Mode.{Mode}
 use Rattle.dt_access.specs.declared.access.Mode.TheVariants.{Read, Write, Whole}
@@ -254,11 +254,8 @@ module _ (k : Kept) (kept : AreQueuesKept k) (x : Cell) (waits : IsKeptCell k x)
 
           above : IsNextMark k x m → x.number < m.number
           above n = omega (arith, n.3, number_of_mark k m n.0 (record { there = n.1; is = n.2 }))
-      by (Some w) l none all = (λ n. ap Some (is_w n), λ e. subst (IsNextMark k x) (of_some e) next_w)
+      by (Some w) l none all = (λ n. ap Some (is_w n), λ e. subst (IsNextMark k x) (some_same e) next_w)
         where
-          of_some : Some w ≡ Some m → w ≡ m
-          of_some e = cc
-
           next_w : IsNextMark k x w
           next_w =
               let d = cell_of k kept Whole (granule_at (links k.rows) x.row) w l.0 in

@@ -2,7 +2,7 @@
 -- sooner ones are.
 use Rattle.std.proofs.Common.{◌≡◌, ◌≢◌, ◌⊎◌, ◌∙◌, ℕ, zero, suc, List, [], ◌∷◌, ◌++◌, take, drop, set, slice_get, Some, refl, sym, ap, subst, inl, inr, arith}
 use Rattle.dt_lists.specs.Lists.{AllIn, Has, EachThen, Pairwise}
-use Rattle.dt_lists.proofs.Callers.{all_get, all_map, all_put, has_longer, has_more, has_dropped}
+use Rattle.dt_lists.proofs.Callers.{all_get, all_map, all_put, has_last, has_longer, has_more, has_dropped}
 use Rattle.dt_access.specs.declared.TxnId.{TxnId}
 
 -- an item is in a front of a list, or in the rest
@@ -68,11 +68,7 @@ module _ (S : TxnId → TxnId → Type 0) (irreflexive : (x : TxnId) → ¬ (S x
 
   -- when the next one is done too, the front is longer by one
   pub front_longer : (t : TxnId) → slice_get ts n ≡ Some t → AllIn (Has (done ++ t ∷ [])) (take (suc n) ts)
-  front_longer t e = take_more (Has (done ++ t ∷ [])) n ts t e (all_map _ _ (take n ts) (λ u h. has_longer done (t ∷ []) u h) front_done) (last done)
-    where
-      last : (xs : List TxnId) → Has (xs ++ t ∷ []) t
-      last [] = inl refl
-      last (x ∷ xs) = inr (last xs)
+  front_longer t e = take_more (Has (done ++ t ∷ [])) n ts t e (all_map _ _ (take n ts) (λ u h. has_longer done (t ∷ []) u h) front_done) (has_last done t)
 
   pub rest_shorter : (t : TxnId) → slice_get ts n ≡ Some t → AllIn (λ u. ¬ (Has (done ++ t ∷ []) u)) (drop (suc n) ts)
   rest_shorter t e = all_put _ (drop (suc n) ts) (λ u h d. elim (has_more done t u d) [
