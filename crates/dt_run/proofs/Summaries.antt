@@ -3,6 +3,7 @@
 use Rattle.std.proofs.Common.{◌≡◌, ◌<◌, ◌≤◌, ◌+◌, ◌^◌, ℕ, Bool, false, cond, List, [], ◌∷◌, length, map, get_or, refl, sym, ap, ◌∙◌, arith}
 use Rattle.std.proofs.Common.{Result, Ok, Err, IfOk, Vec}
 use Rattle.std.specs.Prelude.{sum_by}
+use Rattle.std.proofs.lemmas.List.{get_or-map}
 use Rattle.std.proofs.lemmas.List.Sums.{count_by-le-length, sum_by-cons}
 use Rattle.std.proofs.lemmas.Simd.{map-map}
 use Rattle.dt_lists.proofs.Callers.{sum_mapped}
@@ -37,11 +38,6 @@ count_answers (x ∷ xs) =
     sum_by-cons (λ event. cond (is_answer event) 1 0) x.event (events_of xs) ∙ ap (λ n. cond (is_answer x.event) 1 0 + n) (count_answers xs)
     ∙ sym (sum_by-cons (λ (y : Stamped). cond (is_answer y.event) 1 0) x xs)
 
--- what a list has first, seen through something
-first_seen : {X Y : Type 0} (f : X → List Y) (xs : List X) (d : X) → 0 < length xs → get_or (map f xs) 0 [] ≡ f (get_or xs 0 d)
-first_seen f [] d lt = absurd (omega (arith, lt))
-first_seen f (x ∷ xs) d lt = refl
-
 -- the nodes that are done
 module _ {v : NodesView} (n : AreNodes v) (sound : v.broken ≡ false) (some : 1 ≤ length (marks_at v 0)) (d : IsAllDone v) where
   merge : (merged : List Stamped) × IsMerge (kept_by v.nodes) merged
@@ -66,7 +62,7 @@ module _ {v : NodesView} (n : AreNodes v) (sound : v.broken ≡ false) (some : 1
       let one : 0 < v.cluster.regions = n.cluster.some in
       let many : length v.nodes ≡ v.cluster.regions = n.many in
       ap (λ t. get_or t 0 []) (sym tables ∙ map-map (λ (p : SiteView). shown p.region.state.here.table) (λ (x : NodeView). x.site) v.nodes)
-      ∙ first_seen (λ (x : NodeView). shown x.site.region.state.here.table) v.nodes no_running_node (omega (arith, one, many))
+      ∙ get_or-map (λ (x : NodeView). shown x.site.region.state.here.table) v.nodes 0 no_running_node [] (omega (arith, one, many))
 
   summary_is : (calls answers : ℕ) (rows : List Shown) → answers ≡ sum_by kept_answers (kept_by v.nodes) → rows ≡ shown (node_in v 0).site.region.state.here.table
       → (text : Bytes) → text ≡ summary_text calls answers (row_sum rows) → IsRunSummary v calls text

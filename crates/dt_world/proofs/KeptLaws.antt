@@ -2,6 +2,7 @@
 use Rattle.std.proofs.Common.{eq-eqb, eqb-true, ◌≡◌, ◌<◌, ℕ, Bool, true, false, cond, eqb, ◌&&◌, List, [], ◌∷◌, ◌++◌, length, get_or, set, replicate, refl}
 use Rattle.std.proofs.Common.{sym, ap, subst, ◌∙◌, inl, inr, append_assoc, append-nil}
 use Rattle.std.proofs.lemmas.Bool.{false_from_ne_true}
+use Rattle.std.proofs.Math.Bool.{and-false}
 use Rattle.std.proofs.lemmas.List.{get_or-set_same, get_or-set_other, length-set, length-replicate}
 use Rattle.dt_lists.specs.Lists.{Either}
 use Rattle.dt_lists.proofs.Callers.{either_nat, get_of_replicate}
@@ -28,11 +29,7 @@ keep_adds kept w event region lt = go (takes_effect w event) (either_nat region 
         (subst (λ q. get_or (set kept q (get_or kept q [] ++ event ∷ [])) region [] ≡ get_or kept region [] ++ event ∷ []) e (get_or-set_same kept region (get_or kept region [] ++ event ∷ []) [] lt))
     go true (inr n) = rw (false_from_ne_true (eqb (region_of event) region) (λ t. n (sym (eqb-true (region_of event) region t))))
         (get_or-set_other kept (region_of event) region (get_or kept (region_of event) [] ++ event ∷ []) [] n ∙ sym (append-nil (get_or kept region [])))
-    go false either = sym (ap (λ b. get_or kept region [] ++ cond b (event ∷ []) []) (none (eqb (region_of event) region)) ∙ append-nil (get_or kept region []))
-      where
-        none : (b : Bool) → (b && false) ≡ false
-        none true = refl
-        none false = refl
+    go false either = sym (ap (λ b. get_or kept region [] ++ cond b (event ∷ []) []) (and-false (eqb (region_of event) region)) ∙ append-nil (get_or kept region []))
 
 keep_long : (kept : List (List Event)) (w : World) (event : Event) → length (kept_next w kept event) ≡ length kept
 keep_long kept w event = go (takes_effect w event)
