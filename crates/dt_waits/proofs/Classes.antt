@@ -20,7 +20,7 @@ use Rattle.dt_waits.specs.Graph.{GraphView, KeepsGraph, IsStuck}
 use Rattle.dt_waits.specs.Among.{HasNeighbour, IsAmong, WaitsOutside}
 use Rattle.dt_waits.proofs.LeftTransactions.{done_left, left_after, left_decided, out_of_not_left, resolvable_apart, resolvable_left, undone_before}
 use Rattle.dt_waits.proofs.ChainsOfWaits.{edge_of_waits, free_by_queues, reach_by_queues}
-use Rattle.dt_waits.proofs.DegreeZero.{place_has, place_listed, same_place}
+use Rattle.dt_waits.proofs.DegreeZero.{place_has, place_in_list, same_place}
 use Rattle.dt_waits.proofs.NeighbourChains.{neighbour_waits}
 
 module _ (view : View) (resolved : List (List TxnId)) (done : List TxnId) (k : IsOrderly view resolved done) (g : GraphView) (is : KeepsGraph view resolved done g) where
@@ -242,7 +242,7 @@ module _ (view : View) (resolved : List (List TxnId)) (done : List TxnId) (k : I
       of_list v h = (members (id_at g.ids v)).0 (has_map (id_at g.ids) list v h)
 
       in_list : (v : ℕ) → v < length g.ids → Has ids (id_at g.ids v) → Has list v
-      in_list v lt h = place_listed g.ids list v is.once in_ids lt ((members (id_at g.ids v)).1 h)
+      in_list v lt h = place_in_list g.ids list v is.once in_ids lt ((members (id_at g.ids v)).1 h)
 
       all_stuck : (v : ℕ) → Has list v → Has g.stuck v
       all_stuck v h = (is.stuck v).1 (all_get _ list in_ids v h, member_stuck (id_at g.ids v) (of_list v h))

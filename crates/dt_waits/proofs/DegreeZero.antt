@@ -26,8 +26,8 @@ pub place_has : (xs : List TxnId) (t : TxnId) → Has xs t → (v : ℕ) × (v <
 place_has xs t h = any_at (λ id. id ≡ t) _ xs h
 
 -- so a place whose id is that of one in a list of places is in the list
-pub place_listed : (ids : List TxnId) (list : List ℕ) (v : ℕ) → Distinct ids → AllIn (λ u. u < length ids) list → v < length ids → Has (map (id_at ids) list) (id_at ids v) → Has list v
-place_listed ids list v once within lt h =
+pub place_in_list : (ids : List TxnId) (list : List ℕ) (v : ℕ) → Distinct ids → AllIn (λ u. u < length ids) list → v < length ids → Has (map (id_at ids) list) (id_at ids v) → Has list v
+place_in_list ids list v once within lt h =
     let u : (u : ℕ) × Has list u × (id_at ids u ≡ id_at ids v) = any_get _ list (any_of_image (λ y. y ≡ id_at ids v) (id_at ids) list h) in
     subst (Has list) (same_place ids u.0 v once (all_get _ list within u.0 u.1) lt u.2) u.1
 

@@ -18,7 +18,7 @@ use Rattle.dt_waits.proofs.Sums.{filter_both, filter_same}
 use Rattle.dt_waits.proofs.Degrees.{degree_leaving}
 use Rattle.dt_waits.proofs.ChainsOfWaits.{edge_of_clash}
 use Rattle.dt_waits.proofs.Uses.{uses_left}
-use Rattle.dt_waits.proofs.DegreeZero.{either_first, free_by_degree, place_listed, zero_sum}
+use Rattle.dt_waits.proofs.DegreeZero.{either_first, free_by_degree, place_in_list, zero_sum}
 
 -- what holds of each two items by their places holds of each and each later one
 pub each_of_splits : {A : Type 0} (R : A → A → Type 0) (before xs : List A) → ((front between rest : List A) (v w : A) → before ++ xs ≡ front ++ v ∷ (between ++ w ∷ rest) → R v w) → EachThen R xs
@@ -71,7 +71,7 @@ module _ (view : View) (done later ids : List TxnId) (waiting : List Waiting) (l
   named : (v : ℕ) → v < length ids → Has leaving v ↔ Has (map (id_at ids) leaving) (id_at ids v)
   named v lt = (
     λ h. has_map (id_at ids) leaving v h,
-    λ h. place_listed ids leaving v once within lt h,
+    λ h. place_in_list ids leaving v once within lt h,
   )
 
   -- a vertex that isn't one of them is still left, if it was

@@ -16,7 +16,7 @@ use Rattle.dt_waits.specs.Steps.{Resolves}
 use Rattle.dt_waits.proofs.LeftTransactions.{resolvable_waits}
 use Rattle.dt_waits.proofs.OrderlyStates.{orderly_resolve}
 use Rattle.dt_waits.proofs.ExecutableTest.{executable_in_resolved}
-use Rattle.dt_waits.proofs.DegreeZero.{place_listed, same_place}
+use Rattle.dt_waits.proofs.DegreeZero.{place_in_list, same_place}
 use Rattle.dt_waits.proofs.InsertStep.{in_resolved_decided}
 use Rattle.dt_waits.proofs.RunInOrder.{next_of_soonest, sooner_of_next}
 
@@ -72,7 +72,7 @@ module _ (view : View) (resolved : List (List TxnId)) (done ids : List TxnId) (k
         least n = omega arith
 
     member : (v : ℕ) → v < length old.ids → Has ids (id_at old.ids v) → Has members v
-    member v lt h = place_listed old.ids members v g.once within lt ((same (id_at old.ids v)).1 h)
+    member v lt h = place_in_list old.ids members v g.once within lt ((same (id_at old.ids v)).1 h)
 
     of_member : (v : ℕ) → Has members v → Has ids (id_at old.ids v)
     of_member v h = (same (id_at old.ids v)).0 (has_map (id_at old.ids) members v h)
