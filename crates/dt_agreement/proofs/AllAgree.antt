@@ -175,6 +175,14 @@ module _ {cluster : Cluster} {workload : Workload} {w : World} {order : List Txn
       done_where_closed (view_at w region) (node_at w region).here.resolved (done_ids (node_at w region).here) (i.sound region lr).done_closed
       (record { none_executable = d.executed; none_resolvable = d.resolved }) id
 
+  -- where two see the same, the one executed what the other executed
+  drained_alike : (region other : ℕ) → region < cluster.regions → other < cluster.regions → IsDrainedAt w region → IsDrainedAt w other → view_at w region ≡ view_at w other
+      → (id : TxnId) → Has (txn_ids (executions_at w region)) id → Has (txn_ids (executions_at w other)) id
+  drained_alike region other lr lo d e same id h =
+      let done : IsExecutedAt w region id = subst (λ l. Has l id) (done_txn_ids i region lr) h in
+      let closed : IsClosed (view_at w other) id = subst (λ v. IsClosed v id) same ((drained_done region lr d id).0 done) in
+      subst (λ l. Has l id) (sym (done_txn_ids i other lo)) ((drained_done other lo e id).1 closed)
+
   module _ (region other : ℕ) (lr : region < cluster.regions) (lo : other < cluster.regions) (d : IsDrainedAt w region) (e : IsDrainedAt w other) (alike : ReceivedAlike w region other) where
     all_in : (q home : ℕ) → IsDrainedAt w q → slice_index (node_at w q).here.inserted home ≡ length (take (received_of w q home) (log_of w home))
     all_in q home x = x.inserted home ∙ ap length (received_log w q home)
@@ -186,25 +194,13 @@ module _ {cluster : Cluster} {workload : Workload} {w : World} {order : List Txn
         (λ home. all_in region home d ∙ ap (λ n. length (take n (log_of w home))) (alike home) ∙ sym (all_in other home e))
         ∙ sym (view_fronts i other lo)
 
-    there : (id : TxnId) → Has (txn_ids (executions_at w region)) id → Has (txn_ids (executions_at w other)) id
-    there id h =
-        let done : IsExecutedAt w region id = subst (λ l. Has l id) (done_txn_ids i region lr) h in
-        let closed : IsClosed (view_at w other) id = subst (λ v. IsClosed v id) same_view ((drained_done region lr d id).0 done) in
-        subst (λ l. Has l id) (sym (done_txn_ids i other lo)) ((drained_done other lo e id).1 closed)
-
-    back : (id : TxnId) → Has (txn_ids (executions_at w other)) id → Has (txn_ids (executions_at w region)) id
-    back id h =
-        let done : IsExecutedAt w other id = subst (λ l. Has l id) (done_txn_ids i other lo) h in
-        let closed : IsClosed (view_at w region) id = subst (λ v. IsClosed v id) (sym same_view) ((drained_done other lo e id).0 done) in
-        subst (λ l. Has l id) (sym (done_txn_ids i region lr)) ((drained_done region lr d id).1 closed)
-
     pub drained_agree : (node_at w region).here.table ≡ (node_at w other).here.table
     drained_agree =
         (i.tables region lr).table
         ∙ one_set cluster.procs (Precedes (logs_of w)) (opening_table cluster) (txns_of w order) (order_is_history i rooted) (executions_at w region) (executions_at w other)
         (region_members i rooted region lr) (region_members i rooted other lo)
         (region_down i rooted region lr) (region_down i rooted other lo)
-        (λ id. (there id, back id))
+        (λ id. (drained_alike region other lr lo d e same_view id, drained_alike other region lo lr e d (sym same_view) id))
         ∙ sym (i.tables other lo).table
 
 -- causes
