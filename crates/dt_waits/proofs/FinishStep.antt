@@ -237,10 +237,13 @@ module _ (view : View) (resolved : List (List TxnId)) (done : List TxnId) (t : T
             let l : IsLeft view Later (id_at old.ids u) = executable_left view resolved Later (id_at old.ids u) y in
             (l.0, λ o. l.1 (λ w r. has_longer done (t ∷ []) w (o w r)))
 
+        zero_is_free : (degree old.waiting u ≡ 0) ↔ IsFree view done (id_at old.ids u)
+        zero_is_free = free_by_degree view done old.ids old.waiting k.sound.well_formed g.uses g.once u lt
+
         free : IsFree view done (id_at old.ids u)
         free = elim (either_nat (degree old.waiting u) 0) [
-          | inl z ↦ (free_by_degree view done old.ids old.waiting k.sound.well_formed g.uses g.once u lt).0 z
-          | inr nz ↦ absurd (n ((g.stuck u).1 (lt, record { left = left; complete = f.0; apart = apart; waits = λ p. nz ((free_by_degree view done old.ids old.waiting k.sound.well_formed g.uses g.once u lt).1 p) })))
+          | inl z ↦ zero_is_free.0 z
+          | inr nz ↦ absurd (n ((g.stuck u).1 (lt, record { left = left; complete = f.0; apart = apart; waits = λ p. nz (zero_is_free.1 p) })))
         ]
 
     -- what is executable in a class that t isn't in was executable
