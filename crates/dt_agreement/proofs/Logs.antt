@@ -1,7 +1,7 @@
 -- The logs of a world: each id stands once in a log, at a home that its part names, and all parts of an id are those of
 -- its one transaction.
 use Rattle.dt_lists.proofs.Callers.{filter_none}
-use Rattle.std.proofs.Common.{◌≡◌, ◌<◌, ◌≤◌, ℕ, suc, true, false, eqb, [], length, take, Some, refl, sym, ap, subst, ◌∙◌, inl, inr, arith, eqb-true, eq-eqb}
+use Rattle.std.proofs.Common.{◌≡◌, ◌<◌, ◌≤◌, ℕ, suc, true, false, eqb, List, [], length, take, Some, refl, sym, ap, subst, ◌∙◌, inl, inr, arith, eqb-true, eq-eqb}
 use Rattle.std.proofs.lemmas.Bool.{false_from_ne_true}
 use Rattle.std.proofs.lemmas.List.{get_or_past}
 use Rattle.dt_lists.specs.Lists.{AllIn, Has, Distinct, Either}

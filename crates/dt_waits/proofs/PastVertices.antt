@@ -8,7 +8,7 @@ use Rattle.dt_access.specs.declared.TxnId.{TxnId}
 use Rattle.dt_access.specs.declared.Part.{Part}
 use Rattle.dt_sched.specs.Views.{View, HasPart, IsComplete, log_at}
 use Rattle.dt_waits.specs.declared.open.Open.{Open}
-use Rattle.dt_waits.specs.LeftInGraph.{IsInResolved, IsLeft, IsOrderly}
+use Rattle.dt_waits.specs.LeftInGraph.{IsFree, IsInResolved, IsLeft, IsOrderly}
 use Rattle.dt_waits.specs.Waits.{degree, id_at}
 use Rattle.dt_waits.specs.Graph.{GraphView, IsClassDone, IsOpened, IsPast, IsPlaceOfClass, KeepsGraph, vertex_at}
 use Rattle.dt_waits.proofs.DegreeZero.{free_by_degree, id_has}

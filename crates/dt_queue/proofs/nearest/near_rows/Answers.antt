@@ -32,7 +32,7 @@ pub returns : goal.returns
 returns c =
     let reads = lanes_read c.args.table.now in
     let writes = lanes_written c.args.table.now in
-    let near : ℕ → Mark → Type 0 = IsNearIn reads writes c.args.low c.args.high in
+    let near = IsNearIn reads writes c.args.low c.args.high in
     let rows = listed_left c.args.rows in
     let sorted = c.sort_by_key.new.self in
     let done = c.loop-row.invariant.0 in
