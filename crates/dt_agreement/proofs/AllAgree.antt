@@ -17,6 +17,7 @@ use Rattle.dt_access.specs.Clash.{Bytes}
 use Rattle.dt_access.specs.Granules.{unit_of}
 use Rattle.dt_access.proofs.Callers.{unit_again}
 use Rattle.dt_access.specs.declared.TxnId.{TxnId}
+use Rattle.dt_access.specs.declared.Access.{Access}
 use Rattle.dt_sched.specs.Views.{View, IsClosed, Precedes}
 use Rattle.dt_sched.proofs.Callers.{done_where_closed}
 use Rattle.dt_events.specs.declared.Event.{Event}
@@ -216,10 +217,14 @@ module _ {cluster : Cluster} {workload : Workload} {events : List Event} (run : 
   abbrev ran : List Txn
   ran = txns_of (world_after cluster workload events) (order_of events)
 
+  -- the entry is of a key of the unit, which it found with this counter
+  abbrev IsOfUnit : Bytes → ℕ → Access → Type 0
+  IsOfUnit unit had a = (unit_of cluster.version a.key ≡ unit) × (a.counter ≡ had)
+
   -- the unit of one of its keys is a unit
-  unit_of_some : (txn : Txn) (unit : Bytes) (had : ℕ) → AnyIn (λ a. (unit_of cluster.version a.key ≡ unit) × (a.counter ≡ had)) txn.access → unit_of cluster.version unit ≡ unit
+  unit_of_some : (txn : Txn) (unit : Bytes) (had : ℕ) → AnyIn (IsOfUnit unit had) txn.access → unit_of cluster.version unit ≡ unit
   unit_of_some txn unit had h =
-      let r = any_get (λ a. (unit_of cluster.version a.key ≡ unit) × (a.counter ≡ had)) txn.access h in
+      let r = any_get (IsOfUnit unit had) txn.access h in
       subst (λ u. unit_of cluster.version u ≡ u) r.2.0 (unit_again cluster.version r.0.key)
 
   -- a mover that ran before moves the unit itself

@@ -142,17 +142,22 @@ module _ {cluster : Cluster} {workload : Workload} (w v z : World) (gw : HasInva
       ∙ ap₂ (submit_own cluster workload region session place call) same e
       ∙ sym (own_submitted cluster workload v region (node_there gv region lr) session place call)
 
+  -- the region's own part is the same after a submission, or an answer, of this session in one world and of that in the other
+  abbrev IsSubmittedAlike : Option (Session × Place) → Option (Session × Place) → Type 0
+  IsSubmittedAlike o p = own workload (submitted cluster workload w region o) region ≡ own workload (submitted cluster workload v region p) region
+
+  abbrev IsAnsweredAlike : Option (Session × Place) → Option (Session × Place) → Type 0
+  IsAnsweredAlike o p = own workload (answered workload w region o) region ≡ own workload (answered workload v region p) region
+
   submit_local : (name : Bytes) → MaySubmit cluster w region (session_at workload.sessions w.places region name)
       → MaySubmit cluster v region (session_at workload.sessions v.places region name)
-      × (own workload (submitted cluster workload w region (session_at workload.sessions w.places region name)) region
-      ≡ own workload (submitted cluster workload v region (session_at workload.sessions v.places region name)) region)
+      × IsSubmittedAlike (session_at workload.sessions w.places region name) (session_at workload.sessions v.places region name)
   submit_local name may =
-      subst (λ o. MaySubmit cluster v region o
-      × (own workload (submitted cluster workload w region (session_at workload.sessions w.places region name)) region ≡ own workload (submitted cluster workload v region o) region))
+      subst (λ o. MaySubmit cluster v region o × IsSubmittedAlike (session_at workload.sessions w.places region name) o)
       (session_same workload w v region same name) (go (session_at workload.sessions w.places region name) refl may)
     where
       go : (o : Option (Session × Place)) → session_at workload.sessions w.places region name ≡ o → MaySubmit cluster w region o
-          → MaySubmit cluster v region o × (own workload (submitted cluster workload w region o) region ≡ own workload (submitted cluster workload v region o) region)
+          → MaySubmit cluster v region o × IsSubmittedAlike o o
       go None e m = absurd m
       go (Some (session, place)) e m = (
         subst (MayTry cluster.tries (length session.calls) place.answered) (awaited_same place.waits (waits_here name session place e)) m,
@@ -161,15 +166,13 @@ module _ {cluster : Cluster} {workload : Workload} (w v z : World) (gw : HasInva
 
   answer_local : (name : Bytes) → MayAnswer cluster w region (session_at workload.sessions w.places region name)
       → MayAnswer cluster v region (session_at workload.sessions v.places region name)
-      × (own workload (answered workload w region (session_at workload.sessions w.places region name)) region
-      ≡ own workload (answered workload v region (session_at workload.sessions v.places region name)) region)
+      × IsAnsweredAlike (session_at workload.sessions w.places region name) (session_at workload.sessions v.places region name)
   answer_local name may =
-      subst (λ o. MayAnswer cluster v region o
-      × (own workload (answered workload w region (session_at workload.sessions w.places region name)) region ≡ own workload (answered workload v region o) region))
+      subst (λ o. MayAnswer cluster v region o × IsAnsweredAlike (session_at workload.sessions w.places region name) o)
       (session_same workload w v region same name) (go (session_at workload.sessions w.places region name) refl may)
     where
       go : (o : Option (Session × Place)) → session_at workload.sessions w.places region name ≡ o → MayAnswer cluster w region o
-          → MayAnswer cluster v region o × (own workload (answered workload w region o) region ≡ own workload (answered workload v region o) region)
+          → MayAnswer cluster v region o × IsAnsweredAlike o o
       go None e m = absurd m
       go (Some (session, place)) e m = (
         subst (MayEnd cluster.tries) (awaited_same place.waits (waits_here name session place e)) m,

@@ -67,26 +67,30 @@ kept_within (l ∷ kept) zero x h = omega arith
 kept_within (l ∷ kept) (suc region) x h = let lt : region < length kept = kept_within kept region x h in omega arith
 
 module _ (kept : List (List Stamped)) (each : AreKept kept) where
-  -- the merge of what the first n regions keep
-  below : (n : ℕ) → (zs : List Stamped) × IsPicked ComesBefore (λ u. (region_at u < n) × Has (kept_at kept (region_at u)) u) zs
+  -- one of the first n regions keeps it
+  abbrev IsKeptBelow : ℕ → Stamped → Type 0
+  IsKeptBelow n u = (region_at u < n) × Has (kept_at kept (region_at u)) u
+
+  -- the merge of what they keep
+  below : (n : ℕ) → (zs : List Stamped) × IsPicked ComesBefore (IsKeptBelow n) zs
   below zero = ([], record { ascending = tt; members = λ u. (λ h. absurd h, λ h. absurd (let lt : region_at u < 0 = h.0 in let none : ⊥ = omega arith in none)) })
   below (suc n) = more (below n)
     where
-      more : (zs : List Stamped) × IsPicked ComesBefore (λ u. (region_at u < n) × Has (kept_at kept (region_at u)) u) zs
-          → (zs : List Stamped) × IsPicked ComesBefore (λ u. (region_at u < suc n) × Has (kept_at kept (region_at u)) u) zs
+      more : (zs : List Stamped) × IsPicked ComesBefore (IsKeptBelow n) zs
+          → (zs : List Stamped) × IsPicked ComesBefore (IsKeptBelow (suc n)) zs
       more r = ending (put_all (kept_at kept n) r.0 r.1.ascending (each n).1 (all_put (λ x. AllIn (OneIsFirst x) r.0) (kept_at kept n) (λ x h. all_put (OneIsFirst x) r.0 (λ y k. apart x y h ((r.1.members y).0 k).0))))
         where
           apart : (x y : Stamped) → Has (kept_at kept n) x → region_at y < n → OneIsFirst x y
           apart x y h lt = by_stamps x y (subst (λ q. region_at y < q) (sym (region_of_kept kept each n x h)) lt) (cases_order x.stamp y.stamp)
 
-          ending : (zs : List Stamped) × IsPicked ComesBefore (λ u. Has (kept_at kept n) u ⊎ Has r.0 u) zs → (zs : List Stamped) × IsPicked ComesBefore (λ u. (region_at u < suc n) × Has (kept_at kept (region_at u)) u) zs
+          ending : (zs : List Stamped) × IsPicked ComesBefore (λ u. Has (kept_at kept n) u ⊎ Has r.0 u) zs → (zs : List Stamped) × IsPicked ComesBefore (IsKeptBelow (suc n)) zs
           ending s = (s.0, record { ascending = s.1.ascending; members = λ u. (λ h. down u ((s.1.members u).0 h), λ h. (s.1.members u).1 (up u h (below_other (region_at u) n h.0))) })
             where
-              down : (u : Stamped) → Has (kept_at kept n) u ⊎ Has r.0 u → (region_at u < suc n) × Has (kept_at kept (region_at u)) u
+              down : (u : Stamped) → Has (kept_at kept n) u ⊎ Has r.0 u → IsKeptBelow (suc n) u
               down u (inl h) = let is : region_at u ≡ n = region_of_kept kept each n u h in (omega arith, subst (λ q. Has (kept_at kept q) u) (sym is) h)
-              down u (inr h) = let m : (region_at u < n) × Has (kept_at kept (region_at u)) u = (r.1.members u).0 h in let lt : region_at u < n = m.0 in (omega arith, m.1)
+              down u (inr h) = let m : IsKeptBelow n u = (r.1.members u).0 h in let lt : region_at u < n = m.0 in (omega arith, m.1)
 
-              up : (u : Stamped) → (region_at u < suc n) × Has (kept_at kept (region_at u)) u → (region_at u < n) ⊎ (n ≡ region_at u) → Has (kept_at kept n) u ⊎ Has r.0 u
+              up : (u : Stamped) → IsKeptBelow (suc n) u → (region_at u < n) ⊎ (n ≡ region_at u) → Has (kept_at kept n) u ⊎ Has r.0 u
               up u h (inl lt) = inr ((r.1.members u).1 (lt, h.1))
               up u h (inr is) = inl (subst (λ q. Has (kept_at kept q) u) (sym is) h.1)
 

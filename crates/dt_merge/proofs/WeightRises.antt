@@ -152,9 +152,13 @@ module _ (cluster : Cluster) (ok : IsValidCluster cluster) (workload : Workload)
   deliver_rises : (home first last : ℕ) → IsLegal cluster workload w (Deliver region home first last)
       → (next cluster workload w (Deliver region home first last) ≡ w) ⊎ Rises (next cluster workload w (Deliver region home first last))
   unfolding Rises
-  deliver_rises home first last l = go (leb first (received_of w region home) && ltb (received_of w region home) last) refl
+  deliver_rises home first last l = go brings_more refl
     where
-      go : (b : Bool) → (leb first (received_of w region home) && ltb (received_of w region home) last) ≡ b
+      -- whether some of it was not received yet
+      brings_more : Bool
+      brings_more = leb first (received_of w region home) && ltb (received_of w region home) last
+
+      go : (b : Bool) → brings_more ≡ b
           → (cond b (received w region home last) w ≡ w) ⊎ (weight region (own workload w region) < weight region (own workload (cond b (received w region home last) w) region))
       go false e = inl refl
       go true e = inr (by (either_nat home region))

@@ -118,12 +118,15 @@ module _ (names : List (ℕ × Bytes)) where
   pub nearest_is : (x : ℕ × Cell) (B : List (ℕ × Cell)) → nearest (entry names x) (map (entry names) B) ≡ map (entry names) (near_in x B)
   nearest_is x [] = refl
   nearest_is x (b ∷ later) =
-      ap (λ t. cond (meets b x && not t) (entry names b ∷ nearest (entry names x) (map (entry names) later)) (nearest (entry names x) (map (entry names) later)))
+      ap (λ t. cond (meets b x && not t) (entry names b ∷ shown) shown)
       (any_shown (λ m. entries_clash (entry names b) m && entries_clash m (entry names x)) later)
       ∙ by (meets b x && is_free x b later) (nearest_is x later)
     where
-      by : (t : Bool) → nearest (entry names x) (map (entry names) later) ≡ map (entry names) (near_in x later)
-          → cond t (entry names b ∷ nearest (entry names x) (map (entry names) later)) (nearest (entry names x) (map (entry names) later)) ≡ map (entry names) (cond t (b ∷ near_in x later) (near_in x later))
+      shown : List Waiting
+      shown = nearest (entry names x) (map (entry names) later)
+
+      by : (t : Bool) → shown ≡ map (entry names) (near_in x later)
+          → cond t (entry names b ∷ shown) shown ≡ map (entry names) (cond t (b ∷ near_in x later) (near_in x later))
       by true e = ap (λ l. entry names b ∷ l) e
       by false e = e
 

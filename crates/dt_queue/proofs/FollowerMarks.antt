@@ -184,8 +184,8 @@ module _ (reads writes : List (List Mark)) (a : AreApart reads writes) (low high
   pub rows_next : (rows : List ℕ) → Distinct rows → AreEachOnce (λ m. AnyIn (λ row. IsNextIn row m) rows) (next_of_rows reads writes low high rows)
   rows_next [] d = record { apart = tt; members = λ m. (λ h. h, λ h. h) }
   rows_next (r ∷ rows) d =
-      joined (next_of_row (get_or reads r []) (get_or writes r []) low high) (next_of_rows reads writes low high rows)
-      (once_of_marks (IsNextIn r) (next_of_row (get_or reads r []) (get_or writes r []) low high) (row_next (get_or reads r []) (get_or writes r []) low high (row_of reads writes a r))) (rows_next rows d.1)
+      let first : List Mark = next_of_row (get_or reads r []) (get_or writes r []) low high in
+      joined first (next_of_rows reads writes low high rows) (once_of_marks (IsNextIn r) first (row_next (get_or reads r []) (get_or writes r []) low high (row_of reads writes a r))) (rows_next rows d.1)
     where
       other : (m k : Mark) → IsNextIn r m → AnyIn (λ row. IsNextIn row k) rows → m.number ≡ k.number → ⊥
       other m k p q e = let found = any_get (λ row. IsNextIn row k) rows q in all_get (λ y. ¬ (r ≡ y)) rows d.0 found.0 found.1 (next_parted r found.0 m k p found.2 e)

@@ -53,6 +53,9 @@ maker_quiet makes_text = (refl, refl)
 bracketed_quiet : (b : Bracketed) → AllIn Quiet (bracketed_tokens b)
 bracketed_quiet b = ((refl, refl), ((refl, refl), ((refl, refl), tt)))
 
+closed_quiet : (x : Syntax) (p q : ℕ) → AllIn Quiet (syntax_tokens x) → AllIn Quiet (at p tok.Open ∷ (syntax_tokens x ++ at q tok.Close ∷ []))
+closed_quiet x p q quiet = ((refl, refl), all_more Quiet (syntax_tokens x) (at q tok.Close) quiet (refl, refl))
+
 mutual
   syntax_quiet : (x : Syntax) → AllIn Quiet (syntax_tokens x)
   syntax_quiet (chain head links) = all_append Quiet (syntax_tokens head) (links_tokens links) (syntax_quiet head) (links_quiet links)
@@ -62,9 +65,9 @@ mutual
   syntax_quiet (text p t) = ((refl, refl), tt)
   syntax_quiet (truth p b) = ((refl, refl), tt)
   syntax_quiet (name p n) = ((refl, refl), tt)
-  syntax_quiet (parens p x q) = ((refl, refl), all_more Quiet (syntax_tokens x) (at q tok.Close) (syntax_quiet x) (refl, refl))
+  syntax_quiet (parens p x q) = closed_quiet x p q (syntax_quiet x)
   syntax_quiet (of_key p r b) = (reader_quiet r, bracketed_quiet b)
-  syntax_quiet (made p m o x q) = (maker_quiet m, ((refl, refl), all_more Quiet (syntax_tokens x) (at q tok.Close) (syntax_quiet x) (refl, refl)))
+  syntax_quiet (made p m o x q) = (maker_quiet m, closed_quiet x o q (syntax_quiet x))
 
   links_quiet : (ls : Links) → AllIn Quiet (links_tokens ls)
   links_quiet no_link = tt
@@ -257,8 +260,9 @@ proc_small e p h =
     let start = at p.open_at tok.Open ∷ at p.name_at (tok.Name p.name) ∷ at p.word_at tok.Proc ∷ e in
     let keys = flat_map key_tokens (p.key ∷ p.more_keys) in
     let body = at p.begin_at tok.Begin ∷ (statements_tokens p.body ++ at p.end_at tok.End ∷ []) in
-    let inside : NoneTooMany start (params_tokens p.params ++ at p.close_at tok.Close ∷ (key_tokens p.key ++ (flat_map key_tokens p.more_keys ++ body))) = h.1.1.1 in
-    let heads = few_right start (params_tokens p.params) (at p.close_at tok.Close ∷ (key_tokens p.key ++ (flat_map key_tokens p.more_keys ++ body))) inside in
+    let behind_params = key_tokens p.key ++ (flat_map key_tokens p.more_keys ++ body) in
+    let inside : NoneTooMany start (params_tokens p.params ++ at p.close_at tok.Close ∷ behind_params) = h.1.1.1 in
+    let heads = few_right start (params_tokens p.params) (at p.close_at tok.Close ∷ behind_params) inside in
     let closed = at p.close_at tok.Close ∷ backwards (params_tokens p.params) start in
     let joined : NoneTooMany closed (keys ++ body) = subst (NoneTooMany closed) (sym (append_assoc (key_tokens p.key) (flat_map key_tokens p.more_keys) body)) heads.1 in
     let modes : in_proc is_mode closed ≡ 0 = modes_same (params_tokens p.params) start (params_quiet p.params) in (

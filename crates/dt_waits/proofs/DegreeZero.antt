@@ -90,7 +90,8 @@ module _ (view : View) (done ids : List TxnId) (waiting : List Waiting) (well : 
           apart x n s = let y : not (v == v) ≡ true = subst (λ z. not (z == v) ≡ true) s n in let same : (v == v) ≡ true = slot_same v in cc
 
   pub free_by_degree : (degree waiting v ≡ 0) ↔ IsFree view done (id_at ids v)
-  free_by_degree = (
-    λ e. (free_by_queues view done ids waiting well uses (id_at ids v)).1 (λ u f. waits_counted u f e),
-    λ f. degree_counts ((free_by_queues view done ids waiting well uses (id_at ids v)).0 f),
-  )
+  free_by_degree =
+      let by_queues = free_by_queues view done ids waiting well uses (id_at ids v) in (
+        λ e. by_queues.1 (λ u f. waits_counted u f e),
+        λ f. degree_counts (by_queues.0 f),
+      )
