@@ -15,7 +15,7 @@ use Rattle.dt_region.specs.Region.{RegionView, outcome_of}
 use Rattle.dt_region.specs.Sound.{IsSoundRegion}
 use Rattle.dt_cluster.specs.declared.Cluster.{Cluster}
 use Rattle.dt_session.specs.Sessions.{MayGo, SessionsView, after_wait, waiting, waits_of}
-use Rattle.dt_session.specs.World.{World, session_at}
+use Rattle.dt_session.specs.World.{World}
 use Rattle.dt_session.specs.Step.{IsLegal, MaySubmit, body_of, next, upcoming_id}
 use Rattle.dt_agreement.proofs.Callers.{session_found}
 use Rattle.dt_agreement.specs.Invariant.{IsPlaceOf}
