@@ -98,12 +98,13 @@ module _ {cluster : Cluster} {workload : Workload} (xs ys : List Event) (event :
   pub now_places : length world_before.places ≡ length workload.sessions
   now_places = sym (places_parallel cluster workload world_before (order_of xs) now_inv)
 
+  unlisted : (region : ℕ) (name : Bytes) → position (is_session region name) workload.sessions ≡ None → session_at workload.sessions world_before.places region name ≡ None
+  unlisted region name none = no_session_of_none region name workload.sessions world_before.places none
+
   -- the session that it submits for or answers is one of the workload
   pub now_listed : (region : ℕ) (name : Bytes) → (event ≡ Submit region name) ⊎ (event ≡ Answer region name) → ¬ (position (is_session region name) workload.sessions ≡ None)
-  now_listed region name (inl is) none = subst (MaySubmit cluster world_before region)
-      (no_session_of_none region name workload.sessions world_before.places none) (subst (IsLegal cluster workload world_before) is now_legal).allowed
-  now_listed region name (inr is) none = subst (MayAnswer cluster world_before region)
-      (no_session_of_none region name workload.sessions world_before.places none) (subst (IsLegal cluster workload world_before) is now_legal).allowed
+  now_listed region name (inl is) none = subst (MaySubmit cluster world_before region) (unlisted region name none) (subst (IsLegal cluster workload world_before) is now_legal).allowed
+  now_listed region name (inr is) none = subst (MayAnswer cluster world_before region) (unlisted region name none) (subst (IsLegal cluster workload world_before) is now_legal).allowed
 
   -- and what a session of the workload waits for has the session's place
   pub now_followed : (region : ℕ) (name : Bytes) (place : ℕ) → position (is_session region name) workload.sessions ≡ Some place → place < length (replay_of world_before).waits

@@ -257,7 +257,8 @@ module _ {told : ReportSourceView} (led : LedTo told) where
             let added : replies_to split (take at told.events ++ Answer region name ∷ []) ≡ replies_to split (take at told.events) ++ reply ∷ [] =
             answer_replies (take at told.events) (drop (at + 1) told.events) region name (run_split at (Answer region name) item) place found id waits_then reply
             (subst (λ w. IsReply w region name id reply) the_end r) in
-            subst₂ (λ (all now : List Event). replies_to all now ≡ replies_to all (take at told.events) ++ reply ∷ []) (sym (split_at told.events at (Answer region name) item).0) (sym (split_at told.events at (Answer region name) item).1) added
+            subst₂ (λ (all now : List Event). replies_to all now ≡ replies_to all (take at told.events) ++ reply ∷ [])
+            (sym (split_at told.events at (Answer region name) item).0) (sym (split_at told.events at (Answer region name) item).1) added
 
         pub adds_reply : (id.region < told.cluster.regions) × IsExecutedAt (world_told told) id.region id
             × ((reply : Reply) → IsReply (world_told told) id.region name id reply → replies_at told (at + 1) ≡ replies_at told at ++ reply ∷ [])
