@@ -31,7 +31,8 @@ after-self-requires-clause-quiet g c =
 
 pub returns-clause-running : goal.returns-clause-running
 returns-clause-running g c =
-    running_now c.requires.running c.requires.sound c.turn_with.ensures (whole g (goal.at.returns-clause-running g c).After-beside_all) c.as_slice-2.ensures.value c.after-self.ensures.made c.after-self.ensures.kept c.after-self.ensures.quiet
+    running_now c.requires.running c.requires.sound c.turn_with.ensures (whole g (goal.at.returns-clause-running g c).After-beside_all) c.as_slice-2.ensures.value
+    c.after-self.ensures.made c.after-self.ensures.kept c.after-self.ensures.quiet
 
 pub returns-clause-phase : goal.returns-clause-phase
 returns-clause-phase g c =
