@@ -118,13 +118,13 @@ module _ {cluster : Cluster} {workload : Workload} {w : World} (k : IsReached cl
     -- entries of the home's log, with the world's transactions
 
     module _ (entries : List Entry) (parts : map (λ e. e.part) entries ≡ drop first (take last (log_of w home))) (txns : AllIn (λ e. txn_of w e.part.id ≡ Some e.txn) entries) where
-      -- where there is no gap, the region has a longer front of the log with them
-
-      -- with them past what it has, they are the log's past that
+      -- past what the region has, they are the log's
       past : (far : ℕ) → length has_of ≡ far → first ≤ far → map (λ e. e.part) (drop (length has_of - first) entries) ≡ drop far (take last (log_of w home))
       past far long le =
           sym (drop-map (λ e. e.part) (length has_of - first) entries) ∙ ap (drop (length has_of - first)) parts ∙ ap (λ n. drop (n - first) (drop first (take last (log_of w home)))) long
           ∙ drop_twice first (far - first) far (take last (log_of w home)) (omega arith)
+
+      -- where there is no gap, the region has a longer front of the log with them
 
       joined : (far : ℕ) → has_of ≡ take far (log_of w home) → length has_of ≡ far → first ≤ far → (last ≤ far) ⊎ (far ≤ last)
           → (n : ℕ) × (n ≤ length (log_of w home)) × (far ≤ last → n ≡ last) × (with_entries has_of first entries ≡ take n (log_of w home))
