@@ -154,18 +154,26 @@ module _ {cluster : Cluster} (ok : IsValidCluster cluster) {workload : Workload}
       none (suc n) zero lt = refl
       none (suc n) (suc k) lt = none n k (omega (arith, lt))
 
-  counted_step : (items : List Stamped) (x : Stamped) → AreLegal cluster workload (events_of items) → IsLegal cluster workload (world_after cluster workload (events_of items)) x.event
-      → next cluster workload (world_after cluster workload (events_of items)) x.event ≢ world_after cluster workload (events_of items)
+  -- the world after these
+  abbrev after : List Stamped → World
+  after items = world_after cluster workload (events_of items)
+
+  -- each of these changes the world in which it happens
+  abbrev AllChangeOf : List Stamped → Type 0
+  AllChangeOf items = AllChange cluster workload (opening_world cluster workload) (events_of items)
+
+  counted_step : (items : List Stamped) (x : Stamped) → AreLegal cluster workload (events_of items) → IsLegal cluster workload (after items) x.event
+      → next cluster workload (after items) x.event ≢ after items
       → RegionIsCounted cluster workload items q → RegionIsCounted cluster workload (items ++ x ∷ []) q
   counted_step items x legal l changes c = by (either_nat (region_at x) q)
     where
-      later : world_after cluster workload (events_of (items ++ x ∷ [])) ≡ next cluster workload (world_after cluster workload (events_of items)) x.event
+      later : after (items ++ x ∷ []) ≡ next cluster workload (after items) x.event
       later = ap (world_after cluster workload) (map-append (λ (y : Stamped). y.event) items (x ∷ [])) ∙ world_after_more cluster workload (events_of items) x.event
 
       split : those_at q (items ++ x ∷ []) ≡ those_at q items ++ those_at q (x ∷ [])
       split = filter-append (λ y. eqb (region_at y) q) items (x ∷ [])
 
-      good : HasInvariant cluster workload (world_after cluster workload (events_of items))
+      good : HasInvariant cluster workload (after items)
       good = good_after ok fits items legal
 
       sum_is : (test : Event → Bool) → those_at q (x ∷ []) ≡ x ∷ []
@@ -176,24 +184,22 @@ module _ {cluster : Cluster} (ok : IsValidCluster cluster) {workload : Workload}
 
       by : Either (region_at x ≡ q) → RegionIsCounted cluster workload (items ++ x ∷ []) q
       by (inl is) =
-          let e : Counts x.event (node_at (world_after cluster workload (events_of items)) q) (node_at (next cluster workload (world_after cluster workload
-          (events_of items)) x.event) q) = event_counts ok workload (world_after cluster workload (events_of items)) good q lq x.event is l changes in
+          let e : Counts x.event (node_at (after items) q) (node_at (next cluster workload (after items) x.event) q) = event_counts ok workload (after items) good q lq x.event is l changes in
           let one : those_at q (x ∷ []) ≡ x ∷ [] = those_one q x is in
           record {
             submitted = ap (λ v. length (node_at v q).submitted) later ∙ e.submitted ∙ ap (λ n. n + one_if (is_submission x.event)) c.submitted ∙ sym (sum_is is_submission one);
             placed = ap (λ v. length (node_at v q).log) later ∙ e.placed ∙ ap (λ n. n + one_if (places x.event)) c.placed ∙ sym (sum_is places one);
           }
       by (inr n) =
-          let same : node_at (next cluster workload (world_after cluster workload (events_of items)) x.event) q ≡ node_at (world_after cluster workload
-          (events_of items)) q = ap (λ (o : Own). o.node) (frame cluster workload (world_after cluster workload (events_of items)) q x.event n) in
+          let same : node_at (next cluster workload (after items) x.event) q ≡ node_at (after items) q = ap (λ (o : Own). o.node) (frame cluster workload (after items) q x.event n) in
           let none : those_at q (items ++ x ∷ []) ≡ those_at q items = split ∙ ap (λ l. those_at q items ++ l) (those_none q x n) ∙ append-nil (those_at q items) in
           record {
             submitted = ap (λ v. length (node_at v q).submitted) later ∙ ap (λ (m : Node). length m.submitted) same ∙ c.submitted ∙ ap submissions_in (sym none);
             placed = ap (λ v. length (node_at v q).log) later ∙ ap (λ (m : Node). length m.log) same ∙ c.placed ∙ ap placings_in (sym none);
           }
 
-  pub all_counted : (items : List Stamped) → AreLegal cluster workload (events_of items) → AllChange cluster workload (opening_world cluster workload) (events_of items) → RegionIsCounted cluster workload items q
-  all_counted items = from_right (λ l. AreLegal cluster workload (events_of l) → AllChange cluster workload (opening_world cluster workload) (events_of l) → RegionIsCounted cluster workload l q)
+  pub all_counted : (items : List Stamped) → AreLegal cluster workload (events_of items) → AllChangeOf items → RegionIsCounted cluster workload items q
+  all_counted items = from_right (λ l. AreLegal cluster workload (events_of l) → AllChangeOf l → RegionIsCounted cluster workload l q)
       (λ legal changing. opening_counted)
       (λ xs x counted legal changing.
       let parts : events_of (xs ++ x ∷ []) ≡ events_of xs ++ x.event ∷ [] = map-append (λ (y : Stamped). y.event) xs (x ∷ []) in

@@ -69,7 +69,7 @@ module _ {v : NodesView} (n : AreNodes v) (sound : v.broken ≡ false) (some : 1
   legal = subst (AreLegal v.cluster v.workload) (sym m.events_are) (merge_legal n.chronicle m.merged m.is n.cluster n.workload)
 
   changing : AllChange v.cluster v.workload (opening_world v.cluster v.workload) events
-  changing = subst (AllChange v.cluster v.workload (opening_world v.cluster v.workload)) (sym m.events_are) (merge_changes n.chronicle m.merged m.is n.cluster n.workload)
+  changing = subst (AllChange v.cluster v.workload _) (sym m.events_are) (merge_changes n.chronicle m.merged m.is n.cluster n.workload)
 
   same_world : world_after v.cluster v.workload events ≡ whole
   same_world = ap (world_after v.cluster v.workload) m.events_are ∙ merge_world n.chronicle m.merged m.is n.cluster n.workload

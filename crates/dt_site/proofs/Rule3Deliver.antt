@@ -118,21 +118,21 @@ module _ {cluster : Cluster} {workload : Workload} {w : World} (k : IsReached cl
     -- entries of the home's log, with the world's transactions
 
     module _ (entries : List Entry) (parts : map (λ e. e.part) entries ≡ drop first (take last (log_of w home))) (txns : AllIn (λ e. txn_of w e.part.id ≡ Some e.txn) entries) where
+      -- past what the region has, they are the log's
+      past : (far : ℕ) → length has_of ≡ far → first ≤ far → map (λ e. e.part) (drop (length has_of - first) entries) ≡ drop far (take last (log_of w home))
+      past far long le =
+          sym (drop-map (λ e. e.part) (length has_of - first) entries) ∙ ap (drop (length has_of - first)) parts ∙ ap (λ n. drop (n - first) (drop first (take last (log_of w home)))) long
+          ∙ drop_twice first (far - first) far (take last (log_of w home)) (omega arith)
+
       -- where there is no gap, the region has a longer front of the log with them
 
       joined : (far : ℕ) → has_of ≡ take far (log_of w home) → length has_of ≡ far → first ≤ far → (last ≤ far) ⊎ (far ≤ last)
           → (n : ℕ) × (n ≤ length (log_of w home)) × (far ≤ last → n ≡ last) × (with_entries has_of first entries ≡ take n (log_of w home))
       joined far is long le (inl shorter) =
-          let none : map (λ e. e.part) (drop (length has_of - first) entries) ≡ [] =
-          sym (drop-map (λ e. e.part) (length has_of - first) entries) ∙ ap (drop (length has_of - first)) parts ∙ ap (λ n. drop (n - first) (drop first (take last (log_of w home)))) long
-          ∙ drop_twice first (far - first) far (take last (log_of w home)) (omega arith) ∙ nothing_between far last (log_of w home) shorter in
+          let none : map (λ e. e.part) (drop (length has_of - first) entries) ≡ [] = past far long le ∙ nothing_between far last (log_of w home) shorter in
           let few : far ≤ length (log_of w home) = subst (λ n. n ≤ length (log_of w home)) (sym has_received ∙ long) in_log in
           (far, few, λ longer. omega arith, ap (λ l. has_of ++ l) none ∙ append-nil has_of ∙ is)
-      joined far is long le (inr longer) =
-          let rest : map (λ e. e.part) (drop (length has_of - first) entries) ≡ drop far (take last (log_of w home)) =
-          sym (drop-map (λ e. e.part) (length has_of - first) entries) ∙ ap (drop (length has_of - first)) parts ∙ ap (λ n. drop (n - first) (drop first (take last (log_of w home)))) long
-          ∙ drop_twice first (far - first) far (take last (log_of w home)) (omega arith) in
-          (last, within, λ longer. refl, ap₂ (λ a b. a ++ b) is rest ∙ front_and_rest far last (log_of w home) longer)
+      joined far is long le (inr longer) = (last, within, λ longer. refl, ap₂ (λ a b. a ++ b) is (past far long le) ∙ front_and_rest far last (log_of w home) longer)
 
       either_way : (a b : ℕ) → (a ≤ b) ⊎ (b ≤ a)
       either_way a b = elim (either_le a b) [ inl y ↦ inl y | inr n ↦ inr (omega arith) ]

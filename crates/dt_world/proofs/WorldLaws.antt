@@ -176,6 +176,10 @@ pub record HoldsSite (cluster : Cluster) (sessions : WorldSessions) (sites : Lis
   pub there : region < cluster.regions
   pub site : IsBehind sites region r origins
 
+-- the same of the world that is known to be lawful
+abbrev pub SiteOf : {cluster : Cluster} {sessions : WorldSessions} {sites : List SiteView} {steps : ℕ} → IsLawful cluster sessions sites steps → ℕ → RegionView → List Origin → Type 0
+SiteOf {cluster} {sessions} {sites} {steps} k region r origins = HoldsSite cluster sessions sites steps region r origins
+
 pub holds_site : {cluster : Cluster} {sessions : WorldSessions} {sites : List SiteView} {steps : ℕ} → IsLawful cluster sessions sites steps → {region : ℕ} → region < cluster.regions
     → {p : SiteView} {r : RegionView} {origins : List Origin} → p ≡ get_or sites region p → record { region = r; origins = origins } ≡ p → HoldsSite cluster sessions sites steps region r origins
 holds_site k lr value is = record { lawful = k; there = lr; site = behind (a_site k lr) value is }
