@@ -72,10 +72,8 @@ module _ {cluster : Cluster} {workload : Workload} {events : List Event} {a : No
         → ◌≡◌ {A = ℕ × ℕ} (call, attempt) (allowed.place.answered + 1, next_attempt w allowed.place.waits)
     numbers_here call attempt is = same_Some _ _ (sym is ∙ ap (option_map numbers_next) seat_is) ∙ numbers_are w allowed.session allowed.place
 
-    pub call_is_there : (call attempt : ℕ) → option_map numbers_next (seat_of a.sessions name) ≡ Some (call, attempt) → (1 ≤ call) × IsSome (wanted_of a.sessions name call)
-    call_is_there call attempt is =
-        let e : call ≡ allowed.place.answered + 1 = ap (λ n. n.0) (numbers_here call attempt is) in
-        (omega (arith, e), subst IsSome (sym (wanted_here call e)) refl)
+    pub call_is_there : (call attempt : ℕ) → option_map numbers_next (seat_of a.sessions name) ≡ Some (call, attempt) → IsSome (wanted_of a.sessions name call)
+    call_is_there call attempt is = subst IsSome (sym (wanted_here call (ap (λ n. n.0) (numbers_here call attempt is)))) refl
 
   -- what it submits
   module _ {origin : Origin} {rank : ℕ} {body : Body} (t : IsNextAt a name origin rank body) where

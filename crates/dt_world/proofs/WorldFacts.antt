@@ -23,10 +23,11 @@ use Rattle.dt_session.specs.Step.{MaySubmit, MayTry, awaited_at, next_attempt, r
 use Rattle.dt_agreement.proofs.Callers.{body_fits, next_call_submits, session_found}
 use Rattle.dt_agreement.specs.Invariant.{IsPlaceOf}
 use Rattle.dt_site.specs.declared.Origin.{Origin}
+use Rattle.dt_site.specs.NextAttempt.{HasNextCall, IsNextHere, last_here}
 use Rattle.dt_site.specs.SessionsStandIn.{no_sessions, seat_in}
 use Rattle.dt_site.specs.Site.{SiteView}
 use Rattle.dt_site.proofs.Callers.{fits_region, inv, kept_here, last_in, may_answer, may_be_answered, may_go, may_submit, numbers_are, outcome_here}
-use Rattle.dt_world.specs.WorldInner.{HasNextCall, IsLawful, IsNextHere, IsNextOf, IsNextTry, MayBeTold, last_here, sessions_of, site_at, view_in, world_of}
+use Rattle.dt_world.specs.WorldInner.{IsLawful, IsNextOf, IsNextTry, MayBeTold, sessions_of, site_at, view_in, world_of}
 use Rattle.dt_world.specs.WorldSessions.{WorldSessions, places_in}
 use Rattle.dt_world.specs.WorldView.{WorldView}
 use Rattle.dt_world.proofs.WorldLaws.{IsBehind}
