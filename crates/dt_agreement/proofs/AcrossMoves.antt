@@ -15,7 +15,7 @@ use Rattle.dt_txn.specs.declared.Outcome.{Outcome}
 use Rattle.dt_txn.specs.Staleness.{IsStaleOutcome}
 use Rattle.dt_txn.specs.Execution.{one}
 use Rattle.dt_txn.specs.Serial.{table_after}
-use Rattle.dt_serial.specs.Order.{IsLive, IsHistory, Ordered, uses_in}
+use Rattle.dt_serial.specs.Order.{IsLive, Ordered, uses_in}
 use Rattle.dt_serial.proofs.Callers.{across_fewer, across_moves, live_of_outcome, looked_has, has_outcome_at, single_outcome}
 use Rattle.dt_cluster.specs.declared.Cluster.{Cluster}
 use Rattle.dt_workload.specs.declared.Workload.{Workload}
@@ -39,9 +39,6 @@ record RanFresh (cluster : Cluster) (w : World) (order : List TxnId) (a : TxnId)
   fresh : ¬ (IsStaleOutcome outcome)
 
 module _ {cluster : Cluster} {workload : Workload} {w : World} {order : List TxnId} (i : Inv cluster workload w order) (rooted : Rooted cluster w order) where
-  past : IsHistory cluster.procs (Precedes (logs_of w)) (opening_table cluster) (txns_of w order)
-  past = order_is_history i rooted
-
   -- an executed attempt has an outcome in the serial run
   outcome_of_executed : (a : TxnId) → Has order a → (o : Outcome) × Has (outcomes_in_order cluster w order) (a, o) × (outcome_in (outcomes_in_order cluster w order) a ≡ Some o)
   outcome_of_executed a h =
@@ -71,14 +68,14 @@ module _ {cluster : Cluster} {workload : Workload} {w : World} {order : List Txn
   ordered_across a b x y ne p q c =
       let apart : x.id ≢ y.id = λ e. ne (sym p.own ∙ e ∙ q.own) in
       subst₂ (Ordered (Precedes (logs_of w))) p.own q.own
-      (across_moves cluster.procs (Precedes (logs_of w)) (opening_table cluster) (txns_of w order) past x y p.outcome q.outcome p.there q.there apart p.gave q.gave p.fresh q.fresh c)
+      (across_moves cluster.procs (Precedes (logs_of w)) (opening_table cluster) (txns_of w order) (order_is_history i rooted) x y p.outcome q.outcome p.there q.there apart p.gave q.gave p.fresh q.fresh c)
 
   -- of two executed attempts that use one unit, that with fewer moves of it, if it is not stale, precedes the other
   fewer_precedes : (a b : TxnId) (x y : Txn) → RanFresh cluster w order a x → Has order b → txn_of w b ≡ Some y
       → (k l : Access) → Has x.access k → Has y.access l → unit_of cluster.version k.key ≡ unit_of cluster.version l.key → k.counter < l.counter → Precedes (logs_of w) a b
   fewer_precedes a b x y p hb eb k l hk hl unit fewer =
       subst₂ (Precedes (logs_of w)) p.own (txn_id w b y eb)
-      (across_fewer cluster.procs (Precedes (logs_of w)) (opening_table cluster) (txns_of w order) past x y s k l live (in_run b y hb eb) hk hl unit fewer)
+      (across_fewer cluster.procs (Precedes (logs_of w)) (opening_table cluster) (txns_of w order) (order_is_history i rooted) x y s k l live (in_run b y hb eb) hk hl unit fewer)
     where
       s : Spot (txns_of w order) x
       s = spot (txns_of w order) x p.there
@@ -87,7 +84,7 @@ module _ {cluster : Cluster} {workload : Workload} {w : World} {order : List Txn
       seen = table_after cluster.procs s.front (opening_table cluster)
 
       same : p.outcome ≡ (one cluster.procs x seen).0
-      same = single_outcome cluster.procs (Precedes (logs_of w)) (opening_table cluster) (txns_of w order) past x.id p.outcome (one cluster.procs x seen).0 p.gave
+      same = single_outcome cluster.procs (Precedes (logs_of w)) (opening_table cluster) (txns_of w order) (order_is_history i rooted) x.id p.outcome (one cluster.procs x seen).0 p.gave
           (has_outcome_at cluster.procs (txns_of w order) (opening_table cluster) x s)
 
       live : IsLive x seen

@@ -17,6 +17,7 @@ use Rattle.dt_access.specs.Clash.{Bytes}
 use Rattle.dt_access.specs.Granules.{unit_of}
 use Rattle.dt_access.proofs.Callers.{unit_again}
 use Rattle.dt_access.specs.declared.TxnId.{TxnId}
+use Rattle.dt_access.specs.declared.Access.{Access}
 use Rattle.dt_sched.specs.Views.{View, IsClosed, Precedes}
 use Rattle.dt_sched.proofs.Callers.{done_where_closed}
 use Rattle.dt_events.specs.declared.Event.{Event}
@@ -30,7 +31,7 @@ use Rattle.dt_txn.specs.Transaction.{IsValid}
 use Rattle.dt_txn.specs.Execution.{see, reads_of, result_of}
 use Rattle.dt_txn.specs.Serial.{outcomes, table_after}
 use Rattle.dt_txn.specs.Replica.{IsDrained, fronts, done_ids}
-use Rattle.dt_serial.specs.Order.{IsHistory, txn_ids}
+use Rattle.dt_serial.specs.Order.{txn_ids}
 use Rattle.dt_serial.specs.Evidence.{MadeMove, IsGrounded, HasReason}
 use Rattle.dt_serial.proofs.Callers.{looked_filter, looked_from, one_outcome, one_restricted, one_set, outcomes_ids, reasons}
 use Rattle.dt_cluster.specs.declared.Cluster.{Cluster}
@@ -110,9 +111,6 @@ IsDrainedAt w region = IsDrained (received_logs w region) (node_at w region).her
 
 -- a world that keeps the invariant, and in which every annotation is rooted
 module _ {cluster : Cluster} {workload : Workload} {w : World} {order : List TxnId} (i : Inv cluster workload w order) (rooted : Rooted cluster w order) where
-  past : IsHistory cluster.procs (Precedes (logs_of w)) (opening_table cluster) (txns_of w order)
-  past = order_is_history i rooted
-
   pub outcome_ids : map (λ e. e.0) (outcomes_in_order cluster w order) ≡ order
   outcome_ids = outcomes_ids cluster.procs (txns_of w order) (opening_table cluster) ∙ order_ids i
 
@@ -123,7 +121,7 @@ module _ {cluster : Cluster} {workload : Workload} {w : World} {order : List Txn
   kept_outcome : (region : ℕ) (id : TxnId) (outcome : Outcome) → region < cluster.regions → Has (node_at w region).here.done (id, outcome) → Has (outcomes_in_order cluster w order) (id, outcome)
   kept_outcome region id outcome lr h =
       all_get (Has (outcomes_in_order cluster w order)) (outcomes cluster.procs (executions_at w region) (opening_table cluster))
-      (one_outcome cluster.procs (Precedes (logs_of w)) (opening_table cluster) (txns_of w order) past (executions_at w region)
+      (one_outcome cluster.procs (Precedes (logs_of w)) (opening_table cluster) (txns_of w order) (order_is_history i rooted) (executions_at w region)
       (region_members i rooted region lr)
       (region_down i rooted region lr))
       (id, outcome) (subst (λ l. Has l (id, outcome)) (i.tables region lr).outcomes h)
@@ -136,7 +134,7 @@ module _ {cluster : Cluster} {workload : Workload} {w : World} {order : List Txn
       → (node_at w region).here.table ≡ table_after cluster.procs (txns_of w (filter (is_among (done_ids (node_at w region).here)) order)) (opening_table cluster)
   tables_agree region lr =
       (i.tables region lr).table
-      ∙ one_restricted cluster.procs (Precedes (logs_of w)) (opening_table cluster) (txns_of w order) past (executions_at w region)
+      ∙ one_restricted cluster.procs (Precedes (logs_of w)) (opening_table cluster) (txns_of w order) (order_is_history i rooted) (executions_at w region)
       (region_members i rooted region lr)
       (region_down i rooted region lr)
       ∙ ap (λ l. table_after cluster.procs (filter (λ x. is_among l x.id) (txns_of w order)) (opening_table cluster)) (done_txn_ids i region lr)
@@ -178,6 +176,14 @@ module _ {cluster : Cluster} {workload : Workload} {w : World} {order : List Txn
       done_where_closed (view_at w region) (node_at w region).here.resolved (done_ids (node_at w region).here) (i.sound region lr).done_closed
       (record { none_executable = d.executed; none_resolvable = d.resolved }) id
 
+  -- where two see the same, the one executed what the other executed
+  drained_alike : (region other : ℕ) → region < cluster.regions → other < cluster.regions → IsDrainedAt w region → IsDrainedAt w other → view_at w region ≡ view_at w other
+      → (id : TxnId) → Has (txn_ids (executions_at w region)) id → Has (txn_ids (executions_at w other)) id
+  drained_alike region other lr lo d e same id h =
+      let done : IsExecutedAt w region id = subst (λ l. Has l id) (done_txn_ids i region lr) h in
+      let closed : IsClosed (view_at w other) id = subst (λ v. IsClosed v id) same ((drained_done region lr d id).0 done) in
+      subst (λ l. Has l id) (sym (done_txn_ids i other lo)) ((drained_done other lo e id).1 closed)
+
   module _ (region other : ℕ) (lr : region < cluster.regions) (lo : other < cluster.regions) (d : IsDrainedAt w region) (e : IsDrainedAt w other) (alike : ReceivedAlike w region other) where
     all_in : (q home : ℕ) → IsDrainedAt w q → slice_index (node_at w q).here.inserted home ≡ length (take (received_of w q home) (log_of w home))
     all_in q home x = x.inserted home ∙ ap length (received_log w q home)
@@ -189,25 +195,13 @@ module _ {cluster : Cluster} {workload : Workload} {w : World} {order : List Txn
         (λ home. all_in region home d ∙ ap (λ n. length (take n (log_of w home))) (alike home) ∙ sym (all_in other home e))
         ∙ sym (view_fronts i other lo)
 
-    there : (id : TxnId) → Has (txn_ids (executions_at w region)) id → Has (txn_ids (executions_at w other)) id
-    there id h =
-        let done : IsExecutedAt w region id = subst (λ l. Has l id) (done_txn_ids i region lr) h in
-        let closed : IsClosed (view_at w other) id = subst (λ v. IsClosed v id) same_view ((drained_done region lr d id).0 done) in
-        subst (λ l. Has l id) (sym (done_txn_ids i other lo)) ((drained_done other lo e id).1 closed)
-
-    back : (id : TxnId) → Has (txn_ids (executions_at w other)) id → Has (txn_ids (executions_at w region)) id
-    back id h =
-        let done : IsExecutedAt w other id = subst (λ l. Has l id) (done_txn_ids i other lo) h in
-        let closed : IsClosed (view_at w region) id = subst (λ v. IsClosed v id) (sym same_view) ((drained_done other lo e id).0 done) in
-        subst (λ l. Has l id) (sym (done_txn_ids i region lr)) ((drained_done region lr d id).1 closed)
-
     pub drained_agree : (node_at w region).here.table ≡ (node_at w other).here.table
     drained_agree =
         (i.tables region lr).table
-        ∙ one_set cluster.procs (Precedes (logs_of w)) (opening_table cluster) (txns_of w order) past (executions_at w region) (executions_at w other)
+        ∙ one_set cluster.procs (Precedes (logs_of w)) (opening_table cluster) (txns_of w order) (order_is_history i rooted) (executions_at w region) (executions_at w other)
         (region_members i rooted region lr) (region_members i rooted other lo)
         (region_down i rooted region lr) (region_down i rooted other lo)
-        (λ id. (there id, back id))
+        (λ id. (drained_alike region other lr lo d e same_view id, drained_alike other region lo lr e d (sym same_view) id))
         ∙ sym (i.tables other lo).table
 
 -- causes
@@ -223,10 +217,14 @@ module _ {cluster : Cluster} {workload : Workload} {events : List Event} (run : 
   abbrev ran : List Txn
   ran = txns_of (world_after cluster workload events) (order_of events)
 
+  -- the entry is of a key of the unit, which it found with this counter
+  abbrev IsOfUnit : Bytes → ℕ → Access → Type 0
+  IsOfUnit unit had a = (unit_of cluster.version a.key ≡ unit) × (a.counter ≡ had)
+
   -- the unit of one of its keys is a unit
-  unit_of_some : (txn : Txn) (unit : Bytes) (had : ℕ) → AnyIn (λ a. (unit_of cluster.version a.key ≡ unit) × (a.counter ≡ had)) txn.access → unit_of cluster.version unit ≡ unit
+  unit_of_some : (txn : Txn) (unit : Bytes) (had : ℕ) → AnyIn (IsOfUnit unit had) txn.access → unit_of cluster.version unit ≡ unit
   unit_of_some txn unit had h =
-      let r = any_get (λ a. (unit_of cluster.version a.key ≡ unit) × (a.counter ≡ had)) txn.access h in
+      let r = any_get (IsOfUnit unit had) txn.access h in
       subst (λ u. unit_of cluster.version u ≡ u) r.2.0 (unit_again cluster.version r.0.key)
 
   -- a mover that ran before moves the unit itself

@@ -14,7 +14,7 @@ use Rattle.dt_serial.specs.Order.{IsDown}
 use Rattle.dt_cluster.specs.declared.Cluster.{Cluster}
 use Rattle.dt_workload.specs.declared.Session.{Session}
 use Rattle.dt_workload.specs.declared.Workload.{Workload}
-use Rattle.dt_session.specs.World.{World, Place, opening_table, node_at, asked_of, taken_of, logs_of, log_of, received_of, view_at, submissions, txn_of}
+use Rattle.dt_session.specs.World.{World, Submission, Place, opening_table, node_at, asked_of, taken_of, logs_of, log_of, received_of, view_at, submissions, txn_of}
 use Rattle.dt_session.specs.Run.{txns_of}
 use Rattle.dt_agreement.specs.Invariant.{IsSized, AreNumbered, requests, IsPartAt, given_by, IsLog, AreInOrder, IsRunOf, IsExecutedAt, IsOrder, IsPlaced, IsPlaceOf, IsSubmissionOf, SessionsMatch}
 use Rattle.dt_agreement.proofs.Submissions.{Keeps, txn_same}
@@ -120,10 +120,14 @@ module _ (cluster : Cluster) (w v : World) where
   places_kept tries k (s ∷ ss) [] p = p
   places_kept tries k (s ∷ ss) (y ∷ ys) p = (place_kept tries k s y p.0, places_kept tries k ss ys p.1)
 
+  -- a session of the region made the submission
+  abbrev IsOfSessionAt : Workload → ℕ → Submission → Type 0
+  IsOfSessionAt workload region s = AnyIn (IsSubmissionOf cluster.tries region s) workload.sessions
+
   pub known_kept : (workload : Workload) → Keeps (λ n. n.submitted) w v
-      → ((region : ℕ) → region < cluster.regions → AllIn (λ s. AnyIn (IsSubmissionOf cluster.tries region s) workload.sessions) (node_at w region).submitted)
-      → (region : ℕ) → region < cluster.regions → AllIn (λ s. AnyIn (IsSubmissionOf cluster.tries region s) workload.sessions) (node_at v region).submitted
-  known_kept workload k a region lt = subst (AllIn (λ s. AnyIn (IsSubmissionOf cluster.tries region s) workload.sessions)) (sym (k region)) (a region lt)
+      → ((region : ℕ) → region < cluster.regions → AllIn (IsOfSessionAt workload region) (node_at w region).submitted)
+      → (region : ℕ) → region < cluster.regions → AllIn (IsOfSessionAt workload region) (node_at v region).submitted
+  known_kept workload k a region lt = subst (AllIn (IsOfSessionAt workload region)) (sym (k region)) (a region lt)
 
   pub sessions_kept : (workload : Workload) → Keeps (λ n. n.submitted) w v → v.places ≡ w.places → SessionsMatch cluster workload w → SessionsMatch cluster workload v
   sessions_kept workload k e s = record {

@@ -125,13 +125,14 @@ next_done {cluster = cluster} {workload = workload} ok w order (Answer region se
 pub later_done : {cluster : Cluster} {workload : Workload} (xs ys : List Event) → IsLegalRun cluster workload (xs ++ ys) → (region : ℕ)
     → IsDoneMore (world_after cluster workload xs) (world_after cluster workload (xs ++ ys)) region
 later_done {cluster = cluster} {workload = workload} xs [] run region =
-    subst (λ l. IsDoneMore (world_after cluster workload xs) (world_after cluster workload l) region) (sym (append-nil xs)) (front_refl (done_ids (node_at (world_after cluster workload xs) region).here))
+    let after : List Event → World = world_after cluster workload in
+    subst (λ l. IsDoneMore (after xs) (after l) region) (sym (append-nil xs)) (front_refl (done_ids (node_at (after xs) region).here))
 later_done {cluster = cluster} {workload = workload} xs (y ∷ ys) run region =
+    let after : List Event → World = world_after cluster workload in
     let all : IsLegalRun cluster workload (xs ++ y ∷ [] ++ ys) = subst (IsLegalRun cluster workload) (sym (append_assoc xs (y ∷ []) ys)) run in
-    let more : IsLegalRun cluster workload xs × IsLegal cluster workload (world_after cluster workload xs) y = run_more (run_front (xs ++ y ∷ []) ys all).0 in
-    let now : IsDoneMore (world_after cluster workload xs) (world_after cluster workload (xs ++ y ∷ [])) region =
-    subst (λ w. IsDoneMore (world_after cluster workload xs) w region) (sym (world_after_more cluster workload xs y))
-    (next_done run.sound (world_after cluster workload xs) (order_of xs) y more.1 (legal_keeps more.0) region) in
-    subst (λ l. IsDoneMore (world_after cluster workload xs) (world_after cluster workload l) region) (append_assoc xs (y ∷ []) ys)
-    (front_trans (done_ids (node_at (world_after cluster workload xs) region).here) (done_ids (node_at (world_after cluster workload (xs ++ y ∷ [])) region).here)
-    (done_ids (node_at (world_after cluster workload (xs ++ y ∷ [] ++ ys)) region).here) now (later_done (xs ++ y ∷ []) ys all region))
+    let more : IsLegalRun cluster workload xs × IsLegal cluster workload (after xs) y = run_more (run_front (xs ++ y ∷ []) ys all).0 in
+    let now : IsDoneMore (after xs) (after (xs ++ y ∷ [])) region =
+    subst (λ w. IsDoneMore (after xs) w region) (sym (world_after_more cluster workload xs y))
+    (next_done run.sound (after xs) (order_of xs) y more.1 (legal_keeps more.0) region) in
+    subst (λ l. IsDoneMore (after xs) (after l) region) (append_assoc xs (y ∷ []) ys)
+    (front_trans (done_ids (node_at (after xs) region).here) (done_ids (node_at (after (xs ++ y ∷ [])) region).here) (done_ids (node_at (after (xs ++ y ∷ [] ++ ys)) region).here) now (later_done (xs ++ y ∷ []) ys all region))

@@ -1,7 +1,7 @@
 -- The logs of a world: each id stands once in a log, at a home that its part names, and all parts of an id are those of
 -- its one transaction.
 use Rattle.dt_lists.proofs.Callers.{filter_none}
-use Rattle.std.proofs.Common.{◌≡◌, ◌<◌, ◌≤◌, ℕ, suc, true, false, eqb, [], length, take, Some, refl, sym, ap, subst, ◌∙◌, inl, inr, arith, eqb-true, eq-eqb}
+use Rattle.std.proofs.Common.{◌≡◌, ◌<◌, ◌≤◌, ℕ, suc, true, false, eqb, List, [], length, take, Some, refl, sym, ap, subst, ◌∙◌, inl, inr, arith, eqb-true, eq-eqb}
 use Rattle.std.proofs.lemmas.Bool.{false_from_ne_true}
 use Rattle.std.proofs.lemmas.List.{get_or_past}
 use Rattle.dt_lists.specs.Lists.{AllIn, Has, Distinct, Either}
@@ -46,8 +46,9 @@ module _ (regions : ℕ) (w : World) (nodes : length w.nodes ≡ regions) where
     id_requested home id lt h =
         let k : (txn : Txn) × (txn_of w id ≡ Some txn) × (id.region < regions) = id_known home id lt h in
         let g : Has (given_by id.region (ids_of (log_of w home))) id = has_filter (λ i. eqb i.region id.region) (ids_of (log_of w home)) id h (eq-eqb id.region id.region refl) in
-        let t : Has (take (taken_of w home id.region) (asked_of w id.region home)) id = subst (λ l. Has l id) ((logs home lt).given id.region k.2) g in
-        subst (λ l. Has l id) (asked id.region home k.2 lt) (any_front _ (take (taken_of w home id.region) (asked_of w id.region home)) (asked_of w id.region home) (front_take (taken_of w home id.region) (asked_of w id.region home)) t)
+        let taken : List TxnId = take (taken_of w home id.region) (asked_of w id.region home) in
+        let t : Has taken id = subst (λ l. Has l id) ((logs home lt).given id.region k.2) g in
+        subst (λ l. Has l id) (asked id.region home k.2 lt) (any_front _ taken (asked_of w id.region home) (front_take (taken_of w home id.region) (asked_of w id.region home)) t)
 
     -- no id stands twice in a log
     pub log_once : (home : ℕ) → home < regions → Distinct (ids_of (log_of w home))
@@ -86,14 +87,18 @@ module _ (regions : ℕ) (w : World) (nodes : length w.nodes ≡ regions) where
         let same : a.0 ≡ b.0 = cc in
         (a.0, a.2, b.2 ∙ ap (λ t. part_of t other) (sym same))
 
+    -- parts of a log for the same transaction are like this one
+    abbrev IsAlikeIn : {A : Type 0} → (Part → A) → List Part → Part → Type 0
+    IsAlikeIn f log p = AllIn (λ q. p.id ≡ q.id → f p ≡ f q) log
+
     -- what all parts of one transaction have alike
     alike_by : {A : Type 0} (f : Part → A) → ((txn : Txn) (h o : ℕ) → f (part_of txn h) ≡ f (part_of txn o)) → (home other : ℕ) → Either (home < regions) → Either (other < regions)
-        → AllIn (λ p. AllIn (λ q. p.id ≡ q.id → f p ≡ f q) (log_at (logs_of w) other)) (log_at (logs_of w) home)
-    alike_by f alike home other (inl lh) (inl lo) = subst (λ l. AllIn (λ p. AllIn (λ q. p.id ≡ q.id → f p ≡ f q) (log_at (logs_of w) other)) l) (sym (log_is w home))
+        → AllIn (IsAlikeIn f (log_at (logs_of w) other)) (log_at (logs_of w) home)
+    alike_by f alike home other (inl lh) (inl lo) = subst (AllIn (IsAlikeIn f (log_at (logs_of w) other))) (sym (log_is w home))
         (all_put _ (log_of w home) (λ p hp. subst (AllIn (λ q. p.id ≡ q.id → f p ≡ f q)) (sym (log_is w other)) (all_put _ (log_of w other) (λ q hq e.
         let r : (txn : Txn) × (p ≡ part_of txn home) × (q ≡ part_of txn other) = parts_of_one home other p q lh lo hp hq e in
         ap f r.1 ∙ alike r.0 home other ∙ sym (ap f r.2)))))
-    alike_by f alike home other (inr n) o = subst (λ l. AllIn (λ p. AllIn (λ q. p.id ≡ q.id → f p ≡ f q) (log_at (logs_of w) other)) l) (sym (logs_past home (omega arith))) tt
+    alike_by f alike home other (inr n) o = subst (AllIn (IsAlikeIn f (log_at (logs_of w) other))) (sym (logs_past home (omega arith))) tt
     alike_by f alike home other (inl lh) (inr n) = all_put _ (log_at (logs_of w) home) (λ p hp. subst (AllIn (λ q. p.id ≡ q.id → f p ≡ f q)) (sym (logs_past other (omega arith))) tt)
 
     pub logs_well_formed : IsWellFormed (logs_of w)

@@ -54,9 +54,6 @@ says_so (inl p) q = refl
 says_so (inr n) q = absurd (n q)
 
 module _ {cluster : Cluster} {workload : Workload} {w : World} {order : List TxnId} (i : Inv cluster workload w order) (rooted : Rooted cluster w order) where
-  past : IsHistory cluster.procs (Precedes (logs_of w)) (opening_table cluster) (txns_of w order)
-  past = order_is_history i rooted
-
   abbrev test : TxnId → TxnId → Bool
   test u t = says (precedes_decided (logs_of w) u t)
 
@@ -67,7 +64,7 @@ module _ {cluster : Cluster} {workload : Workload} {w : World} {order : List Txn
   from u t e = said (precedes_decided (logs_of w) u t) e
 
   by_test : IsHistory cluster.procs (ByTest test) (opening_table cluster) (txns_of w order)
-  by_test = history_as (Precedes (logs_of w)) (ByTest test) to from cluster.procs (opening_table cluster) (txns_of w order) past
+  by_test = history_as (Precedes (logs_of w)) (ByTest test) to from cluster.procs (opening_table cluster) (txns_of w order) (order_is_history i rooted)
 
   pub are_one_history : AreOneHistory cluster w order
   are_one_history = record {
@@ -85,13 +82,13 @@ module _ {cluster : Cluster} {workload : Workload} {w : World} {order : List Txn
   -- the moves of a unit
 
   pub moves_in_order : (key : Bytes) → EachThen (λ m n. Precedes (logs_of w) m.by n.by) (history_of cluster w order key)
-  moves_in_order key = chain cluster.procs (Precedes (logs_of w)) (opening_table cluster) (txns_of w order) past key
+  moves_in_order key = chain cluster.procs (Precedes (logs_of w)) (opening_table cluster) (txns_of w order) (order_is_history i rooted) key
 
   pub moves_numbered : (key : Bytes) (c : ℕ) (m : Moved) → slice_get (history_of cluster w order key) c ≡ Some m
       → (x : Txn) × Has order m.by × (txn_of w m.by ≡ Some x) × (x.body ≡ Move (unit_of cluster.version key) m.target)
       × AllIn (λ a. unit_of cluster.version a.key ≡ unit_of cluster.version key → a.counter ≡ c) x.access
   moves_numbered key c m e =
-      let r = any_get _ (txns_of w order) (move_numbered cluster.procs (Precedes (logs_of w)) (opening_table cluster) (txns_of w order) past key c m e) in
+      let r = any_get _ (txns_of w order) (move_numbered cluster.procs (Precedes (logs_of w)) (opening_table cluster) (txns_of w order) (order_is_history i rooted) key c m e) in
       let there : Has order (r.0).id × (txn_of w (r.0).id ≡ Some r.0) =
       all_get (λ x. Has order x.id × (txn_of w x.id ≡ Some x)) (txns_of w order) (looked_from (txn_of w) (txn_id w) order) r.0 r.1 in
       (r.0, subst (Has order) r.2.0 there.0, subst (λ id. txn_of w id ≡ Some r.0) r.2.0 there.1, r.2.1, r.2.2)
@@ -100,7 +97,7 @@ module _ {cluster : Cluster} {workload : Workload} {w : World} {order : List Txn
     -- a region's moves are the first ones
     pub moves_first : (key : Bytes) → IsFront (moves_of (node_at w region).here.table key) (history_of cluster w order key)
     moves_first key = subst (λ t. IsFront (moves_of t key) (history_of cluster w order key)) (sym (i.tables region lr).table)
-        (moves_front cluster.procs (Precedes (logs_of w)) (opening_table cluster) (txns_of w order) past (executions_at w region) key
+        (moves_front cluster.procs (Precedes (logs_of w)) (opening_table cluster) (txns_of w order) (order_is_history i rooted) (executions_at w region) key
         (region_members i rooted region lr) (region_down i rooted region lr))
 
     -- made by what it executed

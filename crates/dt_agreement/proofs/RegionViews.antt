@@ -1,21 +1,21 @@
 -- What regions know in a world that keeps the invariant: all that is in their views was submitted, and what is closed in a
 -- view is closed in the whole logs.
-use Rattle.std.proofs.Common.{◌≡◌, ◌<◌, ◌↔◌, ℕ, List, [], length, sym, subst}
-use Rattle.dt_lists.specs.Lists.{AllIn, Has}
+use Rattle.std.proofs.Common.{◌≡◌, ◌<◌, ◌≤◌, ◌↔◌, ℕ, List, [], length, Some, sym, subst}
+use Rattle.dt_lists.specs.Lists.{AllIn, Distinct, Has}
 use Rattle.dt_lists.proofs.Callers.{any_at, any_image, all_get, all_put}
 use Rattle.dt_access.specs.declared.TxnId.{TxnId}
-use Rattle.dt_sched.specs.Views.{log_at, HasPart, IsLonger, IsPresent, IsClosed, Precedes, IsWellFormed}
-use Rattle.dt_sched.proofs.Callers.{well_formed_front}
-use Rattle.dt_sched.proofs.Callers.{present_of_complete}
-use Rattle.dt_sched.proofs.Callers.{complete_of_closed, closed_stays, preceders_stay}
+use Rattle.dt_sched.specs.Views.{ids_of, log_at, HasPart, IsLonger, IsPresent, IsClosed, Precedes, IsWellFormed}
+use Rattle.dt_sched.proofs.Callers.{complete_of_closed, closed_stays, preceders_stay, present_of_complete, well_formed_front}
+use Rattle.dt_txn.specs.declared.Txn.{Txn}
+use Rattle.dt_txn.specs.Transaction.{IsValid}
 use Rattle.dt_txn.specs.Replica.{fronts, done_ids}
 use Rattle.dt_cluster.specs.declared.Cluster.{Cluster}
 use Rattle.dt_workload.specs.declared.Workload.{Workload}
-use Rattle.dt_session.specs.World.{World, node_at, logs_of, log_of, view_at, txn_of}
+use Rattle.dt_session.specs.World.{World, Submission, node_at, logs_of, log_of, received_of, submissions, view_at, txn_of}
 use Rattle.dt_agreement.specs.Invariant.{Inv, IsExecutedAt}
-use Rattle.dt_agreement.proofs.Submissions.{WasSubmitted}
+use Rattle.dt_agreement.proofs.Submissions.{WasSubmitted, home_region, txn_id, txn_there}
 use Rattle.dt_agreement.proofs.Views.{view_is, fronts_longer, log_is, logs_length}
-use Rattle.dt_agreement.proofs.Logs.{id_known, logs_well_formed}
+use Rattle.dt_agreement.proofs.Logs.{id_known, log_once, logs_well_formed}
 
 module _ {cluster : Cluster} {workload : Workload} {w : World} {order : List TxnId} (i : Inv cluster workload w order) where
   -- the view of a region is a front of each log, as long as it inserted
@@ -62,3 +62,20 @@ module _ {cluster : Cluster} {workload : Workload} {w : World} {order : List Txn
 
   pub order_known : AllIn (WasSubmitted w) order
   order_known = all_put (WasSubmitted w) order (λ t h. closed_known t (order_closed t h))
+
+  -- the ids in a log are distinct
+  pub log_distinct : (home : ℕ) → home < cluster.regions → Distinct (ids_of (log_of w home))
+  log_distinct home lt = log_once cluster.regions w i.nodes i.ids i.asked i.logs home lt
+
+  -- a region received no more of a log than there is
+  pub received_within : (region home : ℕ) → region < cluster.regions → home < cluster.regions → received_of w region home ≤ length (log_of w home)
+  received_within region home lr lh = (i.lengths region home lr lh).received
+
+  -- a submitted transaction is valid, and has the id by which it is found
+  pub transaction_valid : (id : TxnId) (txn : Txn) → txn_of w id ≡ Some txn → IsValid cluster.procs cluster.version cluster.regions txn × (txn.id ≡ id) × (id.region < cluster.regions)
+  transaction_valid id txn e =
+      let r : (s : Submission) × Has (submissions w) s × (s.txn ≡ txn) × (s.txn.id ≡ id) = txn_there w id txn e in (
+        subst (IsValid cluster.procs cluster.version cluster.regions) r.2 (all_get (λ s. IsValid cluster.procs cluster.version cluster.regions s.txn) (submissions w) i.valid r.0 r.1),
+        txn_id w id txn e,
+        subst (λ x. x.region < cluster.regions) r.3 (home_region cluster.regions w i.nodes i.ids r.0 r.1).0,
+      )

@@ -48,6 +48,10 @@ use Rattle.dt_agreement.proofs.MoveHistory.{home_after_last, home_of_target, par
 use Rattle.dt_agreement.proofs.RootedAnnotations.{rooted_kept, entries_kept, rooted_longer, opening_rooted, annotated_rooted}
 
 module _ {cluster : Cluster} {workload : Workload} {w : World} {order : List TxnId} (i : Inv cluster workload w order) (rooted : Rooted cluster w order) where
+  -- an entry of a transaction is rooted
+  abbrev IsRootedFor : TxnId → Access → Type 0
+  IsRootedFor t a = IsRooted cluster (logs_of w) (history_of cluster w order a.key) t a
+
   -- a submission: the old entries stay rooted, and the new ones are
   submit_roots : IsValidCluster cluster → IsValidWorkload cluster workload → (region : ℕ) (name : Bytes) → region < cluster.regions
       → MaySubmit cluster w region (session_at workload.sessions w.places region name)
@@ -69,14 +73,14 @@ module _ {cluster : Cluster} {workload : Workload} {w : World} {order : List Txn
       uses : List (Bytes × Mode)
       uses = uses_of cluster.procs (node_at w region).here.table.version (body_of r.call.wanted)
 
-      fresh : AllIn (λ a. IsRooted cluster (logs_of w) (history_of cluster w order a.key) (upcoming_id w region) a) (map (annotated (node_at w region).here.table) uses)
-      fresh = all_image (λ a. IsRooted cluster (logs_of w) (history_of cluster w order a.key) (upcoming_id w region) a) (annotated (node_at w region).here.table) uses
+      fresh : AllIn (IsRootedFor (upcoming_id w region)) (map (annotated (node_at w region).here.table) uses)
+      fresh = all_image (IsRootedFor (upcoming_id w region)) (annotated (node_at w region).here.table) uses
           (all_put _ uses (λ u h. annotated_rooted i rooted region lr u))
 
-      old : (s : Submission) → Has (submissions w) s → AllIn (λ a. IsRooted cluster (logs_of w) (history_of cluster w order a.key) s.txn.id a) s.txn.access
-      old s h = all_get (λ x. AllIn (λ a. IsRooted cluster (logs_of w) (history_of cluster w order a.key) x.txn.id a) x.txn.access) (submissions w) rooted s h
+      old : (s : Submission) → Has (submissions w) s → AllIn (IsRootedFor s.txn.id) s.txn.access
+      old s h = all_get (λ x. AllIn (IsRootedFor x.txn.id) x.txn.access) (submissions w) rooted s h
 
-      stay : (t : TxnId) (access : List Access) → AllIn (λ a. IsRooted cluster (logs_of w) (history_of cluster w order a.key) t a) access
+      stay : (t : TxnId) (access : List Access) → AllIn (IsRootedFor t) access
           → AllIn (λ a. IsRooted cluster (logs_of v) (history_of cluster v order a.key) t a) access
       stay t access a = entries_kept cluster (logs_of w) (logs_of v) (history_of cluster w order) (history_of cluster v order) logs histories t access a
 
@@ -193,16 +197,20 @@ module _ {cluster : Cluster} {workload : Workload} {w : World} {order : List Txn
 
   -- a step by which a region changes only what it made of the logs
   step_roots : (region : ℕ) (h : Replica) → Rooted cluster (with_node w region (record (node_at w region) { here = h })) order
-  step_roots region h = rooted_kept cluster w (with_node w region (record (node_at w region) { here = h })) order
-      (map-set_same (λ n. n.log) w.nodes region (record (node_at w region) { here = h }) no_node refl)
-      (flat_map_of_set (λ n. n.submitted) w.nodes region (record (node_at w region) { here = h }) no_node refl)
-      (field_of_set (λ n. n.submitted) w.nodes region (record (node_at w region) { here = h }) no_node refl) rooted
+  step_roots region h =
+      let node : Node = record (node_at w region) { here = h } in
+      rooted_kept cluster w (with_node w region node) order
+      (map-set_same (λ n. n.log) w.nodes region node no_node refl)
+      (flat_map_of_set (λ n. n.submitted) w.nodes region node no_node refl)
+      (field_of_set (λ n. n.submitted) w.nodes region node no_node refl) rooted
 
   received_roots : (region home last : ℕ) → Rooted cluster (received w region home last) order
-  received_roots region home last = rooted_kept cluster w (received w region home last) order
-      (map-set_same (λ n. n.log) w.nodes region (record (node_at w region) { received = set (node_at w region).received home last }) no_node refl)
-      (flat_map_of_set (λ n. n.submitted) w.nodes region (record (node_at w region) { received = set (node_at w region).received home last }) no_node refl)
-      (field_of_set (λ n. n.submitted) w.nodes region (record (node_at w region) { received = set (node_at w region).received home last }) no_node refl) rooted
+  received_roots region home last =
+      let node : Node = record (node_at w region) { received = set (node_at w region).received home last } in
+      rooted_kept cluster w (received w region home last) order
+      (map-set_same (λ n. n.log) w.nodes region node no_node refl)
+      (flat_map_of_set (λ n. n.submitted) w.nodes region node no_node refl)
+      (field_of_set (λ n. n.submitted) w.nodes region node no_node refl) rooted
 
   deliver_roots : (region home first last : ℕ) → Rooted cluster (next cluster workload w (Deliver region home first last)) order
   deliver_roots region home first last = go (leb first (received_of w region home) && ltb (received_of w region home) last)

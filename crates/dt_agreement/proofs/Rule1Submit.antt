@@ -194,10 +194,13 @@ module _ {cluster : Cluster} {workload : Workload} {w : World} {order : List Txn
       below : (key : Bytes) → home_of (node_at w region).here.table key < cluster.regions
       below key = subst (λ t. home_of t key < cluster.regions) (sym (i.tables region lr).table) (home_below cluster ok (txns_of w ran) (txns_valid cluster cluster.regions w i.valid ran) key)
 
+  abbrev IsValidSubmission : Submission → Type 0
+  IsValidSubmission x = IsValid cluster.procs cluster.version cluster.regions x.txn
+
   valid : Valid cluster cluster.regions v
-  valid = all_put (λ x. IsValid cluster.procs cluster.version cluster.regions x.txn) (submissions v) (λ x h. elim (was x h) [
-    | inl k ↦ all_get (λ y. IsValid cluster.procs cluster.version cluster.regions y.txn) (submissions w) i.valid x k
-    | inr e ↦ subst (λ y. IsValid cluster.procs cluster.version cluster.regions y.txn) e valid_one
+  valid = all_put IsValidSubmission (submissions v) (λ x h. elim (was x h) [
+    | inl k ↦ all_get IsValidSubmission (submissions w) i.valid x k
+    | inr e ↦ subst IsValidSubmission e valid_one
   ])
 
   -- requests
@@ -315,14 +318,18 @@ module _ {cluster : Cluster} {workload : Workload} {w : World} {order : List Txn
     attempt_to = on.to;
   })
 
-  known : (q : ℕ) → q < cluster.regions → AllIn (λ x. AnyIn (IsSubmissionOf cluster.tries q x) workload.sessions) (node_at v q).submitted
+  -- a session of the region made the submission
+  abbrev IsOfSessionAt : ℕ → Submission → Type 0
+  IsOfSessionAt q x = AnyIn (IsSubmissionOf cluster.tries q x) workload.sessions
+
+  known : (q : ℕ) → q < cluster.regions → AllIn (IsOfSessionAt q) (node_at v q).submitted
   known q lq = by (either_nat q region)
     where
-      by : Either (q ≡ region) → AllIn (λ x. AnyIn (IsSubmissionOf cluster.tries q x) workload.sessions) (node_at v q).submitted
-      by (inr n) = subst (λ y. AllIn (λ x. AnyIn (IsSubmissionOf cluster.tries q x) workload.sessions) y.submitted) (sym (other q n)) (i.sessions.known q lq)
-      by (inl e) = subst (λ r. AllIn (λ x. AnyIn (IsSubmissionOf cluster.tries r x) workload.sessions) (node_at v r).submitted) (sym e)
-          (subst (AllIn (λ x. AnyIn (IsSubmissionOf cluster.tries region x) workload.sessions)) (sym submitted_here)
-          (all_more (λ x. AnyIn (IsSubmissionOf cluster.tries region x) workload.sessions) (node_at w region).submitted s (i.sessions.known region lr) of_session))
+      by : Either (q ≡ region) → AllIn (IsOfSessionAt q) (node_at v q).submitted
+      by (inr n) = subst (λ y. AllIn (IsOfSessionAt q) y.submitted) (sym (other q n)) (i.sessions.known q lq)
+      by (inl e) = subst (λ r. AllIn (IsOfSessionAt r) (node_at v r).submitted) (sym e)
+          (subst (AllIn (IsOfSessionAt region)) (sym submitted_here)
+          (all_more (IsOfSessionAt region) (node_at w region).submitted s (i.sessions.known region lr) of_session))
 
   sessions : SessionsMatch cluster workload v
   sessions = record {

@@ -189,15 +189,19 @@ text_or text (Err (refused.Twice at)) outcome = inr (record { place = place.Proc
 text_or text (Err (refused.TooMany at)) outcome = inr (record { place = place.Procs at; cause = cause.TooMany }, (refused.TooMany at, outcome, refl))
 text_or text (Err refused.NoMemory) outcome = absurd outcome
 
+-- the fault where the procedures are given as something else than a text
+abbrev no_text : ClusterFault
+no_text = record { place = place.Entry (codes "procs"); cause = cause.Kind }
+
 procs_or : (at : Option Data) → ProcsOr at
 procs_or None = inl (builtin_procs, refl)
 procs_or (Some (string text)) = let told = every_text text in text_or text told.0 told.1
-procs_or (Some (integer z)) = inr (record { place = place.Entry (codes "procs"); cause = cause.Kind }, refl)
-procs_or (Some (float x)) = inr (record { place = place.Entry (codes "procs"); cause = cause.Kind }, refl)
-procs_or (Some (boolean b)) = inr (record { place = place.Entry (codes "procs"); cause = cause.Kind }, refl)
-procs_or (Some (datetime t)) = inr (record { place = place.Entry (codes "procs"); cause = cause.Kind }, refl)
-procs_or (Some (array ds)) = inr (record { place = place.Entry (codes "procs"); cause = cause.Kind }, refl)
-procs_or (Some (table ms)) = inr (record { place = place.Entry (codes "procs"); cause = cause.Kind }, refl)
+procs_or (Some (integer z)) = inr (no_text, refl)
+procs_or (Some (float x)) = inr (no_text, refl)
+procs_or (Some (boolean b)) = inr (no_text, refl)
+procs_or (Some (datetime t)) = inr (no_text, refl)
+procs_or (Some (array ds)) = inr (no_text, refl)
+procs_or (Some (table ms)) = inr (no_text, refl)
 
 -- ---- homes
 

@@ -49,25 +49,32 @@ one_builtin m n few many same =
 
 -- words ask for one task
 module _ (words : List Bytes) where
+  -- tasks that they ask for have the same words, and so as many
+  same_words : (s t : Task) → Asks words s → Asks words t → task_words s ≡ task_words t
+  same_words s t is also = sym is.form ∙ also.form
+
+  as_many : (s t : Task) → Asks words s → Asks words t → length (task_words s) ≡ length (task_words t)
+  as_many s t is also = ap (λ (l : List Bytes). length l) (same_words s t is also)
+
   pub one_task : (s t : Task) → Asks words s → Asks words t → s ≡ t
   one_task (Replay a b c) (Replay x y z) is also =
-      let same : task_words (Replay a b c) ≡ task_words (Replay x y z) = sym is.form ∙ also.form in
+      let same = same_words (Replay a b c) (Replay x y z) is also in
       let clusters : a ≡ x = ap (λ (l : List Bytes). get_or l 1 []) same in
       let workloads : b ≡ y = ap (λ (l : List Bytes). get_or l 2 []) same in
       let events : c ≡ z = ap (λ (l : List Bytes). get_or l 3 []) same in
       λ i. Replay (clusters i) (workloads i) (events i)
   one_task (Run a b) (Run x y) is also =
-      let same : task_words (Run a b) ≡ task_words (Run x y) = sym is.form ∙ also.form in
+      let same = same_words (Run a b) (Run x y) is also in
       let clusters : a ≡ x = ap (λ (l : List Bytes). get_or l 1 []) same in
       let workloads : b ≡ y = ap (λ (l : List Bytes). get_or l 2 []) same in
       λ i. Run (clusters i) (workloads i)
-  one_task (Big a) (Big x) is also = ap (λ (l : List Bytes). Big (get_or l 1 [])) (sym is.form ∙ also.form)
-  one_task (Replay a b c) (Run x y) is also = absurd (omega (arith, ap (λ (l : List Bytes). length l) (sym is.form ∙ also.form)))
-  one_task (Replay a b c) (Big x) is also = absurd (omega (arith, ap (λ (l : List Bytes). length l) (sym is.form ∙ also.form)))
-  one_task (Run a b) (Replay x y z) is also = absurd (omega (arith, ap (λ (l : List Bytes). length l) (sym is.form ∙ also.form)))
-  one_task (Run a b) (Big x) is also = absurd (omega (arith, ap (λ (l : List Bytes). length l) (sym is.form ∙ also.form)))
-  one_task (Big a) (Replay x y z) is also = absurd (omega (arith, ap (λ (l : List Bytes). length l) (sym is.form ∙ also.form)))
-  one_task (Big a) (Run x y) is also = absurd (omega (arith, ap (λ (l : List Bytes). length l) (sym is.form ∙ also.form)))
+  one_task (Big a) (Big x) is also = ap (λ (l : List Bytes). Big (get_or l 1 [])) (same_words (Big a) (Big x) is also)
+  one_task (Replay a b c) (Run x y) is also = absurd (omega (arith, as_many (Replay a b c) (Run x y) is also))
+  one_task (Replay a b c) (Big x) is also = absurd (omega (arith, as_many (Replay a b c) (Big x) is also))
+  one_task (Run a b) (Replay x y z) is also = absurd (omega (arith, as_many (Run a b) (Replay x y z) is also))
+  one_task (Run a b) (Big x) is also = absurd (omega (arith, as_many (Run a b) (Big x) is also))
+  one_task (Big a) (Replay x y z) is also = absurd (omega (arith, as_many (Big a) (Replay x y z) is also))
+  one_task (Big a) (Run x y) is also = absurd (omega (arith, as_many (Big a) (Run x y) is also))
 
   -- so what holds of the task that they ask for holds of one
   pub one_asked : (P Q : Task → Type 0) → AskFor words P → AskFor words Q → (task : Task) × P task × Q task

@@ -1,5 +1,5 @@
 -- The text that a task asks for, or why there is none: what is answered as a whole, from what its parts answered.
-use Rattle.std.proofs.Common.{◌≡◌, ℕ, ◌≤◌, List, Option, Some, IsSomeAnd, Result, Ok, Err, IfOk, Vec, inl, inr, arith, refl, sym, subst}
+use Rattle.std.proofs.Common.{◌≡◌, ℕ, List, Option, Some, IsSomeAnd, Result, Ok, Err, IfOk, Vec, inl, inr, arith, refl, sym, subst, ◌∙◌}
 use Rattle.dt_access.specs.Clash.{Bytes}
 use Rattle.dt_outside.specs.Folder.{Files, FolderView}
 use Rattle.dt_events.specs.declared.Event.{Event}
@@ -17,7 +17,7 @@ use Rattle.dt_command.specs.declared.status.Status.TheVariants.{NoMemory, Cannot
 use Rattle.dt_command.specs.declared.status.EventsCause.{EventsCause}
 use Rattle.dt_command.specs.declared.status.EventsCause.TheVariants.{TooLong, Form, Rule}
 use Rattle.dt_command.specs.Tasks.{Task, Replay, Run, Big, IsClusterFile, cluster_word, workload_word}
-use Rattle.dt_command.specs.TaskFiles.{HasFile, HasCluster, HoldEvents, Loaded, unnumbered}
+use Rattle.dt_command.specs.TaskFiles.{HasFile, HasCluster, HoldEvents, KeepsFiles, Loaded, unnumbered}
 use Rattle.dt_command.specs.Headline.{Headline, HasGiven, IsDone}
 use Rattle.dt_command.specs.Causes.{AreBadCluster, AreBadWorkload, AreBadEvents, CanBeDone, WasMissed}
 use Rattle.dt_command.specs.RefusalCode.{IsFileRefusal, IsClusterRefusal, IsWorkloadRefusal, IsLoadRefusal, IsEventsRefusal, IsStepRefusal, IsRefusal, IsTextOf, AreMalformed}
@@ -26,10 +26,9 @@ use Rattle.dt_command.specs.RefusalCode.{IsFileRefusal, IsClusterRefusal, IsWork
 file_more : (told : Option Files) (name : Bytes) (P Q : Bytes → Type 0) → ((bytes : Bytes) → P bytes → Q bytes) → HasFile told name P → HasFile told name Q
 file_more told name P Q more (bytes, is, p) = (bytes, is, more bytes p)
 
--- what loads in between leave as it was: which files are reported; and the count of faults does not fall
-pub record KeepsFiles (before after : FolderView) : Type 0 where
-  pub told : after.told ≡ before.told
-  pub later : before.faults ≤ after.faults
+-- one load after another
+pub keeps_more : {a b c : FolderView} → KeepsFiles a b → KeepsFiles b c → KeepsFiles a c
+keeps_more first then = let n = first.later in let m = then.later in record { told = then.told ∙ first.told; later = omega (arith, n, m) }
 
 -- a load that failed after others
 missed_later : (before loaded now : FolderView) (name : Bytes) → KeepsFiles before loaded → WasMissed loaded now name → WasMissed before now name

@@ -2,7 +2,7 @@ ghost use Rattle.std.specs.Prelude.{◌≡◌, ◌<◌, ◌≤◌, ◌⊎◌, le
 ghost use Rattle.dt_cluster.specs.Valid.{IsValidCluster};
 ghost use Rattle.dt_workload.specs.Valid.{IsValidWorkload};
 ghost use Rattle.dt_command.specs.TaskCode.{IsRight, word_of};
-ghost use Rattle.dt_command.specs.TaskFiles.{HasCluster, HasFile, HoldCluster, HoldEvents, HoldWorkload, file_limit};
+ghost use Rattle.dt_command.specs.TaskFiles.{HasCluster, HasFile, HoldCluster, HoldEvents, HoldWorkload, KeepsFiles, file_limit};
 ghost use Rattle.dt_command.specs.Causes.{WasMissed};
 ghost use Rattle.dt_command.specs.RefusalCode.{IsClusterRefusal, IsEventsRefusal, IsFileRefusal, IsLoadRefusal, IsWorkloadRefusal};
 
@@ -40,8 +40,7 @@ pub fn load_both<F: Folder>(
     ensures valid { IfOk result (λ both. IsValidCluster both.0 × IsValidWorkload both.0 both.1) }
     ensures refused { (status : _) → result ≡ Err status →
         IsLoadRefusal (word_of word.entry) name.now (F.seen files.old) (F.seen files.new) status }
-    ensures same_told { (F.seen files.new).told ≡ (F.seen files.old).told }
-    ensures later { (F.seen files.old).faults ≤ (F.seen files.new).faults }
+    ensures keeps { KeepsFiles (F.seen files.old) (F.seen files.new) }
 {
     let cluster = load_cluster(alloc, files, word)?;
     let workload = load_workload(alloc, files, name, &cluster)?;
@@ -59,8 +58,7 @@ fn load_cluster<F: Folder>(
     ensures valid { IfOk result IsValidCluster }
     ensures refused { (status : _) → result ≡ Err status →
         IsClusterRefusal (word_of word.entry) (F.seen files.old) (F.seen files.new) status }
-    ensures same_told { (F.seen files.new).told ≡ (F.seen files.old).told }
-    ensures later { (F.seen files.old).faults ≤ (F.seen files.new).faults }
+    ensures keeps { KeepsFiles (F.seen files.old) (F.seen files.new) }
 {
     match word {
         ClusterWord::Builtin(regions) => Ok(builtin(alloc, regions)?),
@@ -74,8 +72,7 @@ fn cluster_file<F: Folder>(alloc: Global, files: &mut F, name: &str) -> Result<C
     ensures valid { IfOk result IsValidCluster }
     ensures refused { (status : _) → result ≡ Err status →
         IsFileRefusal name.now (F.seen files.old) (F.seen files.new) status }
-    ensures same_told { (F.seen files.new).told ≡ (F.seen files.old).told }
-    ensures later { (F.seen files.old).faults ≤ (F.seen files.new).faults }
+    ensures keeps { KeepsFiles (F.seen files.old) (F.seen files.new) }
 {
     let too_long = Status::BadCluster(ClusterFault {
         place: ClusterPlace::Whole,
@@ -101,8 +98,7 @@ fn load_workload<F: Folder>(
     ensures valid { IfOk result (λ workload. IsValidWorkload cluster.now workload) }
     ensures refused { (status : _) → result ≡ Err status →
         IsWorkloadRefusal cluster.now name.now (F.seen files.old) (F.seen files.new) status }
-    ensures same_told { (F.seen files.new).told ≡ (F.seen files.old).told }
-    ensures later { (F.seen files.old).faults ≤ (F.seen files.new).faults }
+    ensures keeps { KeepsFiles (F.seen files.old) (F.seen files.new) }
 {
     let too_long = Status::BadWorkload(0, WorkloadCause::TooLong);
     let bytes = load(alloc, files, name, WORKLOAD_WORD, too_long)?;
@@ -123,8 +119,7 @@ pub fn load_events<F: Folder>(
     ensures few { IfOk result (λ events. length events ≤ file_limit) }
     ensures refused { (status : _) → result ≡ Err status →
         IsEventsRefusal name.now (F.seen files.old) (F.seen files.new) status }
-    ensures same_told { (F.seen files.new).told ≡ (F.seen files.old).told }
-    ensures later { (F.seen files.old).faults ≤ (F.seen files.new).faults }
+    ensures keeps { KeepsFiles (F.seen files.old) (F.seen files.new) }
 {
     let too_long = Status::BadEvents(0, EventsCause::TooLong);
     let bytes = load(alloc, files, name, EVENTS_WORD, too_long)?;
@@ -149,8 +144,7 @@ fn load<F: Folder>(
         (status ≡ Status.NoMemory)
         ⊎ ((status ≡ too_long) × HasFile (F.seen files.old).told name.now (λ bytes. file_limit < length bytes))
         ⊎ ((status ≡ Status.CannotRead word) × WasMissed (F.seen files.old) (F.seen files.new) name.now) }
-    ensures same_told { (F.seen files.new).told ≡ (F.seen files.old).told }
-    ensures later { (F.seen files.old).faults ≤ (F.seen files.new).faults }
+    ensures keeps { KeepsFiles (F.seen files.old) (F.seen files.new) }
 {
     match files.load(alloc, name, FILE_LIMIT) {
         Ok(bytes) => Ok(bytes),

@@ -22,36 +22,48 @@ use Rattle.dt_eval.proofs.RowLaws.{Keeps, IsWrittenIn, sets_any, sets_sound, blo
 
 -- of one procedure
 
+-- what its body makes of these reads
+abbrev run_of : ProcTree → List Value → List (Bytes × Option Value) → Result RunState Cause
+run_of proc args reads = after_block (names_of proc args) proc.body (run_opening args reads)
+
+-- it has the key in mode Write
+abbrev HasToWrite : ProcTree → List Value → Bytes → Type 0
+HasToWrite proc args key = AnyIn (λ u. (u.0 ≡ key) × (u.1 ≡ Write)) (keys_of proc args)
+
+-- the rows have the keys that were read
+abbrev HaveKeysRead : List (Bytes × Option Value) → List Row → Type 0
+HaveKeysRead reads rows = map (λ (r : Row). r.key) rows ≡ map (λ r. r.0) reads
+
 -- a sound procedure writes only keys that it has in mode Write
 pub writes_declared : (proc : ProcTree) (args : List Value) (reads : List (Bytes × Option Value)) → IsSoundProc proc →
     AllIn (λ w. AnyIn (λ u. (u.0 ≡ w.0) × (u.1 ≡ Write)) (keys_of proc args)) (writes_in (meaning proc args reads))
-writes_declared proc args reads sound = ended (after_block (names_of proc args) proc.body (run_opening args reads)) kept
+writes_declared proc args reads sound = ended (run_of proc args reads) kept
   where
-    kept : Keeps (AllIn (IsWrittenIn (λ key. AnyIn (λ u. (u.0 ≡ key) × (u.1 ≡ Write)) (keys_of proc args)))) (after_block (names_of proc args) proc.body (run_opening args reads))
+    kept : Keeps (AllIn (IsWrittenIn (HasToWrite proc args))) (run_of proc args reads)
     kept = block_keeps (names_of proc args) _ (λ k. slice_get (map (λ (d : KeyDecl). d.write) proc.keys) k ≡ Some true)
         (λ k v rows yes all. with_value_written _ (declared_key (names_of proc args) k) v rows (keys_write (declared_key (names_of proc args) k) proc args (written_use args proc.keys k yes)) all)
         proc.body (sets_sound (map sort_of proc.params) (map (λ (d : KeyDecl). d.write) proc.keys) proc.body sound.body) (run_opening args reads) (opening_written _ reads)
 
-    ended : (r : Result RunState Cause) → Keeps (AllIn (IsWrittenIn (λ key. AnyIn (λ u. (u.0 ≡ key) × (u.1 ≡ Write)) (keys_of proc args)))) r →
+    ended : (r : Result RunState Cause) → Keeps (AllIn (IsWrittenIn (HasToWrite proc args))) r →
         AllIn (λ w. AnyIn (λ u. (u.0 ≡ w.0) × (u.1 ≡ Write)) (keys_of proc args)) (writes_in (finish_of r))
-    ended (Ok s) all = writes_written (λ key. AnyIn (λ u. (u.0 ≡ key) × (u.1 ≡ Write)) (keys_of proc args)) s.rows all
+    ended (Ok s) all = writes_written (HasToWrite proc args) s.rows all
     ended (Err c) all = tt
 
 -- the keys of the rows of a run stay
-pub keys_stay : (proc : ProcTree) (args : List Value) (reads : List (Bytes × Option Value)) → Keeps (λ rows. map (λ (r : Row). r.key) rows ≡ map (λ r. r.0) reads) (after_block (names_of proc args) proc.body (run_opening args reads))
+pub keys_stay : (proc : ProcTree) (args : List Value) (reads : List (Bytes × Option Value)) → Keeps (HaveKeysRead reads) (run_of proc args reads)
 keys_stay proc args reads =
-    block_keeps (names_of proc args) (λ rows. map (λ (r : Row). r.key) rows ≡ map (λ r. r.0) reads) (λ k. Unit {0})
+    block_keeps (names_of proc args) (HaveKeysRead reads) (λ k. Unit {0})
     (λ k v rows yes same. with_value_keys (declared_key (names_of proc args) k) v rows ∙ same) proc.body (sets_any (λ k. Unit {0}) (λ k. tt) proc.body) (run_opening args reads) (opening_keys reads)
 
 -- from reads of its keys alone it writes at most 16 of them
 writes_few : (proc : ProcTree) (args : List Value) (reads : List (Bytes × Option Value)) → IsSoundProc proc →
     map (λ r. r.0) reads ≡ map (λ u. u.0) (keys_of proc args) → length (writes_in (meaning proc args reads)) ≤ 16
-writes_few proc args reads sound same = ended (after_block (names_of proc args) proc.body (run_opening args reads)) (keys_stay proc args reads)
+writes_few proc args reads sound same = ended (run_of proc args reads) (keys_stay proc args reads)
   where
     few : length reads ≤ 16
     few = omega (arith, length-map reads (λ r. r.0), ap length same, length-map (keys_of proc args) (λ u. u.0), keys_few proc args, sound.few_keys)
 
-    ended : (r : Result RunState Cause) → Keeps (λ rows. map (λ (r : Row). r.key) rows ≡ map (λ r. r.0) reads) r → length (writes_in (finish_of r)) ≤ 16
+    ended : (r : Result RunState Cause) → Keeps (HaveKeysRead reads) r → length (writes_in (finish_of r)) ≤ 16
     ended (Ok s) kept = omega (
       arith,
       length-map {B = Bytes × Option Value} (filter (λ (r : Row). r.changed) s.rows) (λ (r : Row). (r.key, r.value)),

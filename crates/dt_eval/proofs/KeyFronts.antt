@@ -17,7 +17,7 @@ pub record Giving (args : List Value) (items : List KeyItem) (bytes : Bytes) (in
 module _ (args : List Value) (items : List KeyItem) (bytes rest : Bytes) (index : ℕ) (item : KeyItem)
     (inside : index < length items) (is : item ≡ get_or items index item) (known : Giving args items bytes index rest) where
   cut : drop index items ≡ item ∷ drop (index + 1) items
-  cut = from_item items index item inside is
+  cut = from_item items index item _ inside is
 
   cut_text : key_text args (drop index items) ≡ item_text args item ++ key_text args (drop (index + 1) items)
   cut_text = ap (key_text args) cut

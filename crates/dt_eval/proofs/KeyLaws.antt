@@ -205,7 +205,7 @@ no_bad (name ∷ names) (suc i) all bad = no_bad names i all.1 bad.1
 module _ (proc : ProcTree) (args : List Value) (declarations : List KeyDecl) (number : ℕ) (uses : List (Bytes × Bool)) (d : KeyDecl)
     (below : number < length declarations) (is : d ≡ get_or declarations number d) (known : Gathers proc args declarations number uses) where
   declared : drop number declarations ≡ d ∷ drop (number + 1) declarations
-  declared = from_item declarations number d below is
+  declared = from_item declarations number d _ below is
 
   pub gathers_more : IsKey (key_text args d.items) → (more : List (Bytes × Bool)) → more ≡ with_use uses (use_of args d) → Gathers proc args declarations (number + 1) more
   gathers_more key more e = record {

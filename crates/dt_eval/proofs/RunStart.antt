@@ -88,7 +88,7 @@ pub record Placing (args : List Value) (declarations : List KeyDecl) (reads : Li
 module _ (args : List Value) (declarations : List KeyDecl) (reads : List (Bytes × Option Value)) (index : ℕ) (places : List ℕ) (d : KeyDecl)
     (inside : index < length declarations) (is : d ≡ get_or declarations index d) (known : Placing args declarations reads index places) where
   cut : drop index declarations ≡ d ∷ drop (index + 1) declarations
-  cut = from_item declarations index d inside is
+  cut = from_item declarations index d _ inside is
 
   pub placing_read : AnyIn (λ r. r.0 ≡ key_text args d.items) reads
   placing_read = (subst (λ ds. AllIn (λ name. AnyIn (λ r. r.0 ≡ name) reads) (names_given args ds)) cut known.read).0

@@ -16,7 +16,7 @@ use Rattle.dt_workload.specs.declared.Session.{Session}
 use Rattle.dt_workload.specs.declared.Workload.{Workload}
 use Rattle.dt_session.specs.World.{Place, World, asked_of, idle_place, opening_world, received_of, session_at, taken_of, txn_of, with_place}
 use Rattle.dt_session.specs.Step.{IsLegal, MayAnswer, answered, attempt_for, called, next, placed, received, submitted}
-use Rattle.dt_session.specs.Run.{AreLegalFrom, order_of, world_after, world_from}
+use Rattle.dt_session.specs.Run.{AreLegalFrom, world_after, world_from}
 use Rattle.dt_session.specs.Finished.{AreAnswered}
 use Rattle.dt_agreement.specs.LegalRun.{IsLegalRun}
 use Rattle.dt_agreement.proofs.Callers.{answered_changed, answered_in, found_is_named, legal_keeps, places_parallel}
@@ -103,7 +103,7 @@ each_answered calls events few legal finished =
     let now = world_after load_cluster workload events in
     let run : IsLegalRun load_cluster workload events = record { sound = load_cluster_valid; fits = load_workload_valid calls few; legal = legal } in
     let inv = legal_keeps run in
-    let long = places_parallel load_cluster workload now (order_of events) inv in
+    let long = places_parallel inv in
     let counted = events_count load_cluster workload events (opening_world load_cluster workload) legal in
     let done = all_answered workload.sessions now.places long finished.answered in
     omega (arith, counted, done, none_answered workload.sessions, load_calls_in calls)

@@ -106,7 +106,7 @@ module _ (calls : ℕ) (w : World) (order : List TxnId) (inv : Inv load_cluster 
   -- so each transaction is one of the load
   txn_of_load : (id : TxnId) (txn : Txn) → txn_of w id ≡ Some txn → IsOfLoad txn
   txn_of_load id txn e =
-      let valid = transaction_valid load_cluster (load_workload calls) w order inv id txn e in
+      let valid = transaction_valid inv id txn e in
       let s = txn_there w id txn e in
       let body = body_of_load s.0 s.1 in
       record { valid = valid.0; call = body.0; body = ap (λ (x : Txn). x.body) (sym s.2) ∙ body.1 }

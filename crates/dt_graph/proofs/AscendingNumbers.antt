@@ -1,6 +1,6 @@
 -- Numbers in ascending order: those from one number on, below another one, are at most as many as the two are apart; and they
 -- are that many just where each of them is there.
-use Rattle.std.proofs.Common.{◌≡◌, ◌+◌, ◌<◌, ◌≤◌, ◌⊎◌, ℕ, zero, suc, List, [], ◌∷◌, length, slice_get, None, Some, inl, inr, arith}
+use Rattle.std.proofs.Common.{◌≡◌, ◌+◌, ◌<◌, ◌≤◌, ◌⊎◌, ℕ, zero, suc, List, [], ◌∷◌, length, slice_get, Some, inl, inr, arith}
 use Rattle.dt_lists.specs.Lists.{AllIn, Has, EachThen}
 use Rattle.dt_lists.proofs.Callers.{all_get, all_map, either_nat, some_same}
 
@@ -106,9 +106,3 @@ place_below a (x ∷ xs) up low (suc i) v e = more (place_below (suc x) xs up.1 
   where
     more : i + suc x ≤ v → suc i + a ≤ v
     more f = omega (arith, f, low.0)
-
--- at each place within a list stands something
-pub place_taken : {A : Type 0} (xs : List A) (i : ℕ) → i < length xs → slice_get xs i ≡ None → ⊥
-place_taken [] i lt e = omega (arith, lt)
-place_taken (x ∷ xs) zero lt e = cc
-place_taken (x ∷ xs) (suc i) lt e = place_taken xs i (omega (arith, lt)) e

@@ -1,5 +1,5 @@
 -- Pushing the uses of a part, step by step, and taking the pushed entries back; and what a part adds to what is kept.
-use Rattle.std.proofs.Common.{◌≡◌, ◌≢◌, ◌+◌, ◌<◌, ◌≤◌, ◌⊎◌, ◌↔◌, ◌∙◌, ◌^◌, ℕ, suc, Bool, true, false, ◌==◌, not, if◌then◌else◌, List, []}
+use Rattle.std.proofs.Common.{◌≡◌, ◌≢◌, ◌+◌, ◌<◌, ◌≤◌, ◌⊎◌, ◌∙◌, ◌^◌, ℕ, suc, Bool, true, false, ◌==◌, not, if◌then◌else◌, List, []}
 use Rattle.std.proofs.Common.{◌∷◌, ◌++◌, length, map, filter, get_or, set, None, refl, sym, ap, ap₂, subst, inl, inr, arith}
 use Rattle.std.proofs.lemmas.Bool.{cases_Bool}
 use Rattle.std.proofs.lemmas.List.{append-nil, append_assoc, get_or-set_other, get_or-set_same, length-append, length-set, map-append, same_from_push}
@@ -11,8 +11,10 @@ use Rattle.dt_lists.proofs.Callers.{all_append, all_append_left, all_put, distin
 use Rattle.dt_access.specs.Clash.{Bytes}
 use Rattle.dt_access.specs.declared.access.Mode.{Mode}
 use Rattle.dt_access.specs.declared.Part.{Part}
+use Rattle.dt_access.specs.declared.TxnId.{TxnId}
 use Rattle.dt_queue.specs.Queues.{HasDistinctSlots, IsQueued, Waiting, neighbours, taken_out}
 use Rattle.dt_queue.proofs.Callers.{distinct_pushed, pushed_waits}
+use Rattle.dt_waits.specs.declared.vertex.Vertex.{Vertex}
 use Rattle.dt_waits.specs.Waits.{degree, id_at, others}
 use Rattle.dt_waits.specs.Graph.{GraphView, vertex_at}
 use Rattle.dt_waits.specs.Steps.{AreEntriesOf, Grows, Inserts, fresh_vertex}
@@ -115,113 +117,115 @@ last_at : {A : Type 0} (xs : List A) (y d : A) → get_or (xs ++ y ∷ []) (leng
 last_at [] y d = refl
 last_at (x ∷ xs) y d = last_at xs y d
 
--- what was put to a list was put to another that is the same
-more_of : (now : List ℕ) {P : ℕ → Type 0} {was old : List ℕ} → was ≡ old → ((u : ℕ) → Has now u ↔ Has was u ⊎ P u) → (u : ℕ) → Has now u ↔ Has old u ⊎ P u
-more_of now {P} {was} {old} e f = subst (λ l. (u : ℕ) → Has now u ↔ Has l u ⊎ P u) e f
+-- each id that is kept is there once, and has a vertex and a degree
+pub record HasVertices (g : GraphView) : Type 0 where
+  pub once : Distinct g.ids
+  pub vertices : length g.vertices ≡ length g.ids
+  pub degrees : length g.degrees ≡ length g.ids
 
--- a transaction's first part is added, with a vertex of its own
-pub inserts_first : (part : Part) (old : GraphView) (waiting : List Waiting) (slots : List ℕ) (missing count : ℕ) (ready stuck ready_now stuck_now : List ℕ)
-    → Distinct old.ids → ¬ (Has old.ids part.id) → length old.vertices ≡ length old.ids → length old.degrees ≡ length old.ids → suc missing ≡ length part.homes
-    → (e : Enters part.home (length old.ids) part.keys old.waiting waiting [] slots count) → ready ≡ old.ready → stuck ≡ old.stuck
-    → Sorts (length old.ids) (old.vertices ++ record { rank = part.rank; missing = missing; class = None; slots = slots } ∷ []) (old.degrees ++ count ∷ []) ready stuck ready_now stuck_now
-    → Inserts part (length old.ids) e.pushed.more old (record {
-      ids = old.ids ++ part.id ∷ [];
-      vertices = old.vertices ++ record { rank = part.rank; missing = missing; class = None; slots = slots } ∷ [];
-      degrees = old.degrees ++ count ∷ [];
-      waiting = waiting;
-      ready = ready_now;
-      stuck = stuck_now;
-      classes = old.classes;
-    })
-inserts_first part old waiting slots missing count ready stuck ready_now stuck_now once fresh sv sd lacking e er es sorts = record {
-  within = subst (λ n. length old.ids < n) (sym (length-append old.ids (part.id ∷ []))) (below_next (length old.ids));
-  named = last_at old.ids part.id (record { seq = 0; region = 0 });
-  once = distinct_push old.ids part.id once fresh;
-  ids = λ t. (
-    λ h. elim (has_more old.ids part.id t h) [ inl o ↦ inl o | inr f ↦ inr (sym f) ],
-    λ s. elim s [ inl o ↦ has_longer old.ids (part.id ∷ []) t o | inr f ↦ subst (Has (old.ids ++ part.id ∷ [])) (sym f) (has_last old.ids part.id) ],
-  );
-  vertices = length-append old.vertices _ ∙ ap (λ n. n + 1) sv ∙ sym (length-append old.ids (part.id ∷ []));
-  degrees = length-append old.degrees (count ∷ []) ∙ ap (λ n. n + 1) sd ∙ sym (length-append old.ids (part.id ∷ []));
-  kept = λ u lt. (subst (λ n. u < n) (sym (length-append old.ids (part.id ∷ []))) (grown u lt), get_or-append old.ids (part.id ∷ []) (record { seq = 0; region = 0 }) u lt);
-  others = λ u lt ne.
-      let was : u < length old.ids = older u (subst (λ n. u < n) (length-append old.ids (part.id ∷ [])) lt) ne in (
-        was,
-        get_or-append old.vertices (_ ∷ []) (record { rank = 0; missing = 0; class = None; slots = [] }) u (subst (λ n. u < n) (sym sv) was),
-        get_or-append old.degrees (count ∷ []) 0 u (subst (λ n. u < n) (sym sd) was),
-      );
-  waiting = e.pushed.waiting;
-  distinct = e.pushed.distinct;
-  entries = entries_of part (length old.ids) old.waiting waiting [] slots count e;
-  before = fresh_vertex part;
-  is_before = inr (refl, fresh, refl);
-  grows = subst (Grows (fresh_vertex part) e.pushed.more) (sym vertex_is) (record { rank = refl; missing = lacking; class = refl; slots = e.pushed.at_slots });
-  counted = degree_is ∙ e.counted;
-  ready = more_of ready_now er sorts.readied;
-  stuck = more_of stuck_now es sorts.stuck_more;
-  classes = refl;
-}
-  where
-    below_next : (n : ℕ) → n < n + 1
-    below_next n = omega arith
+abbrev no_id : TxnId
+no_id = record { seq = 0; region = 0 }
 
-    grown : (u : ℕ) → u < length old.ids → u < length old.ids + 1
-    grown u lt = omega (arith, lt)
+abbrev no_vertex : Vertex
+no_vertex = record { rank = 0; missing = 0; class = None; slots = [] }
 
-    older : (u : ℕ) → u < length old.ids + 1 → u ≢ length old.ids → u < length old.ids
-    older u lt ne = grind (arith, lt, ne)
+-- the vertex, once a part more is there
+abbrev grown_to : Vertex → ℕ → List ℕ → Vertex
+grown_to vertex missing slots = record vertex { missing = missing; slots = slots }
 
-    vertex_is : vertex_at (old.vertices ++ record { rank = part.rank; missing = missing; class = None; slots = slots } ∷ []) (length old.ids) ≡ record { rank = part.rank; missing = missing; class = None; slots = slots }
-    vertex_is = ap (vertex_at (old.vertices ++ record { rank = part.rank; missing = missing; class = None; slots = slots } ∷ [])) (sym sv)
-        ∙ last_at old.vertices (record { rank = part.rank; missing = missing; class = None; slots = slots }) (record { rank = 0; missing = 0; class = None; slots = [] })
+-- a part is added to what is kept
+module _ (part : Part) (old : GraphView) (has : HasVertices old) (waiting : List Waiting) (slots : List ℕ) (missing count : ℕ) (ready stuck : List ℕ) where
+  -- what is kept then
+  abbrev after : List TxnId → List Vertex → List ℕ → GraphView
+  after ids vertices degrees = record { ids = ids; vertices = vertices; degrees = degrees; waiting = waiting; ready = ready; stuck = stuck; classes = old.classes }
 
-    degree_is : get_or (old.degrees ++ count ∷ []) (length old.ids) 0 ≡ count
-    degree_is = ap (λ n. get_or (old.degrees ++ count ∷ []) n 0) (sym sd) ∙ last_at old.degrees count 0
+  abbrev first : Vertex
+  first = grown_to (fresh_vertex part) missing slots
 
--- one more part is added to the vertex of its transaction
-pub inserts_again : (part : Part) (v : ℕ) (old : GraphView) (waiting : List Waiting) (slots : List ℕ) (missing count : ℕ) (ready stuck ready_now stuck_now : List ℕ)
-    → Distinct old.ids → v < length old.ids → id_at old.ids v ≡ part.id → length old.vertices ≡ length old.ids → length old.degrees ≡ length old.ids → suc missing ≡ (vertex_at old.vertices v).missing
-    → (e : Enters part.home v part.keys old.waiting waiting (vertex_at old.vertices v).slots slots count) → ready ≡ old.ready → stuck ≡ old.stuck
-    → Sorts v (set old.vertices v (record (vertex_at old.vertices v) { missing = missing; slots = slots })) (set old.degrees v count) ready stuck ready_now stuck_now
-    → Inserts part v e.pushed.more old (record {
-      ids = old.ids;
-      vertices = set old.vertices v (record (vertex_at old.vertices v) { missing = missing; slots = slots });
-      degrees = set old.degrees v count;
-      waiting = waiting;
-      ready = ready_now;
-      stuck = stuck_now;
-      classes = old.classes;
-    })
-inserts_again part v old waiting slots missing count ready stuck ready_now stuck_now once lt named sv sd lacking e er es sorts = record {
-  within = lt;
-  named = named;
-  once = once;
-  ids = λ t. (λ h. inl h, λ s. elim s [ inl o ↦ o | inr f ↦ subst (Has old.ids) (named ∙ sym f) (id_has old.ids v lt) ]);
-  vertices = length-set old.vertices v _ ∙ sv;
-  degrees = length-set old.degrees v count ∙ sd;
-  kept = λ u l. (l, refl);
-  others = λ u l ne. (
-    l,
-    get_or-set_other old.vertices v u _ (record { rank = 0; missing = 0; class = None; slots = [] }) ne,
-    get_or-set_other old.degrees v u count 0 ne,
-  );
-  waiting = e.pushed.waiting;
-  distinct = e.pushed.distinct;
-  entries = entries_of part v old.waiting waiting (vertex_at old.vertices v).slots slots count e;
-  before = vertex_at old.vertices v;
-  is_before = inl (lt, refl);
-  grows = subst (Grows (vertex_at old.vertices v) e.pushed.more) (sym vertex_is) (record { rank = refl; missing = lacking; class = refl; slots = e.pushed.at_slots });
-  counted = degree_is ∙ e.counted;
-  ready = more_of ready_now er sorts.readied;
-  stuck = more_of stuck_now es sorts.stuck_more;
-  classes = refl;
-}
-  where
-    vertex_is : vertex_at (set old.vertices v (record (vertex_at old.vertices v) { missing = missing; slots = slots })) v ≡ record (vertex_at old.vertices v) { missing = missing; slots = slots }
-    vertex_is = get_or-set_same old.vertices v (record (vertex_at old.vertices v) { missing = missing; slots = slots }) (record { rank = 0; missing = 0; class = None; slots = [] }) (subst (λ n. v < n) (sym sv) lt)
+  -- it is the first part of its transaction, which gets a vertex of its own
+  pub inserts_first : ¬ (Has old.ids part.id) → suc missing ≡ length part.homes → (e : Enters part.home (length old.ids) part.keys old.waiting waiting [] slots count)
+      → Sorts (length old.ids) (old.vertices ++ first ∷ []) (old.degrees ++ count ∷ []) old.ready old.stuck ready stuck
+      → Inserts part (length old.ids) e.pushed.more old (after (old.ids ++ part.id ∷ []) (old.vertices ++ first ∷ []) (old.degrees ++ count ∷ []))
+  inserts_first fresh lacking e sorts = record {
+    within = subst (λ n. length old.ids < n) (sym one_more) (below_next (length old.ids));
+    named = last_at old.ids part.id no_id;
+    once = distinct_push old.ids part.id has.once fresh;
+    ids = λ t. (
+      λ h. elim (has_more old.ids part.id t h) [ inl o ↦ inl o | inr f ↦ inr (sym f) ],
+      λ s. elim s [ inl o ↦ has_longer old.ids (part.id ∷ []) t o | inr f ↦ subst (Has (old.ids ++ part.id ∷ [])) (sym f) (has_last old.ids part.id) ],
+    );
+    vertices = length-append old.vertices _ ∙ ap (λ n. n + 1) has.vertices ∙ sym one_more;
+    degrees = length-append old.degrees (count ∷ []) ∙ ap (λ n. n + 1) has.degrees ∙ sym one_more;
+    kept = λ u lt. (subst (λ n. u < n) (sym one_more) (grown u lt), get_or-append old.ids (part.id ∷ []) no_id u lt);
+    others = λ u lt ne.
+        let was : u < length old.ids = older u (subst (λ n. u < n) one_more lt) ne in (
+          was,
+          get_or-append old.vertices (_ ∷ []) no_vertex u (subst (λ n. u < n) (sym has.vertices) was),
+          get_or-append old.degrees (count ∷ []) 0 u (subst (λ n. u < n) (sym has.degrees) was),
+        );
+    waiting = e.pushed.waiting;
+    distinct = e.pushed.distinct;
+    entries = entries_of part (length old.ids) old.waiting waiting [] slots count e;
+    before = fresh_vertex part;
+    is_before = inr (refl, fresh, refl);
+    grows = subst (Grows (fresh_vertex part) e.pushed.more) (sym vertex_is) (record { rank = refl; missing = lacking; class = refl; slots = e.pushed.at_slots });
+    counted = degree_is ∙ e.counted;
+    ready = sorts.readied;
+    stuck = sorts.stuck_more;
+    classes = refl;
+  }
+    where
+      one_more : length (old.ids ++ part.id ∷ []) ≡ length old.ids + 1
+      one_more = length-append old.ids (part.id ∷ [])
 
-    degree_is : get_or (set old.degrees v count) v 0 ≡ count
-    degree_is = get_or-set_same old.degrees v count 0 (subst (λ n. v < n) (sym sd) lt)
+      below_next : (n : ℕ) → n < n + 1
+      below_next n = omega arith
+
+      grown : (u : ℕ) → u < length old.ids → u < length old.ids + 1
+      grown u lt = omega (arith, lt)
+
+      older : (u : ℕ) → u < length old.ids + 1 → u ≢ length old.ids → u < length old.ids
+      older u lt ne = grind (arith, lt, ne)
+
+      vertex_is : vertex_at (old.vertices ++ first ∷ []) (length old.ids) ≡ first
+      vertex_is = ap (vertex_at (old.vertices ++ first ∷ [])) (sym has.vertices) ∙ last_at old.vertices first no_vertex
+
+      degree_is : get_or (old.degrees ++ count ∷ []) (length old.ids) 0 ≡ count
+      degree_is = ap (λ n. get_or (old.degrees ++ count ∷ []) n 0) (sym has.degrees) ∙ last_at old.degrees count 0
+
+  -- it is one more part of the vertex of its transaction
+  module _ (v : ℕ) (lt : v < length old.ids) where
+    abbrev again : Vertex
+    again = grown_to (vertex_at old.vertices v) missing slots
+
+    pub inserts_again : id_at old.ids v ≡ part.id → suc missing ≡ (vertex_at old.vertices v).missing → (e : Enters part.home v part.keys old.waiting waiting (vertex_at old.vertices v).slots slots count)
+        → Sorts v (set old.vertices v again) (set old.degrees v count) old.ready old.stuck ready stuck → Inserts part v e.pushed.more old (after old.ids (set old.vertices v again) (set old.degrees v count))
+    inserts_again named lacking e sorts = record {
+      within = lt;
+      named = named;
+      once = has.once;
+      ids = λ t. (λ h. inl h, λ s. elim s [ inl o ↦ o | inr f ↦ subst (Has old.ids) (named ∙ sym f) (id_has old.ids v lt) ]);
+      vertices = length-set old.vertices v _ ∙ has.vertices;
+      degrees = length-set old.degrees v count ∙ has.degrees;
+      kept = λ u l. (l, refl);
+      others = λ u l ne. (l, get_or-set_other old.vertices v u _ no_vertex ne, get_or-set_other old.degrees v u count 0 ne);
+      waiting = e.pushed.waiting;
+      distinct = e.pushed.distinct;
+      entries = entries_of part v old.waiting waiting (vertex_at old.vertices v).slots slots count e;
+      before = vertex_at old.vertices v;
+      is_before = inl (lt, refl);
+      grows = subst (Grows (vertex_at old.vertices v) e.pushed.more) (sym vertex_is) (record { rank = refl; missing = lacking; class = refl; slots = e.pushed.at_slots });
+      counted = degree_is ∙ e.counted;
+      ready = sorts.readied;
+      stuck = sorts.stuck_more;
+      classes = refl;
+    }
+      where
+        vertex_is : vertex_at (set old.vertices v again) v ≡ again
+        vertex_is = get_or-set_same old.vertices v again no_vertex (subst (λ n. v < n) (sym has.vertices) lt)
+
+        degree_is : get_or (set old.degrees v count) v 0 ≡ count
+        degree_is = get_or-set_same old.degrees v count 0 (subst (λ n. v < n) (sym has.degrees) lt)
 
 -- the entry that was pushed last, of those that were pushed for a vertex
 pub record IsLastPushed (slot : ℕ) (more : List Waiting) (kept slots : List ℕ) : Type 0 where

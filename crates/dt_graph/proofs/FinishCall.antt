@@ -107,29 +107,28 @@ module _ (g : GraphView) (id : TxnId) (r : MayFinish g id) where
       of_class : IsClass r.0 id class.0
       of_class = class_of_resolved r.0 r.1 r.2 class.0 id r.3.sound (has_place r.1 place class.0 class.1) class.2
 
+      in_class : (u : ℕ) → Has kept.0.members u → Has class.0 (id_at g.ids u)
+      in_class = member_of r.0 r.1 r.2 id r.3 r.4 g g r.5 v lt named place class.0 kept.0 class.1 kept.1 class.2
+
       leaves : MayLeave g kept.0.members
       leaves = may_leave r.0 r.1 r.2 g r.5 kept.0.members (distinct_members r.0 r.1 r.2 id r.3 r.4 g g r.5 v lt named place class.0 kept.0 class.1 kept.1 class.2) kept.2.within
-          (λ u h. left_after r.0 r.2 left ((of_class.members (id_at g.ids u)).0 (member_of r.0 r.1 r.2 id r.3 r.4 g g r.5 v lt named place class.0 kept.0 class.1 kept.1 class.2 u h)).1)
+          (λ u h. left_after r.0 r.2 left ((of_class.members (id_at g.ids u)).0 (in_class u h)).1)
 
       not_stuck : (u : ℕ) → Has kept.0.members u → ¬ (Has g.stuck u)
-      not_stuck u h s = ((r.5.stuck u).0 s).1.apart (any_put (λ ids. Has ids (id_at g.ids u)) r.1 class.0 (has_place r.1 place class.0 class.1)
-          (member_of r.0 r.1 r.2 id r.3 r.4 g g r.5 v lt named place class.0 kept.0 class.1 kept.1 class.2 u h))
+      not_stuck u h s = ((r.5.stuck u).0 s).1.apart (any_put (λ ids. Has ids (id_at g.ids u)) r.1 class.0 (has_place r.1 place class.0 class.1) (in_class u h))
 
       known : (u : ℕ) → Has kept.0.members u → (vertex_at g.vertices u).class ≡ Some place
       known u h = by (vertex_at g.vertices u).class (r.5.kept u (all_get _ kept.0.members kept.2.within u h)).class
         where
-          member : Has class.0 (id_at g.ids u)
-          member = member_of r.0 r.1 r.2 id r.3 r.4 g g r.5 v lt named place class.0 kept.0 class.1 kept.1 class.2 u h
-
           there : Has r.1 class.0
           there = has_place r.1 place class.0 class.1
 
           by : (other : Option ℕ) → IsPlaceOfClass r.1 (id_at g.ids u) other → other ≡ Some place
-          by None apart = absurd (apart (any_put (λ ids. Has ids (id_at g.ids u)) r.1 class.0 there member))
+          by None apart = absurd (apart (any_put (λ ids. Has ids (id_at g.ids u)) r.1 class.0 there (in_class u h)))
           by (Some other) at =
               let same : at.0 ≡ class.0 = class_unique r.0 (id_at g.ids u) at.0 class.0
               (class_of_resolved r.0 r.1 r.2 at.0 (id_at g.ids u) r.3.sound (has_place r.1 other at.0 at.1) at.2)
-              (class_of_resolved r.0 r.1 r.2 class.0 (id_at g.ids u) r.3.sound there member) in
+              (class_of_resolved r.0 r.1 r.2 class.0 (id_at g.ids u) r.3.sound there (in_class u h)) in
               ap Some (one_place r.1 other place class.0 r.3.sound.resolved_once (at.1 ∙ ap Some same) class.1)
 
 -- what was done in a class, of an id that was ready

@@ -123,14 +123,18 @@ module _ (k : Kind) (states : List State) (items : List ℕ) (room : ℕ) (s : I
       pub removes : Removes number items (set front place last)
       removes = removed items (map (place_of_kind k) states) room s number (within number lt) front last place e ne at_place
 
-      pub taken : IsSubset (set front place last) (map (place_of_kind k) (set (set states last (state_of_kind k place)) number Neither)) room
+      -- the states afterwards
+      abbrev states_now : List State
+      states_now = set (set states last (state_of_kind k place)) number Neither
+
+      pub taken : IsSubset (set front place last) (map (place_of_kind k) states_now) room
       taken = subst (λ x. IsSubset (set front place last) x room) (sym mapped) (subset_removed items (map (place_of_kind k) states) room s number (within number lt) front last place e ne at_place)
         where
-          mapped : map (place_of_kind k) (set (set states last (state_of_kind k place)) number Neither) ≡ set (set (map (place_of_kind k) states) last (Some place)) number None
+          mapped : map (place_of_kind k) states_now ≡ set (set (map (place_of_kind k) states) last (Some place)) number None
           mapped = map-set (place_of_kind k) (set states last (state_of_kind k place)) number Neither ∙ ap (set (map (place_of_kind k) (set states last (state_of_kind k place))) number) (none_in k)
               ∙ ap (λ x. set x number None) (map-set (place_of_kind k) states last (state_of_kind k place) ∙ ap (set (map (place_of_kind k) states) last) (place_put k place))
 
-      pub taken_beside : map (place_of_kind (other_kind k)) (set (set states last (state_of_kind k place)) number Neither) ≡ map (place_of_kind (other_kind k)) states
+      pub taken_beside : map (place_of_kind (other_kind k)) states_now ≡ map (place_of_kind (other_kind k)) states
       taken_beside = places_beside (other_kind k) (set states last (state_of_kind k place)) number Neither number_none (none_in (other_kind k))
           ∙ places_beside (other_kind k) states last (state_of_kind k place) last_none (place_beside k place)
         where

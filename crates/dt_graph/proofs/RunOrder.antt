@@ -33,10 +33,12 @@ pub record AreMembers (g : GraphView) (ids : List TxnId) (members : List Member)
 
 pub members_more : (g : GraphView) (ids : List TxnId) (i : ℕ) (d : TxnId) (members : List Member) (rank vertex : ℕ) → i < length ids → AreMembers g (take i ids) members
     → slice_get g.ids vertex ≡ Some (get_or ids i d) → rank ≡ (vertex_at g.vertices vertex).rank → AreMembers g (take (i + 1) ids) (members ++ record { rank = rank; id = get_or ids i d; vertex = vertex } ∷ [])
-members_more g ids i d members rank vertex lt a at is = record {
-  named = map-append (λ m. m.id) members (record { rank = rank; id = get_or ids i d; vertex = vertex } ∷ []) ∙ ap (λ l. l ++ get_or ids i d ∷ []) a.named ∙ sym (take_more ids i d lt);
-  are = all_append (IsMemberOf g) members (record { rank = rank; id = get_or ids i d; vertex = vertex } ∷ []) a.are ((at, is), tt);
-}
+members_more g ids i d members rank vertex lt a at is =
+    let member : Member = record { rank = rank; id = get_or ids i d; vertex = vertex } in
+    record {
+      named = map-append (λ m. m.id) members (member ∷ []) ∙ ap (λ l. l ++ get_or ids i d ∷ []) a.named ∙ sym (take_more ids i d lt);
+      are = all_append (IsMemberOf g) members (member ∷ []) a.are ((at, is), tt);
+    }
 
 pub all_numbered : (g : GraphView) (ids : List TxnId) (i : ℕ) (d : TxnId) (n : Option ℕ) → AllIn (Has g.ids) ids → i < length ids → n ≡ None → IsNumberOf g.ids (get_or ids i d) n → ⊥
 all_numbered g ids i d n there lt none is = subst (IsNumberOf g.ids (get_or ids i d)) none is (all_get (Has g.ids) ids there (get_or ids i d) (has_at ids i d lt))

@@ -206,7 +206,11 @@ module _ (items : List ℕ) (places : List (Option ℕ)) (room : ℕ) (s : IsSub
       placed = λ n ln. at n (subst (λ m. n < m) size ln) (either_nat n number) (either_nat n last);
     }
       where
-        size : length (set (set places last (Some place)) number None) ≡ length places
+        -- the places afterwards
+        now : List (Option ℕ)
+        now = set (set places last (Some place)) number None
+
+        size : length now ≡ length places
         size = length-set (set places last (Some place)) number None ∙ length-set places last (Some place)
 
         beside : (n : ℕ) → n ≢ number → n ≢ last → (p : Option ℕ) → StandsAtPlace (front ++ last ∷ []) n p → StandsAtPlace (set front place last) n p
@@ -219,8 +223,8 @@ module _ (items : List ℕ) (places : List (Option ℕ)) (room : ℕ) (s : IsSub
             in_front : slice_get front q ≡ Some n
             in_front = elim (place_in_more front last q n p) [ inl o ↦ o | inr f ↦ absurd (nl (sym f.1)) ]
 
-        at : (n : ℕ) → n < length places → (n ≡ number) ⊎ ¬ (n ≡ number) → (n ≡ last) ⊎ ¬ (n ≡ last) → StandsAtPlace (set front place last) n (get_or (set (set places last (Some place)) number None) n None)
-        at n ln (inl f) l = subst (λ n. StandsAtPlace (set front place last) n (get_or (set (set places last (Some place)) number None) n None)) (sym f)
+        at : (n : ℕ) → n < length places → (n ≡ number) ⊎ ¬ (n ≡ number) → (n ≡ last) ⊎ ¬ (n ≡ last) → StandsAtPlace (set front place last) n (get_or now n None)
+        at n ln (inl f) l = subst (λ n. StandsAtPlace (set front place last) n (get_or now n None)) (sym f)
             (subst (StandsAtPlace (set front place last) number) (sym (get_or-set_same (set places last (Some place)) number None None (subst (λ m. number < m) (sym (length-set places last (Some place))) lt))) number_gone)
         at n ln (inr ne) (inl l) = subst (StandsAtPlace (set front place last) n) (sym (get_or-set_other (set places last (Some place)) number n None None ne))
             (subst (λ n. StandsAtPlace (set front place last) n (get_or (set places last (Some place)) n None)) (sym l)

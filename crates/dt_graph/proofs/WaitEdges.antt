@@ -4,6 +4,7 @@ use Rattle.std.proofs.Common.{◌≡◌, ◌+◌, ◌<◌, ◌⊎◌, ◌↔◌,
 use Rattle.std.proofs.Common.{length, map, filter, get_or, slice_get, take, Some, refl, sym, subst, inl, inr, true≢false, eqb-true, eq-eqb}
 use Rattle.dt_lists.specs.Lists.{AnyIn, AllIn, Has, Distinct}
 use Rattle.std.proofs.lemmas.Bool.{or_right}
+use Rattle.std.proofs.Math.Bool.{or-false}
 use Rattle.std.proofs.lemmas.List.{take_more}
 use Rattle.dt_lists.proofs.Callers.{all_image, all_put, any_append, any_append_left, any_append_right, any_get, any_image, any_of_image, any_put, has_filter, has_of_filtered, has_place, one_place}
 use Rattle.dt_class.specs.Graphs.{AdjView}
@@ -104,12 +105,8 @@ links_next S xs i list place a b c x y lt l m =
 pub links_next_in : (xs : List ℕ) (i : ℕ) (list : List ℕ) (place : ℕ) (a b c : AdjView) (x y : Bool) (source : ℕ) → Distinct list → i < length xs → HasLinked (Has (take i xs)) list place a b x
     → slice_get list source ≡ Some (get_or xs i 0) → c ≡ record b { edges = b.edges ++ record { source = source; target = place } ∷ [] } → y ≡ x → HasLinked (Has (take (i + 1) xs)) list place a c y
 links_next_in xs i list place a b c x y source once lt l at e f =
-    subst (λ z. HasLinked (Has (take (i + 1) xs)) list place a z y) (sym e) (subst (HasLinked (Has (take (i + 1) xs)) list place a _) (or_false x ∙ sym f)
+    subst (λ z. HasLinked (Has (take (i + 1) xs)) list place a z y) (sym e) (subst (HasLinked (Has (take (i + 1) xs)) list place a _) (or-false x ∙ sym f)
     (links_next (λ n u. n ≡ u) xs i list place a b _ x false lt l (links_in list place b (get_or xs i 0) source once at)))
-  where
-    or_false : (x : Bool) → (x || false) ≡ x
-    or_false true = refl
-    or_false false = refl
 
 -- one neighbour more, which is none of the list
 pub links_next_out : (xs : List ℕ) (i : ℕ) (list : List ℕ) (place : ℕ) (a b c : AdjView) (x y : Bool) → i < length xs → HasLinked (Has (take i xs)) list place a b x

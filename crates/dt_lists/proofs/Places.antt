@@ -21,8 +21,8 @@ pub rest_from : {A : Type 0} (xs : List A) (i : ℕ) → take (length xs - i) (d
 rest_from xs i = take_all (length xs - i) (drop i xs) (omega (arith, length-drop i xs))
 
 -- the rest of a list from an item on begins with that item
-pub from_item : {A : Type 0} (xs : List A) (i : ℕ) (x : A) → i < length xs → x ≡ get_or xs i x → drop i xs ≡ x ∷ drop (i + 1) xs
-from_item xs i x inside is = drop_more xs i x inside ∙ ap (λ y. y ∷ drop (i + 1) xs) (sym is)
+pub from_item : {A : Type 0} (xs : List A) (i : ℕ) (x d : A) → i < length xs → x ≡ get_or xs i d → drop i xs ≡ x ∷ drop (i + 1) xs
+from_item xs i x d inside is = drop_more xs i d inside ∙ ap (λ y. y ∷ drop (i + 1) xs) (sym is)
 
 -- what an item that is put in has in common with the one before
 

@@ -5,7 +5,7 @@ use Rattle.std.specs.declared.cmp.Ordering.{Ordering}
 use Rattle.std.specs.List.{AllByRecursion, Contains, IsDistinct, list_any}
 use Rattle.std.proofs.lemmas.Map.Keys.{IsDistinct-IsPermutation}
 use Rattle.std.proofs.lemmas.List.Sorted.{Contains-permutation, IsPermutation-sym}
-use Rattle.std.proofs.lemmas.Bool.{false_from_ne_true}
+use Rattle.std.proofs.lemmas.Bool.{both_ways, false_from_ne_true}
 use Rattle.dt_lists.specs.Lists.{AllIn, Has, Distinct, EachThen}
 use Rattle.dt_lists.proofs.Places.{has_at}
 use Rattle.dt_lists.proofs.Tests.{any_of_test, test_of_any}
@@ -44,12 +44,9 @@ module _ {A : Type 0} (Alike : A → A → Type 0) (same : A → A → Bool)
   own_distinct [] d = tt
   own_distinct (x ∷ xs) d = (each_apart xs d.0, own_distinct xs d.1)
     where
-      not_both : {b : Bool} → b ≡ true → b ≡ false → ⊥
-      not_both t f = cc
-
       each_apart : (ys : List A) → AllByRecursion (λ y. same x y ≡ false) ys → AllIn (λ y. ¬ (Alike x y)) ys
       each_apart [] a = tt
-      each_apart (y ∷ ys) a = ((λ e. not_both (told x y e) a.0), each_apart ys a.1)
+      each_apart (y ∷ ys) a = ((λ e. both_ways _ a.0 (told x y e)), each_apart ys a.1)
 
   pub permuted_apart : (xs ys : List A) → IsPermutation xs ys → EachThen (λ x y. ¬ (Alike x y)) xs → EachThen (λ x y. ¬ (Alike x y)) ys
   permuted_apart xs ys p d = own_distinct ys (IsDistinct-IsPermutation same turned xs ys p (std_distinct xs d))

@@ -1,6 +1,6 @@
 -- Few claims run at once: each is of an id that may be executed, which has a part in the region's logs, and the parts of all logs
 -- are counted by 32 bits.
-use Rattle.std.proofs.Common.{◌≡◌, ◌<◌, ◌≤◌, ◌+◌, ◌^◌, List, [], ◌∷◌, ◌++◌, length, map, Some, arith}
+use Rattle.std.proofs.Common.{◌≡◌, ◌<◌, ◌≤◌, ◌+◌, ◌^◌, List, [], ◌∷◌, ◌++◌, length, map, arith}
 use Rattle.std.proofs.lemmas.List.{length-append, length-map}
 use Rattle.dt_lists.specs.Lists.{AllIn, Distinct, Has}
 use Rattle.dt_lists.proofs.Callers.{all_image, all_map, distinct_within, each_image, each_map}
@@ -11,13 +11,12 @@ use Rattle.dt_sched.proofs.Callers.{complete_of_closed, has_of_present, ids_in, 
 use Rattle.dt_proc.specs.Tree.{ProcTree}
 use Rattle.dt_txn.specs.declared.txn.Txn.{Txn}
 use Rattle.dt_txn.specs.declared.outcome.Seen.{Seen}
-use Rattle.dt_txn.specs.Execution.{see}
 use Rattle.dt_txn.specs.Replica.{view_of}
-use Rattle.dt_region.specs.Region.{RegionView, held, sched_of}
+use Rattle.dt_region.specs.Region.{RegionView, sched_of}
 use Rattle.dt_region.proofs.Callers.{fronts_few}
 use Rattle.dt_lock.specs.declared.running.Running.{Running}
-use Rattle.dt_lock.specs.Held.{AreDisjoint, HeldView, IsBusy, IsHeld}
-use Rattle.dt_lock.proofs.HeldSteps.{one_running}
+use Rattle.dt_lock.specs.Held.{AreDisjoint, HeldView, IsHeld}
+use Rattle.dt_lock.proofs.HeldSteps.{MayClaim, one_running}
 
 module _ (procs : List ProcTree) (before : RegionView) (h : HeldView) (is : IsHeld procs before h) where
   abbrev view : View
@@ -39,10 +38,9 @@ module _ (procs : List ProcTree) (before : RegionView) (h : HeldView) (is : IsHe
       omega (arith, a, b, c, d, e)
 
 -- so one that isn't busy is counted too
-pub one_more_fits : (procs : List ProcTree) (before : RegionView) (v : HeldView) (h : IsHeld procs before v) (id : TxnId) (txn : Txn) (seen : List Seen)
-    → CanExecute (sched_of v.region.state.logs v.region.state.here) id → ¬ (IsBusy before.state v.running id) → held before.state id ≡ Some txn → seen ≡ see txn v.region.state.here.table
+pub one_more_fits : (procs : List ProcTree) (before : RegionView) (v : HeldView) (h : IsHeld procs before v) {id : TxnId} {txn : Txn} {seen : List Seen} → MayClaim before v id txn seen
     → length v.running + 1 < 2 ^ 32
-one_more_fits procs before v h id txn seen can free known sees =
+one_more_fits procs before v h {id} {txn} {seen} may =
     let more : length (v.running ++ record { id = id; seen = seen } ∷ []) ≡ length v.running + 1 = length-append v.running (record { id = id; seen = seen } ∷ []) in
-    let few = few_running procs before _ (one_running procs before v h id txn seen can free known sees) in
+    let few = few_running procs before _ (one_running procs before v h may) in
     omega (arith, more, few)

@@ -38,6 +38,19 @@ use Rattle.dt_lock.proofs.RunningClaims.{apart_more, fewer_left, left_without, o
 pub held_at_first : (procs : List ProcTree) (before : RegionView) → CanRound procs before → IsSoundRegion before.state → IsHeld procs before (record { region = before; running = [] })
 held_at_first procs before can sound = record { underway = at_first procs before can sound; executable = tt; rows = tt; apart = tt; room = omega arith }
 
+-- a claim may be noted: its id may be executed and is not busy, and this is what its transaction sees now
+pub record MayClaim (before : RegionView) (v : HeldView) (id : TxnId) (txn : Txn) (seen : List Seen) : Type 0 where
+  pub can : CanExecute (sched_of v.region.state.logs v.region.state.here) id
+  pub free : ¬ (IsBusy before.state v.running id)
+  pub known : held before.state id ≡ Some txn
+  pub sees : seen ≡ see txn v.region.state.here.table
+
+-- so it is said of the region as callers see it
+pub may_claim : {before : RegionView} {v now : HeldView} {id : TxnId} {txn : Txn} {seen : List Seen} → v ≡ now → CanExecute (sched_of now.region.state.logs now.region.state.here) id
+    → ¬ (IsBusy before.state now.running id) → held before.state id ≡ Some txn → seen ≡ see txn now.region.state.here.table → MayClaim before v id txn seen
+may_claim {before} {v} {now} {id} {txn} {seen} is can free known sees =
+    subst (λ x. MayClaim before x id txn seen) (sym is) (record { can = can; free = free; known = known; sees = sees })
+
 module _ (procs : List ProcTree) (before : RegionView) (v : HeldView) (h : IsHeld procs before v) where
   -- what is held stays, and so does the number of regions
   pub held_stays : (id : TxnId) → held v.region.state id ≡ held before.state id
@@ -95,14 +108,13 @@ module _ (procs : List ProcTree) (before : RegionView) (v : HeldView) (h : IsHel
   none_running = record { underway = h.underway; executable = tt; rows = tt; apart = tt; room = omega arith }
 
   -- a claim is noted
-  module _ (id : TxnId) (txn : Txn) (seen : List Seen) (can : CanExecute (sched_of v.region.state.logs v.region.state.here) id) (free : ¬ (IsBusy before.state v.running id))
-      (known : held before.state id ≡ Some txn) (sees : seen ≡ see txn v.region.state.here.table) where
+  module _ {id : TxnId} {txn : Txn} {seen : List Seen} (may : MayClaim before v id txn seen) where
     pub one_running : IsHeld procs before (record { region = record v.region { room = max v.region.room (length v.running + 1) }; running = v.running ++ record { id = id; seen = seen } ∷ [] })
     one_running = record {
       underway = whatever_room procs before v.region (max v.region.room (length v.running + 1)) h.underway;
-      executable = all_more _ v.running (record { id = id; seen = seen }) h.executable can;
-      rows = all_more _ v.running (record { id = id; seen = seen }) h.rows (sees ∙ ap (λ o. sight_in o v.region.state.here.table) (sym known));
-      apart = apart_more before.state v.running (record { id = id; seen = seen }) h.apart free;
+      executable = all_more _ v.running (record { id = id; seen = seen }) h.executable may.can;
+      rows = all_more _ v.running (record { id = id; seen = seen }) h.rows (may.sees ∙ ap (λ o. sight_in o v.region.state.here.table) (sym may.known));
+      apart = apart_more before.state v.running (record { id = id; seen = seen }) h.apart may.free;
       room =
           let more : length (v.running ++ record { id = id; seen = seen } ∷ []) ≡ length v.running + 1 = length-append v.running (record { id = id; seen = seen } ∷ []) in
           let fits : length v.running + 1 ≤ max v.region.room (length v.running + 1) = le-max_right v.region.room (length v.running + 1) in
@@ -117,16 +129,16 @@ module _ (procs : List ProcTree) (before : RegionView) (v : HeldView) (h : IsHel
 
     pub is_claim : IsClaim procs before.state (record { txn = txn; seen = seen })
     is_claim = record {
-      known = subst (λ i. held before.state i ≡ Some txn) (sym (held_id before.state id txn known)) known;
-      valid = h.underway.began.holds id txn known;
-      sized = ap length sees ∙ length-map txn.access (seen_of v.region.state.here.table);
+      known = subst (λ i. held before.state i ≡ Some txn) (sym (held_id before.state id txn may.known)) may.known;
+      valid = h.underway.began.holds id txn may.known;
+      sized = ap length may.sees ∙ length-map txn.access (seen_of v.region.state.here.table);
     }
 
     pub is_claimed : (later : RegionView) (running : List Running) → later ≡ record v.region { room = max v.region.room (length v.running + 1) } → running ≡ v.running ++ record { id = id; seen = seen } ∷ []
         → IsClaimed v (record { txn = txn; seen = seen }) (record { region = later; running = running })
     is_claimed later running is more = record {
-      seen = sees;
-      is = ap₂ (λ r l. record { region = r; running = l }) is (more ∙ ap (λ i. v.running ++ record { id = i; seen = seen } ∷ []) (sym (held_id before.state id txn known)));
+      seen = may.sees;
+      is = ap₂ (λ r l. record { region = r; running = l }) is (more ∙ ap (λ i. v.running ++ record { id = i; seen = seen } ∷ []) (sym (held_id before.state id txn may.known)));
     }
 
   -- a claim that is running is committed

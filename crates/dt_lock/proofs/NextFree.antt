@@ -9,30 +9,34 @@ use Rattle.dt_sched.proofs.Callers.{complete_of_closed, has_of_present, ids_in, 
 use Rattle.dt_region.specs.Region.{RegionState, sched_of}
 use Rattle.dt_lock.specs.Held.{HeldView, IsBusy, IsNextFree}
 
+-- what the region behind the lock has of logs, and what it did with them
+abbrev pub sched_in : HeldView → Sched
+sched_in h = sched_of h.region.state.logs h.region.state.here
+
 -- the ids that were passed over may be executed and are busy, and each was passed over once
 pub record ArePassed (before : RegionState) (h : HeldView) (ids : List TxnId) : Type 0 where
-  pub each : AllIn (λ id. CanExecute (sched_of h.region.state.logs h.region.state.here) id × IsBusy before h.running id) ids
+  pub each : AllIn (λ id. CanExecute (sched_in h) id × IsBusy before h.running id) ids
   pub once : Distinct ids
 
 -- what a region answers to a search for an id that it may execute, said of the region behind its lock
 pub ready_there : (v h : HeldView) → v ≡ h → (ids given : List TxnId) → given ≡ ids → (found answer : Option TxnId) → found ≡ answer
-    → IsNextReady (sched_of v.region.state.logs v.region.state.here) given found → IsNextReady (sched_of h.region.state.logs h.region.state.here) ids answer
+    → IsNextReady (sched_in v) given found → IsNextReady (sched_in h) ids answer
 ready_there v h same ids given e found answer f ready =
-    subst (λ (x : HeldView). IsNextReady (sched_of x.region.state.logs x.region.state.here) ids answer) same
-    (subst (λ l. IsNextReady (sched_of v.region.state.logs v.region.state.here) l answer) e (subst (IsNextReady (sched_of v.region.state.logs v.region.state.here) given) f ready))
+    subst (λ (x : HeldView). IsNextReady (sched_in x) ids answer) same
+    (subst (λ l. IsNextReady (sched_in v) l answer) e (subst (IsNextReady (sched_in v) given) f ready))
 
 -- how many more can be passed over at most
 abbrev pub ids_left : HeldView → List TxnId → ℕ
-ids_left h ids = length (ids_in (sched_of h.region.state.logs h.region.state.here).logs) - length ids
+ids_left h ids = length (ids_in (sched_in h).logs) - length ids
 
 module _ (before : RegionState) (h : HeldView) (ids : List TxnId) (passed : ArePassed before h ids) where
   abbrev sched : Sched
-  sched = sched_of h.region.state.logs h.region.state.here
+  sched = sched_in h
 
-  pub passed_all : IsNextReady (sched_of h.region.state.logs h.region.state.here) ids None → IsNextFree before h None
+  pub passed_all : IsNextReady sched ids None → IsNextFree before h None
   passed_all none id can = (all_get _ ids passed.each id (none id can)).1
 
-  module _ (id : TxnId) (ready : IsNextReady (sched_of h.region.state.logs h.region.state.here) ids (Some id)) (busy : IsBusy before h.running id) where
+  module _ (id : TxnId) (ready : IsNextReady sched ids (Some id)) (busy : IsBusy before h.running id) where
     pub one_passed : ArePassed before h (ids ++ id ∷ [])
     one_passed = record { each = all_more _ ids id passed.each (ready.0, busy); once = distinct_push ids id passed.once ready.1 }
 

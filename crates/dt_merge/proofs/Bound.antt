@@ -128,10 +128,10 @@ scaled t (s ∷ sessions) =
 spread : (f : Session → ℕ) (sessions : List Session) (n : ℕ) → sum_below (λ q. sum_by f (local q sessions)) n ≤ sum_by f sessions
 spread f [] n = let e : sum_below (λ q. 0) n ≡ n * 0 = sum_below_const 0 n in omega arith
 spread f (s ∷ sessions) n =
-    let each : sum_below (λ q. sum_by f (local q (s ∷ sessions))) n ≤ sum_below (λ q. cond (eqb s.region q) (f s) 0 + sum_by f (local q sessions)) n =
-    sum_below_le (λ q. sum_by f (local q (s ∷ sessions))) (λ q. cond (eqb s.region q) (f s) 0 + sum_by f (local q sessions)) n (λ q lt. at q (cases_Bool (eqb s.region q))) in
-    let both : sum_below (λ q. cond (eqb s.region q) (f s) 0 + sum_by f (local q sessions)) n
-    ≡ sum_below (λ q. cond (eqb s.region q) (f s) 0) n + sum_below (λ q. sum_by f (local q sessions)) n = sum_below_added (λ q. cond (eqb s.region q) (f s) 0) (λ q. sum_by f (local q sessions)) n in
+    let with_first : ℕ → ℕ = λ q. cond (eqb s.region q) (f s) 0 + sum_by f (local q sessions) in
+    let each : sum_below (λ q. sum_by f (local q (s ∷ sessions))) n ≤ sum_below with_first n =
+    sum_below_le (λ q. sum_by f (local q (s ∷ sessions))) with_first n (λ q lt. at q (cases_Bool (eqb s.region q))) in
+    let both : sum_below with_first n ≡ sum_below (λ q. cond (eqb s.region q) (f s) 0) n + sum_below (λ q. sum_by f (local q sessions)) n = sum_below_added (λ q. cond (eqb s.region q) (f s) 0) (λ q. sum_by f (local q sessions)) n in
     let first : sum_below (λ q. cond (eqb s.region q) (f s) 0) n ≤ f s = one_of s.region (f s) n in
     let rest : sum_below (λ q. sum_by f (local q sessions)) n ≤ sum_by f sessions = spread f sessions n in
     let p : sum_by f (s ∷ sessions) ≡ f s + sum_by f sessions = sum_by-cons f s sessions in
@@ -245,14 +245,31 @@ module _ {cluster : Cluster} {workload : Workload} (ok : IsValidCluster cluster)
   few_in_log : (home : ℕ) → home < cluster.regions → length (log_of w home) ≤ there
   few_in_log home lh =
       subst (λ n. n ≤ there) (length-map (log_of w home) (λ p. p.id))
-      (few_ids (ids_of (log_of w home)) (log_distinct cluster workload w g.order g.inv home lh) (all_put (WasSubmitted w) (ids_of (log_of w home)) (in_log home lh)))
+      (few_ids (ids_of (log_of w home)) (log_distinct g.inv home lh) (all_put (WasSubmitted w) (ids_of (log_of w home)) (in_log home lh)))
+
+  -- how many attempts a region's sessions may make and made, how many calls they have, and how many of these are answered
+  abbrev attempts_at : ℕ → ℕ
+  attempts_at q = sum_by (λ s. length s.calls * cluster.tries) (local q workload.sessions)
+
+  abbrev submitted_at : ℕ → ℕ
+  submitted_at q = length (node_at w q).submitted
+
+  abbrev calls_at : ℕ → ℕ
+  calls_at q = sum_by (λ s. length s.calls) (local q workload.sessions)
+
+  abbrev answered_at : ℕ → ℕ
+  answered_at q = sum_by (λ p. p.answered) (places_at q workload.sessions w.places)
+
+  -- a session made no more attempts than it may
+  abbrev KeepsToTries : Session → Type 0
+  KeepsToTries t = attempts_by t.name (node_at w t.region).submitted ≤ length t.calls * cluster.tries
 
   module _ (q : ℕ) (lq : q < cluster.regions) where
     sound : IsSound (view_at w q) (node_at w q).here.resolved (done_ids (node_at w q).here)
     sound = g.inv.sound q lq
 
     few_done : length (node_at w q).here.done ≤ there
-    few_done = subst (λ n. n ≤ there) (length-map (node_at w q).here.done (λ d. d.0)) (few_ids (done_ids (node_at w q).here) sound.done_once (done_known cluster workload w g.order g.inv q lq))
+    few_done = subst (λ n. n ≤ there) (length-map (node_at w q).here.done (λ d. d.0)) (few_ids (done_ids (node_at w q).here) sound.done_once (done_known g.inv q lq))
 
     -- what is closed in a region's view was submitted
     closed_known : (id : TxnId) → IsClosed (view_at w q) id → WasSubmitted w id
@@ -260,13 +277,12 @@ module _ {cluster : Cluster} {workload : Workload} (ok : IsValidCluster cluster)
       where
         by : (home : ℕ) × (home < length (view_at w q)) × HasPart (log_at (view_at w q) home) id → WasSubmitted w id
         by r =
-            let seen : log_at (view_at w q) r.0 ≡ take (slice_index (node_at w q).here.inserted r.0) (take (received_of w q r.0) (log_of w r.0)) =
-            fronts_at (node_at w q).here.inserted (received_logs w q) r.0 ∙ ap (take (slice_index (node_at w q).here.inserted r.0)) (received_log w q r.0) in
-            let front : IsFront (take (slice_index (node_at w q).here.inserted r.0) (take (received_of w q r.0) (log_of w r.0))) (log_of w r.0) =
-            front_trans (take (slice_index (node_at w q).here.inserted r.0) (take (received_of w q r.0) (log_of w r.0))) (take (received_of w q r.0) (log_of w r.0)) (log_of w r.0)
-            (front_take (slice_index (node_at w q).here.inserted r.0) (take (received_of w q r.0) (log_of w r.0))) (front_take (received_of w q r.0) (log_of w r.0)) in
-            let part : HasPart (log_of w r.0) id =
-            any_front (λ p. p.id ≡ id) (take (slice_index (node_at w q).here.inserted r.0) (take (received_of w q r.0) (log_of w r.0))) (log_of w r.0) front (subst (λ l. HasPart l id) seen r.2) in
+            let received : List Part = take (received_of w q r.0) (log_of w r.0) in
+            let inserted : List Part = take (slice_index (node_at w q).here.inserted r.0) received in
+            let seen : log_at (view_at w q) r.0 ≡ inserted = fronts_at (node_at w q).here.inserted (received_logs w q) r.0 ∙ ap (take (slice_index (node_at w q).here.inserted r.0)) (received_log w q r.0) in
+            let front : IsFront inserted (log_of w r.0) =
+            front_trans inserted received (log_of w r.0) (front_take (slice_index (node_at w q).here.inserted r.0) received) (front_take (received_of w q r.0) (log_of w r.0)) in
+            let part : HasPart (log_of w r.0) id = any_front (λ p. p.id ≡ id) inserted (log_of w r.0) front (subst (λ l. HasPart l id) seen r.2) in
             let lh : r.0 < cluster.regions =
             subst (λ n. r.0 < n) (as_many _ _ (fronts_longer (node_at w q).here.inserted (received_logs w q)) ∙ as_many _ _ (fronts_longer (received_lengths w q) (logs_of w)) ∙ logs_length w ∙ g.inv.nodes) r.1 in
             in_log r.0 lh id (any_image (λ y. y ≡ id) (λ p. p.id) (log_of w r.0) part)
@@ -283,7 +299,7 @@ module _ {cluster : Cluster} {workload : Workload} (ok : IsValidCluster cluster)
         subst (λ n. sum (received_lengths w q) ≤ n * there) long
         (at_most_each (received_lengths w q) there (λ h lt.
         let lh : h < cluster.regions = subst (λ n. h < n) long lt in
-        let a : received_of w q h ≤ length (log_of w h) = received_within cluster workload w g.order g.inv q h lq lh in
+        let a : received_of w q h ≤ length (log_of w h) = received_within g.inv q h lq lh in
         let b : length (log_of w h) ≤ there = few_in_log h lh in
         let c : received_of w q h ≤ there = omega arith in c))
       where
@@ -296,20 +312,24 @@ module _ {cluster : Cluster} {workload : Workload} (ok : IsValidCluster cluster)
         (at_most_each (node_at w q).here.inserted there (λ h lt.
         let lh : h < cluster.regions = subst (λ n. h < n) (g.inv.sized q lq).inserted lt in
         let z : get_or (node_at w q).here.inserted h 0 ≤ received_of w q h = (g.inv.lengths q h lq lh).inserted in
-        let a : received_of w q h ≤ length (log_of w h) = received_within cluster workload w g.order g.inv q h lq lh in
+        let a : received_of w q h ≤ length (log_of w h) = received_within g.inv q h lq lh in
         let b : length (log_of w h) ≤ there = few_in_log h lh in
         let c : get_or (node_at w q).here.inserted h 0 ≤ there = omega arith in c))
 
-    few_submitted : length (node_at w q).submitted ≤ sum_by (λ s. length s.calls * cluster.tries) (local q workload.sessions)
+    -- it was submitted by one of the region's sessions
+    abbrev IsOfSession : Submission → Type 0
+    IsOfSession x = AnyIn (λ s. x.session ≡ s.name) (local q workload.sessions)
+
+    few_submitted : submitted_at q ≤ attempts_at q
     few_submitted =
         let a : length (node_at w q).submitted ≤ sum_by (λ s. attempts_by s.name (node_at w q).submitted) (local q workload.sessions) = counted (local q workload.sessions) (node_at w q).submitted each_of_session in
-        let b : sum_by (λ s. attempts_by s.name (node_at w q).submitted) (local q workload.sessions) ≤ sum_by (λ s. length s.calls * cluster.tries) (local q workload.sessions) =
+        let b : sum_by (λ s. attempts_by s.name (node_at w q).submitted) (local q workload.sessions) ≤ attempts_at q =
         under_list (λ s. attempts_by s.name (node_at w q).submitted) (λ s. length s.calls * cluster.tries) (local q workload.sessions)
         (all_put (λ s. attempts_by s.name (node_at w q).submitted ≤ length s.calls * cluster.tries) (local q workload.sessions) each_few) in
         omega arith
       where
-        each_of_session : AllIn (λ x. AnyIn (λ s. x.session ≡ s.name) (local q workload.sessions)) (node_at w q).submitted
-        each_of_session = all_map (λ x. AnyIn (IsSubmissionOf cluster.tries q x) workload.sessions) (λ x. AnyIn (λ s. x.session ≡ s.name) (local q workload.sessions)) (node_at w q).submitted (λ x e.
+        each_of_session : AllIn IsOfSession (node_at w q).submitted
+        each_of_session = all_map (λ x. AnyIn (IsSubmissionOf cluster.tries q x) workload.sessions) IsOfSession (node_at w q).submitted (λ x e.
             let r : (s : Session) × Has workload.sessions s × IsSubmissionOf cluster.tries q x s = any_get (IsSubmissionOf cluster.tries q x) workload.sessions e in
             any_put (λ s. x.session ≡ s.name) (local q workload.sessions) r.0 (has_filter (λ s. eqb s.region q) workload.sessions r.0 r.1 (eq-eqb r.0.region q r.2.here)) r.2.name) (g.inv.sessions.known q lq)
 
@@ -317,9 +337,9 @@ module _ {cluster : Cluster} {workload : Workload} (ok : IsValidCluster cluster)
         each_few s h =
             let r : Has workload.sessions s × (eqb s.region q ≡ true) = has_of_filtered (λ t. eqb t.region q) workload.sessions s h in
             subst (λ p. attempts_by s.name (node_at w p).submitted ≤ length s.calls * cluster.tries) (eqb-true s.region q r.1)
-            (all_get (λ t. attempts_by t.name (node_at w t.region).submitted ≤ length t.calls * cluster.tries) workload.sessions (of_pairs workload.sessions w.places g.inv.sessions.places) s r.0)
+            (all_get KeepsToTries workload.sessions (of_pairs workload.sessions w.places g.inv.sessions.places) s r.0)
           where
-            of_pairs : (ss : List Session) (ps : List Place) → Pairwise (IsPlaceOf cluster.tries w) ss ps → AllIn (λ t. attempts_by t.name (node_at w t.region).submitted ≤ length t.calls * cluster.tries) ss
+            of_pairs : (ss : List Session) (ps : List Place) → Pairwise (IsPlaceOf cluster.tries w) ss ps → AllIn KeepsToTries ss
             of_pairs [] ps pair = tt
             of_pairs (t ∷ ss) [] pair = absurd pair
             of_pairs (t ∷ ss) (p ∷ ps) pair = (attempts_within cluster.tries w t p pair.0, of_pairs ss ps pair.1)
@@ -334,45 +354,49 @@ module _ {cluster : Cluster} {workload : Workload} (ok : IsValidCluster cluster)
         let e : cluster.regions * there + cluster.regions * there + there + there ≡ (2 * cluster.regions + 2) * there = ring_each there cluster.regions in
         omega arith
 
-    few_weight : weight q (own workload w q) ≤ length (node_at w q).submitted + sum_by (λ p. p.answered) (places_at q workload.sessions w.places) + (2 * cluster.regions + 2) * there
+    few_weight : weight q (own workload w q) ≤ submitted_at q + answered_at q + (2 * cluster.regions + 2) * there
     few_weight = let a : sum (received_lengths w q) + sum (node_at w q).here.inserted + length (node_at w q).here.resolved + length (node_at w q).here.done ≤ (2 * cluster.regions + 2) * there = few_rest in omega arith
 
   -- all regions together
 
-  all_submitted : sum_below (λ q. length (node_at w q).submitted) cluster.regions ≤ calls_in workload.sessions * cluster.tries
+  -- how many attempts there may be
+  abbrev attempts : ℕ
+  attempts = calls_in workload.sessions * cluster.tries
+
+  all_submitted : sum_below submitted_at cluster.regions ≤ attempts
   all_submitted =
-      let a : sum_below (λ q. length (node_at w q).submitted) cluster.regions ≤ sum_below (λ q. sum_by (λ s. length s.calls * cluster.tries) (local q workload.sessions)) cluster.regions =
-      sum_below_le (λ q. length (node_at w q).submitted) (λ q. sum_by (λ s. length s.calls * cluster.tries) (local q workload.sessions)) cluster.regions few_submitted in
-      let b : sum_below (λ q. sum_by (λ s. length s.calls * cluster.tries) (local q workload.sessions)) cluster.regions ≤ sum_by (λ s. length s.calls * cluster.tries) workload.sessions =
+      let a : sum_below submitted_at cluster.regions ≤ sum_below attempts_at cluster.regions =
+      sum_below_le submitted_at attempts_at cluster.regions few_submitted in
+      let b : sum_below attempts_at cluster.regions ≤ sum_by (λ s. length s.calls * cluster.tries) workload.sessions =
       spread (λ s. length s.calls * cluster.tries) workload.sessions cluster.regions in
-      let c : sum_by (λ s. length s.calls * cluster.tries) workload.sessions ≡ calls_in workload.sessions * cluster.tries = scaled cluster.tries workload.sessions in
+      let c : sum_by (λ s. length s.calls * cluster.tries) workload.sessions ≡ attempts = scaled cluster.tries workload.sessions in
       omega arith
 
-  all_there : length (submissions w) ≤ calls_in workload.sessions * cluster.tries
-  all_there = subst (λ n. n ≤ calls_in workload.sessions * cluster.tries) (sym (joined_length (λ n. n.submitted) no_node w.nodes))
-      (subst (λ m. sum_below (λ q. length (node_at w q).submitted) m ≤ calls_in workload.sessions * cluster.tries) (sym g.inv.nodes) all_submitted)
+  all_there : length (submissions w) ≤ attempts
+  all_there = subst (λ n. n ≤ attempts) (sym (joined_length (λ n. n.submitted) no_node w.nodes))
+      (subst (λ m. sum_below submitted_at m ≤ attempts) (sym g.inv.nodes) all_submitted)
 
-  all_answered : sum_below (λ q. sum_by (λ p. p.answered) (places_at q workload.sessions w.places)) cluster.regions ≤ calls_in workload.sessions
+  all_answered : sum_below answered_at cluster.regions ≤ calls_in workload.sessions
   all_answered =
-      let a : sum_below (λ q. sum_by (λ p. p.answered) (places_at q workload.sessions w.places)) cluster.regions ≤ sum_below (λ q. sum_by (λ s. length s.calls) (local q workload.sessions)) cluster.regions =
-      sum_below_le (λ q. sum_by (λ p. p.answered) (places_at q workload.sessions w.places)) (λ q. sum_by (λ s. length s.calls) (local q workload.sessions)) cluster.regions
+      let a : sum_below answered_at cluster.regions ≤ sum_below calls_at cluster.regions =
+      sum_below_le answered_at calls_at cluster.regions
       (λ q lt. answered_within (IsPlaceOf cluster.tries w) (λ s p r. r.answered) q workload.sessions w.places g.inv.sessions.places) in
-      let b : sum_below (λ q. sum_by (λ s. length s.calls) (local q workload.sessions)) cluster.regions ≤ sum_by (λ s. length s.calls) workload.sessions =
+      let b : sum_below calls_at cluster.regions ≤ sum_by (λ s. length s.calls) workload.sessions =
       spread (λ s. length s.calls) workload.sessions cluster.regions in
       omega arith
 
-  all_rest : cluster.regions * ((2 * cluster.regions + 2) * length (submissions w)) ≤ cluster.regions * ((2 * cluster.regions + 2) * (calls_in workload.sessions * cluster.tries))
-  all_rest = mul-le cluster.regions ((2 * cluster.regions + 2) * length (submissions w)) cluster.regions ((2 * cluster.regions + 2) * (calls_in workload.sessions * cluster.tries)) (omega arith)
-      (mul-le (2 * cluster.regions + 2) (length (submissions w)) (2 * cluster.regions + 2) (calls_in workload.sessions * cluster.tries) (omega arith) all_there)
+  all_rest : cluster.regions * ((2 * cluster.regions + 2) * length (submissions w)) ≤ cluster.regions * ((2 * cluster.regions + 2) * attempts)
+  all_rest = mul-le cluster.regions ((2 * cluster.regions + 2) * length (submissions w)) cluster.regions ((2 * cluster.regions + 2) * attempts) (omega arith)
+      (mul-le (2 * cluster.regions + 2) (length (submissions w)) (2 * cluster.regions + 2) attempts (omega arith) all_there)
 
-  calls_tried : calls_in workload.sessions ≤ calls_in workload.sessions * cluster.tries
+  calls_tried : calls_in workload.sessions ≤ attempts
   calls_tried =
-      let a : calls_in workload.sessions * 1 ≤ calls_in workload.sessions * cluster.tries = mul-le (calls_in workload.sessions) 1 (calls_in workload.sessions) cluster.tries (omega arith) ok.tries in
+      let a : calls_in workload.sessions * 1 ≤ attempts = mul-le (calls_in workload.sessions) 1 (calls_in workload.sessions) cluster.tries (omega arith) ok.tries in
       omega arith
 
   -- how many attempts a region's sessions made, and how many calls are answered
   abbrev tried_and_answered : ℕ → ℕ
-  tried_and_answered q = length (node_at w q).submitted + sum_by (λ p. p.answered) (places_at q workload.sessions w.places)
+  tried_and_answered q = submitted_at q + answered_at q
 
   -- what bounds the weight of a region
   abbrev weight_limit : ℕ → ℕ
@@ -387,16 +411,16 @@ module _ {cluster : Cluster} {workload : Workload} (ok : IsValidCluster cluster)
       let b : sum_below weight_limit cluster.regions ≡ sum_below tried_and_answered cluster.regions + sum_below (λ q. (2 * cluster.regions + 2) * length (submissions w)) cluster.regions =
       sum_below_added tried_and_answered (λ q. (2 * cluster.regions + 2) * length (submissions w)) cluster.regions in
       let c : sum_below tried_and_answered cluster.regions
-      ≡ sum_below (λ q. length (node_at w q).submitted) cluster.regions + sum_below (λ q. sum_by (λ p. p.answered) (places_at q workload.sessions w.places)) cluster.regions =
-      sum_below_added (λ q. length (node_at w q).submitted) (λ q. sum_by (λ p. p.answered) (places_at q workload.sessions w.places)) cluster.regions in
+      ≡ sum_below submitted_at cluster.regions + sum_below answered_at cluster.regions =
+      sum_below_added submitted_at answered_at cluster.regions in
       let d : sum_below (λ q. (2 * cluster.regions + 2) * length (submissions w)) cluster.regions ≡ cluster.regions * ((2 * cluster.regions + 2) * length (submissions w)) =
       sum_below_const ((2 * cluster.regions + 2) * length (submissions w)) cluster.regions in
-      let e : sum_below (λ q. length (node_at w q).submitted) cluster.regions ≤ calls_in workload.sessions * cluster.tries = all_submitted in
-      let f : sum_below (λ q. sum_by (λ p. p.answered) (places_at q workload.sessions w.places)) cluster.regions ≤ calls_in workload.sessions = all_answered in
-      let h : cluster.regions * ((2 * cluster.regions + 2) * length (submissions w)) ≤ cluster.regions * ((2 * cluster.regions + 2) * (calls_in workload.sessions * cluster.tries)) = all_rest in
-      let k : calls_in workload.sessions ≤ calls_in workload.sessions * cluster.tries = calls_tried in
-      let l : calls_in workload.sessions * cluster.tries + calls_in workload.sessions * cluster.tries + cluster.regions * ((2 * cluster.regions + 2) * (calls_in workload.sessions * cluster.tries))
-      ≤ most_events cluster workload = ring_all (calls_in workload.sessions * cluster.tries) cluster.regions in
+      let e : sum_below submitted_at cluster.regions ≤ attempts = all_submitted in
+      let f : sum_below answered_at cluster.regions ≤ calls_in workload.sessions = all_answered in
+      let h : cluster.regions * ((2 * cluster.regions + 2) * length (submissions w)) ≤ cluster.regions * ((2 * cluster.regions + 2) * attempts) = all_rest in
+      let k : calls_in workload.sessions ≤ attempts = calls_tried in
+      let l : attempts + attempts + cluster.regions * ((2 * cluster.regions + 2) * attempts)
+      ≤ most_events cluster workload = ring_all attempts cluster.regions in
       chain a b c d e f h k l
 
 -- so a list of legal events that all change something is not longer
@@ -404,7 +428,7 @@ lawful_after : (cluster : Cluster) → IsValidCluster cluster → (workload : Wo
     → AreLegalFrom cluster workload w events → HasInvariant cluster workload (world_from cluster workload w events)
 lawful_after cluster ok workload fits w [] g l = g
 lawful_after cluster ok workload fits w (e ∷ events) g l =
-    lawful_after cluster ok workload fits (next cluster workload w e) events (record { order = ordered g.order e; inv = next_keeps cluster ok workload fits w g.order e l.0 g.inv }) l.1
+    lawful_after cluster ok workload fits (next cluster workload w e) events (record { order = ordered g.order e; inv = next_keeps ok fits w g.order e l.0 g.inv }) l.1
 
 pub events_few : (cluster : Cluster) → IsValidCluster cluster → (workload : Workload) → IsValidWorkload cluster workload → (w : World) (events : List Event) → HasInvariant cluster workload w
     → AreLegalFrom cluster workload w events → AllChange cluster workload w events → length events ≤ most_events cluster workload

@@ -78,7 +78,7 @@ module _ {cluster : Cluster} {workload : Workload} (w z : World) where
       within : (home : ℕ) → home < length (logs_of w) → slice_index (received_lengths w region) home ≤ length (log_at (logs_of w) home)
       within home lt =
           let lh : home < cluster.regions = subst (λ n. home < n) (logs_length w ∙ gw.inv.nodes) lt in
-          subst (λ l. slice_index (received_lengths w region) home ≤ length l) (sym (log_is w home)) (received_within cluster workload w gw.order gw.inv region home lr lh)
+          subst (λ l. slice_index (received_lengths w region) home ≤ length l) (sym (log_is w home)) (received_within gw.inv region home lr lh)
 
 -- an id that a region gave is that of the same attempt in all worlds in which the region's node is the same
 pub attempt_same : (w v : World) (region : ℕ) → node_at w region ≡ node_at v region → (id : TxnId) → id.region ≡ region → attempt_of w id ≡ attempt_of v id
@@ -119,7 +119,7 @@ module _ {cluster : Cluster} {workload : Workload} (w v z : World) (gw : HasInva
   waits_here name session place e id h =
       let f : Has workload.sessions session × (session.name ≡ name) × (session.region ≡ region) × IsPlaceOf cluster.tries w session place =
       session_found (IsPlaceOf cluster.tries w) workload.sessions w.places region name session place gw.inv.sessions.places e in
-      let a : WaitsAt cluster w session place id = waiting_for cluster workload w gw.order gw.inv session place id (subst (λ r. r < cluster.regions) (sym f.2) lr) f.3 h in
+      let a : WaitsAt cluster w session place id = waiting_for gw.inv session place id (subst (λ r. r < cluster.regions) (sym f.2) lr) f.3 h in
       a.region ∙ f.2
 
   attempted : (id : TxnId) → id.region ≡ region → attempt_of w id ≡ attempt_of v id
@@ -142,17 +142,22 @@ module _ {cluster : Cluster} {workload : Workload} (w v z : World) (gw : HasInva
       ∙ ap₂ (submit_own cluster workload region session place call) same e
       ∙ sym (own_submitted cluster workload v region (node_there gv region lr) session place call)
 
+  -- the region's own part is the same after a submission, or an answer, of this session in one world and of that in the other
+  abbrev IsSubmittedAlike : Option (Session × Place) → Option (Session × Place) → Type 0
+  IsSubmittedAlike o p = own workload (submitted cluster workload w region o) region ≡ own workload (submitted cluster workload v region p) region
+
+  abbrev IsAnsweredAlike : Option (Session × Place) → Option (Session × Place) → Type 0
+  IsAnsweredAlike o p = own workload (answered workload w region o) region ≡ own workload (answered workload v region p) region
+
   submit_local : (name : Bytes) → MaySubmit cluster w region (session_at workload.sessions w.places region name)
       → MaySubmit cluster v region (session_at workload.sessions v.places region name)
-      × (own workload (submitted cluster workload w region (session_at workload.sessions w.places region name)) region
-      ≡ own workload (submitted cluster workload v region (session_at workload.sessions v.places region name)) region)
+      × IsSubmittedAlike (session_at workload.sessions w.places region name) (session_at workload.sessions v.places region name)
   submit_local name may =
-      subst (λ o. MaySubmit cluster v region o
-      × (own workload (submitted cluster workload w region (session_at workload.sessions w.places region name)) region ≡ own workload (submitted cluster workload v region o) region))
+      subst (λ o. MaySubmit cluster v region o × IsSubmittedAlike (session_at workload.sessions w.places region name) o)
       (session_same workload w v region same name) (go (session_at workload.sessions w.places region name) refl may)
     where
       go : (o : Option (Session × Place)) → session_at workload.sessions w.places region name ≡ o → MaySubmit cluster w region o
-          → MaySubmit cluster v region o × (own workload (submitted cluster workload w region o) region ≡ own workload (submitted cluster workload v region o) region)
+          → MaySubmit cluster v region o × IsSubmittedAlike o o
       go None e m = absurd m
       go (Some (session, place)) e m = (
         subst (MayTry cluster.tries (length session.calls) place.answered) (awaited_same place.waits (waits_here name session place e)) m,
@@ -161,15 +166,13 @@ module _ {cluster : Cluster} {workload : Workload} (w v z : World) (gw : HasInva
 
   answer_local : (name : Bytes) → MayAnswer cluster w region (session_at workload.sessions w.places region name)
       → MayAnswer cluster v region (session_at workload.sessions v.places region name)
-      × (own workload (answered workload w region (session_at workload.sessions w.places region name)) region
-      ≡ own workload (answered workload v region (session_at workload.sessions v.places region name)) region)
+      × IsAnsweredAlike (session_at workload.sessions w.places region name) (session_at workload.sessions v.places region name)
   answer_local name may =
-      subst (λ o. MayAnswer cluster v region o
-      × (own workload (answered workload w region (session_at workload.sessions w.places region name)) region ≡ own workload (answered workload v region o) region))
+      subst (λ o. MayAnswer cluster v region o × IsAnsweredAlike (session_at workload.sessions w.places region name) o)
       (session_same workload w v region same name) (go (session_at workload.sessions w.places region name) refl may)
     where
       go : (o : Option (Session × Place)) → session_at workload.sessions w.places region name ≡ o → MayAnswer cluster w region o
-          → MayAnswer cluster v region o × (own workload (answered workload w region o) region ≡ own workload (answered workload v region o) region)
+          → MayAnswer cluster v region o × IsAnsweredAlike o o
       go None e m = absurd m
       go (Some (session, place)) e m = (
         subst (MayEnd cluster.tries) (awaited_same place.waits (waits_here name session place e)) m,
@@ -196,10 +199,10 @@ module _ {cluster : Cluster} {workload : Workload} (w v z : World) (gw : HasInva
           ∙ get_front (asked_of v source region) (asked_of z source region) number at_v.0 (asked_front v z gv gz source region ls lr (bv source)) at_v.1)
 
       of_w : IsRequest w region source at_w.0
-      of_w = request_is cluster workload w gw.order region source lr ls gw.inv at_w.0 (has_place (asked_of w source region) number at_w.0 at_w.1)
+      of_w = request_is gw.inv region source lr ls at_w.0 (has_place (asked_of w source region) number at_w.0 at_w.1)
 
       of_v : IsRequest v region source at_v.0
-      of_v = request_is cluster workload v gv.order region source lr ls gv.inv at_v.0 (has_place (asked_of v source region) number at_v.0 at_v.1)
+      of_v = request_is gv.inv region source lr ls at_v.0 (has_place (asked_of v source region) number at_v.0 at_v.1)
 
   append_local : (source number : ℕ) → source < cluster.regions → number < length (asked_of w source region) → number < length (asked_of v source region)
       → own workload (next cluster workload w (Append region source number)) region ≡ own workload (next cluster workload v (Append region source number)) region
@@ -242,10 +245,10 @@ module _ {cluster : Cluster} {workload : Workload} (w v z : World) (gw : HasInva
       ∙ sym (own_moved cluster workload v region (node_there gv region lr) (executed cluster.procs (node_at v region).here (txn_of v id)))
     where
       in_w : WasSubmitted w id
-      in_w = executable_known cluster workload w gw.order region id lr may gw.inv
+      in_w = executable_known gw.inv region id lr may
 
       in_v : WasSubmitted v id
-      in_v = executable_known cluster workload v gv.order region id lr (may_same (Execute region id) may) gv.inv
+      in_v = executable_known gv.inv region id lr (may_same (Execute region id) may)
 
       txn_same : txn_of w id ≡ txn_of v id
       txn_same = in_w.1 ∙ ap Some (one_txn id in_w.0 in_v.0 in_w.1 in_v.1) ∙ sym in_v.1

@@ -101,12 +101,15 @@ changed_own (s ∷ sessions) (x ∷ places) region name p = go (cases_Bool (eqb 
     rest : List Place
     rest = with_place sessions places region name p
 
+    changed : List Place
+    changed = with_place (local region sessions) (places_at region sessions places) region name p
+
     mine : eqb s.region region ≡ true → (b : Bool) → is_session region name s ≡ b
         → with_place (local region (s ∷ sessions)) (places_at region (s ∷ sessions) (x ∷ places)) region name p
-        ≡ cond b (p ∷ places_at region sessions places) (x ∷ with_place (local region sessions) (places_at region sessions places) region name p)
+        ≡ cond b (p ∷ places_at region sessions places) (x ∷ changed)
     mine t b e =
         ap₂ (λ l m. with_place l m region name p) (local_yes region s sessions t) (places_yes region s sessions t x places)
-        ∙ ap (λ c. cond c (p ∷ places_at region sessions places) (x ∷ with_place (local region sessions) (places_at region sessions places) region name p)) e
+        ∙ ap (λ c. cond c (p ∷ places_at region sessions places) (x ∷ changed)) e
 
     pick : {B : Type 0} (f : List Place → B) (b : Bool) → is_session region name s ≡ b → f (with_place (s ∷ sessions) (x ∷ places) region name p) ≡ f (cond b (p ∷ places) (x ∷ with_place sessions places region name p))
     pick f b e = ap (λ c. f (cond c (p ∷ places) (x ∷ with_place sessions places region name p))) e

@@ -127,9 +127,12 @@ module _ {W E O : Type 0} (g : Regions W E O) (law : AreLocal g) where
       ed : g.Legal (g.next w e) d × (g.own (g.next w d) (g.region d) ≡ g.own (g.next (g.next w e) d) (g.region d))
       ed = beside w good e d legal_e legal_d (λ is. apart (sym is))
 
-      by : (q : ℕ) → Either (g.region e ≡ q) → Either (g.region d ≡ q) → g.own (g.next (g.next w d) e) q ≡ g.own (g.next (g.next w e) d) q
+      IsSameAt : ℕ → Type 0
+      IsSameAt q = g.own (g.next (g.next w d) e) q ≡ g.own (g.next (g.next w e) d) q
+
+      by : (q : ℕ) → Either (g.region e ≡ q) → Either (g.region d ≡ q) → IsSameAt q
       by q (inl is) h =
-          subst (λ r. g.own (g.next (g.next w d) e) r ≡ g.own (g.next (g.next w e) d) r) is (sym de.1 ∙ sym (law.frame (g.next w e) d (g.region e) apart))
+          subst IsSameAt is (sym de.1 ∙ sym (law.frame (g.next w e) d (g.region e) apart))
       by q (inr n) (inl is) =
-          subst (λ r. g.own (g.next (g.next w d) e) r ≡ g.own (g.next (g.next w e) d) r) is (law.frame (g.next w d) e (g.region d) (λ same. apart (sym same)) ∙ ed.1)
+          subst IsSameAt is (law.frame (g.next w d) e (g.region d) (λ same. apart (sym same)) ∙ ed.1)
       by q (inr n) (inr m) = law.frame (g.next w d) e q n ∙ law.frame w d q m ∙ sym (law.frame (g.next w e) d q m ∙ law.frame w e q n)

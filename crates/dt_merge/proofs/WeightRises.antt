@@ -26,7 +26,7 @@ use Rattle.dt_session.specs.Step.{IsLegal, MayAnswer, MaySubmit, answered, next,
 use Rattle.dt_session.specs.Run.{world_from, AreLegalFrom}
 use Rattle.dt_session.specs.Eager.{AllChange}
 use Rattle.dt_agreement.specs.Invariant.{IsPlaceOf}
-use Rattle.dt_agreement.proofs.Callers.{WasSubmitted, Submits, answered_changed, append_cases, executable_known, next_keeps, ordered, received_own, session_found, submits}
+use Rattle.dt_agreement.proofs.Callers.{WasSubmitted, Submits, answered_changed, append_cases, executable_known, next_keeps, ordered, received_own, session_found, next_call_submits}
 use Rattle.dt_merge.specs.OwnPart.{own}
 use Rattle.dt_merge.specs.Weight.{sum_below, weight, world_weight}
 use Rattle.dt_merge.specs.WorldRegions.{HasInvariant}
@@ -84,9 +84,6 @@ by_done : (a b c d e f f' : ℕ) → f' ≡ f + 1 → a + b + c + d + e + f < a 
 by_done a b c d e f f' p = omega arith
 
 module _ (cluster : Cluster) (ok : IsValidCluster cluster) (workload : Workload) (w : World) (g : HasInvariant cluster workload w) (region : ℕ) (lr : region < cluster.regions) where
-  room : region < length w.nodes
-  room = node_there g region lr
-
   Rises : World → Type 0
   Rises v = weight region (own workload w region) < weight region (own workload v region)
 
@@ -99,14 +96,14 @@ module _ (cluster : Cluster) (ok : IsValidCluster cluster) (workload : Workload)
   submit_rises : (name : Bytes) → MaySubmit cluster w region (session_at workload.sessions w.places region name) → Rises (submitted cluster workload w region (session_at workload.sessions w.places region name))
   unfolding Rises
   submit_rises name may =
-      let s : Submits cluster workload w region name = submits cluster ok workload w g.order region name may g.inv in
+      let s : Submits cluster workload w region name = next_call_submits g.inv ok region name may in
       let attempt : Submission = attempt_of_own cluster region s.session s.place s.call (own workload w region) (next_attempt w s.place.waits) in
       let now : Place = record s.place { waits = Some attempt.txn.id } in
       let places : List Place = with_place (local region workload.sessions) (own workload w region).places region s.session.name now in
       let sum_now : sum_by (λ p. p.answered) places + s.place.answered ≡ sum_by (λ p. p.answered) (own workload w region).places + s.place.answered =
       answered_changed (local region workload.sessions) (own workload w region).places region s.session.name s.session s.place now (in_own name s.session s.place s.named s.found) in
       subst (λ v. weight region (own workload w region) < weight region (own workload v region)) (sym s.next)
-      (subst (λ x. weight region (own workload w region) < weight region x) (sym (own_submitted cluster workload w region room s.session s.place s.call))
+      (subst (λ x. weight region (own workload w region) < weight region x) (sym (own_submitted cluster workload w region (node_there g region lr) s.session s.place s.call))
       (by_submitted (length (node_at w region).submitted) (length ((node_at w region).submitted ++ attempt ∷ []))
       (sum_by (λ p. p.answered) (own workload w region).places) (sum_by (λ p. p.answered) places)
       (sum (received_lengths w region)) (sum (node_at w region).here.inserted) (length (node_at w region).here.resolved) (length (node_at w region).here.done)
@@ -137,14 +134,14 @@ module _ (cluster : Cluster) (ok : IsValidCluster cluster) (workload : Workload)
   append_rises : (source number : ℕ) → IsLegal cluster workload w (Append region source number)
       → (next cluster workload w (Append region source number) ≡ w) ⊎ Rises (next cluster workload w (Append region source number))
   unfolding Rises
-  append_rises source number l = elim (append_cases cluster workload w g.order region source number l.regions.0 l.regions.1 l.allowed g.inv) [
+  append_rises source number l = elim (append_cases g.inv region source number l.regions.0 l.regions.1 l.allowed) [
     | inl same ↦ inl same
     | inr r ↦ inr (subst (λ v. weight region (own workload w region) < weight region (own workload v region)) (sym r.2) (rises r.0))
   ]
     where
       rises : (txn : Txn) → weight region (own workload w region) < weight region (own workload (placed w region source (Some txn)) region)
       rises txn =
-          subst (λ x. weight region (own workload w region) < weight region x) (sym (own_appended cluster workload w region room source true (Some txn)))
+          subst (λ x. weight region (own workload w region) < weight region x) (sym (own_appended cluster workload w region (node_there g region lr) source true (Some txn)))
           (by_received (length (node_at w region).submitted) (sum_by (λ p. p.answered) (own workload w region).places)
           (sum (received_lengths w region))
           (sum (set (node_at w region).received region (length ((node_at w region).log ++ part_of txn region ∷ []))))
@@ -155,9 +152,13 @@ module _ (cluster : Cluster) (ok : IsValidCluster cluster) (workload : Workload)
   deliver_rises : (home first last : ℕ) → IsLegal cluster workload w (Deliver region home first last)
       → (next cluster workload w (Deliver region home first last) ≡ w) ⊎ Rises (next cluster workload w (Deliver region home first last))
   unfolding Rises
-  deliver_rises home first last l = go (leb first (received_of w region home) && ltb (received_of w region home) last) refl
+  deliver_rises home first last l = go brings_more refl
     where
-      go : (b : Bool) → (leb first (received_of w region home) && ltb (received_of w region home) last) ≡ b
+      -- whether some of it was not received yet
+      brings_more : Bool
+      brings_more = leb first (received_of w region home) && ltb (received_of w region home) last
+
+      go : (b : Bool) → brings_more ≡ b
           → (cond b (received w region home last) w ≡ w) ⊎ (weight region (own workload w region) < weight region (own workload (cond b (received w region home last) w) region))
       go false e = inl refl
       go true e = inr (by (either_nat home region))
@@ -171,7 +172,7 @@ module _ (cluster : Cluster) (ok : IsValidCluster cluster) (workload : Workload)
               let end : last ≤ length (log_of w region) = subst (λ h. last ≤ length (log_of w h)) is l.allowed.1 in
               absurd (let none : ⊥ = omega (arith, below) in none)
           by (inr n) =
-              subst (λ x. weight region (own workload w region) < weight region x) (sym (own_delivered cluster workload w region room home last true))
+              subst (λ x. weight region (own workload w region) < weight region x) (sym (own_delivered cluster workload w region (node_there g region lr) home last true))
               (by_received (length (node_at w region).submitted) (sum_by (λ p. p.answered) (own workload w region).places)
               (sum (received_lengths w region))
               (sum (set (set (node_at w region).received home last) region (length (node_at w region).log)))
@@ -186,7 +187,7 @@ module _ (cluster : Cluster) (ok : IsValidCluster cluster) (workload : Workload)
   insert_rises home lh =
       let before : List ℕ = (node_at w region).here.inserted in
       subst (λ x. weight region (own workload w region) < weight region x)
-      (sym (own_moved cluster workload w region room (stepped cluster.procs (txn_of w) (node_at w region).here (Insert region home))))
+      (sym (own_moved cluster workload w region (node_there g region lr) (stepped cluster.procs (txn_of w) (node_at w region).here (Insert region home))))
       (by_inserted (length (node_at w region).submitted) (sum_by (λ p. p.answered) (own workload w region).places) (sum (received_lengths w region))
       (sum (node_at w region).here.inserted) (sum (set (node_at w region).here.inserted home (slice_index (node_at w region).here.inserted home + 1)))
       (length (node_at w region).here.resolved) (length (node_at w region).here.done)
@@ -196,7 +197,7 @@ module _ (cluster : Cluster) (ok : IsValidCluster cluster) (workload : Workload)
   unfolding Rises
   resolve_rises ids =
       subst (λ x. weight region (own workload w region) < weight region x)
-      (sym (own_moved cluster workload w region room (stepped cluster.procs (txn_of w) (node_at w region).here (Resolve region ids))))
+      (sym (own_moved cluster workload w region (node_there g region lr) (stepped cluster.procs (txn_of w) (node_at w region).here (Resolve region ids))))
       (by_resolved (length (node_at w region).submitted) (sum_by (λ p. p.answered) (own workload w region).places) (sum (received_lengths w region))
       (sum (node_at w region).here.inserted) (length (node_at w region).here.resolved) (length ((node_at w region).here.resolved ++ ids ∷ [])) (length (node_at w region).here.done)
       (length_push (node_at w region).here.resolved ids))
@@ -204,10 +205,11 @@ module _ (cluster : Cluster) (ok : IsValidCluster cluster) (workload : Workload)
   execute_rises : (id : TxnId) → MayStep (received_logs w region) (node_at w region).here (Execute region id) → Rises (next cluster workload w (Execute region id))
   unfolding Rises
   execute_rises id may =
-      let known : WasSubmitted w id = executable_known cluster workload w g.order region id lr may g.inv in
+      let known : WasSubmitted w id = executable_known g.inv region id lr may in
       let outcome : _ = (known.0.id, (one cluster.procs known.0 (node_at w region).here.table).0) in
       subst (λ x. weight region (own workload w region) < weight region x)
-      (sym (own_moved cluster workload w region room (executed cluster.procs (node_at w region).here (txn_of w id)) ∙ ap (λ t. move_own (own workload w region) (executed cluster.procs (node_at w region).here t)) known.1))
+      (sym (own_moved cluster workload w region (node_there g region lr) (executed cluster.procs (node_at w region).here (txn_of w id))
+      ∙ ap (λ t. move_own (own workload w region) (executed cluster.procs (node_at w region).here t)) known.1))
       (by_done (length (node_at w region).submitted) (sum_by (λ p. p.answered) (own workload w region).places) (sum (received_lengths w region))
       (sum (node_at w region).here.inserted) (length (node_at w region).here.resolved) (length (node_at w region).here.done) (length ((node_at w region).here.done ++ outcome ∷ []))
       (length_push (node_at w region).here.done outcome))
@@ -241,5 +243,5 @@ module _ (cluster : Cluster) (ok : IsValidCluster cluster) (workload : Workload)
   events_weighed w (e ∷ events) g l c =
       let up : world_weight cluster.regions workload w < world_weight cluster.regions workload (next cluster workload w e) = world_rises cluster ok workload w e g l.0 c.0 in
       let later : length events + world_weight cluster.regions workload (next cluster workload w e) ≤ world_weight cluster.regions workload (world_from cluster workload (next cluster workload w e) events) =
-      events_weighed (next cluster workload w e) events (record { order = ordered g.order e; inv = next_keeps cluster ok workload fits w g.order e l.0 g.inv }) l.1 c.1 in
+      events_weighed (next cluster workload w e) events (record { order = ordered g.order e; inv = next_keeps ok fits w g.order e l.0 g.inv }) l.1 c.1 in
       omega arith

@@ -38,7 +38,7 @@ whole {cluster = cluster} {workload = workload} w v gw gv same = λ k. record { 
     nodes = same_lists no_node w.nodes v.nodes (gw.inv.nodes ∙ sym gv.inv.nodes) (λ q. ap (λ o. o.node) (same q))
 
     places : w.places ≡ v.places
-    places = same_places workload.sessions w.places v.places (places_parallel cluster workload w gw.order gw.inv) (places_parallel cluster workload v gv.order gv.inv)
+    places = same_places workload.sessions w.places v.places (places_parallel gw.inv) (places_parallel gv.inv)
         (λ q. ap (λ o. o.places) (same q))
 
 -- what regions submit and place stays
@@ -47,7 +47,7 @@ legal_grows cluster workload w e good legal = grows cluster workload w e (node_t
 
 pub world_local : (cluster : Cluster) → IsValidCluster cluster → (workload : Workload) → IsValidWorkload cluster workload → AreLocal (world_regions cluster workload)
 world_local cluster ok workload fits = record {
-  kept = λ w e good legal. record { order = ordered good.order e; inv = next_keeps cluster ok workload fits w good.order e legal good.inv };
+  kept = λ w e good legal. record { order = ordered good.order e; inv = next_keeps ok fits w good.order e legal good.inv };
   whole = whole;
   frame = λ w e q n. frame cluster workload w q e n;
   grows = legal_grows cluster workload;

@@ -37,10 +37,18 @@ use Rattle.dt_node.proofs.CallAfterCall.{StaysBeside, made_some}
 use Rattle.dt_node.proofs.RoundInWorld.{round_goes}
 use Rattle.dt_node.proofs.Rule1Submit.{submit_goes}
 
+-- a node whose region is this one, and whose session was answered
+abbrev with_answer : NodeView → Bytes → RegionView → NodeView
+with_answer a name r = record a { site = in_region a.site r; sessions = after_answer a.sessions name }
+
+-- a node whose site is this one, and whose session waits for an attempt
+abbrev with_try : NodeView → Bytes → TxnId → SiteView → NodeView
+with_try a name id q = record a { site = q; sessions = after_wait a.sessions name id }
+
 -- a session was answered
 pub answer_moves : {procs : List ProcTree} {a : NodeView} (name : Bytes) (r : RegionView) → r ≡ with_event a.site.region a.site.region.state (Answer (number_of a) name) → MayAnswerAt a name
-    → MovesOn procs [] a (record a { site = in_region a.site r; sessions = after_answer a.sessions name })
-answer_moves {procs} {a} name r is may = made_some {procs = procs} {packets = []} {a = a} {b = record a { site = in_region a.site r; sessions = after_answer a.sessions name }} (Answer (number_of a) name ∷ [])
+    → MovesOn procs [] a (with_answer a name r)
+answer_moves {procs} {a} name r is may = made_some {procs = procs} {packets = []} {a = a} {b = with_answer a name r} (Answer (number_of a) name ∷ [])
     (ap (λ (x : RegionView). x.events) is)
     (ap (λ (x : RegionView). x.heard) is)
     (refl, tt) (λ cluster workload events p f _. answer_goes f name r is may)
@@ -54,8 +62,8 @@ answer_moves {procs} {a} name r is may = made_some {procs = procs} {packets = []
 
 -- a session submitted its next attempt
 pub submit_moves : {procs : List ProcTree} {a : NodeView} (name : Bytes) {origin : Origin} {rank : ℕ} {body : Body} → IsNextAt a name origin rank body → (id : TxnId) (q : SiteView)
-    → MakesAttempt procs a.site rank body origin (Ok id) q → IsSoundRegion q.region.state → MovesOn procs [] a (record a { site = q; sessions = after_wait a.sessions name id })
-submit_moves {procs} {a} name {origin} {rank} {body} t id q made sound = made_some {procs = procs} {packets = []} {a = a} {b = record a { site = q; sessions = after_wait a.sessions name id }} (Submit (number_of a) name ∷ [])
+    → MakesAttempt procs a.site rank body origin (Ok id) q → IsSoundRegion q.region.state → MovesOn procs [] a (with_try a name id q)
+submit_moves {procs} {a} name {origin} {rank} {body} t id q made sound = made_some {procs = procs} {packets = []} {a = a} {b = with_try a name id q} (Submit (number_of a) name ∷ [])
     (ap (λ (x : SiteView). x.region.events) made.1 ∙ ap (λ n. a.site.region.events ++ stamped_from (latest_stamp a.site.region + 1) (Submit (number_of a) n ∷ [])) t.session)
     (ap (λ (x : SiteView). x.region.heard) made.1)
     (refl, tt) (λ cluster workload events p f _. submit_goes f name t id q (subst (λ l. MakesAttempt l a.site rank body origin (Ok id) q) p made) sound)
@@ -104,6 +112,10 @@ module _ {a : NodeView} (source number : ℕ) (txn : Txn) (r : RegionView) (made
 
 -- entries were received
 module _ {a : NodeView} (home first : ℕ) (entries : List Entry) (n : ℕ) (r : RegionView) (made : MakesDelivery a.site.region home first first entries (Ok (New n)) r) where
+  -- the event: they follow what was received
+  abbrev delivery : Event
+  delivery = Deliver (number_of a) home first (first + length entries)
+
   pub receive_beside : StaysBeside a (record a { site = in_region a.site r })
   receive_beside = record {
     number = ap (λ (x : RegionView). x.state.number) made.3;
@@ -115,10 +127,10 @@ module _ {a : NodeView} (home first : ℕ) (entries : List Entry) (n : ℕ) (r :
   }
 
   pub receive_moves : {procs : List ProcTree} (packets : List Packet) → ((cluster : Cluster) (workload : Workload) (events : List Event) → procs ≡ cluster.procs → NodeFits cluster workload events a
-      → AreTold cluster workload events packets a → GoesAfter cluster workload events (Deliver (number_of a) home first (first + length entries) ∷ []) (record a { site = in_region a.site r }))
-      → IsBroughtBy packets (latest_stamp a.site.region + 1) (Deliver (number_of a) home first (first + length entries)) → MovesOn procs packets a (record a { site = in_region a.site r })
+      → AreTold cluster workload events packets a → GoesAfter cluster workload events (delivery ∷ []) (record a { site = in_region a.site r }))
+      → IsBroughtBy packets (latest_stamp a.site.region + 1) delivery → MovesOn procs packets a (record a { site = in_region a.site r })
   receive_moves {procs} packets goes brought = made_some {procs = procs} {packets = packets} {a = a} {b = record a { site = in_region a.site r }}
-      (Deliver (number_of a) home first (first + length entries) ∷ []) (ap (λ (x : RegionView). x.events) made.3)
+      (delivery ∷ []) (ap (λ (x : RegionView). x.events) made.3)
       (ap (λ (x : RegionView). x.heard) made.3)
       (refl, tt) goes receive_beside (brought, tt)
 

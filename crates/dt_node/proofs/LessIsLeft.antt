@@ -15,12 +15,15 @@ use Rattle.dt_node.specs.MeasureInner.{left_for, left_of}
 
 -- less is left for all where less is left for one, and for no other more
 module _ (f : Bytes × Seat → ℕ) (test : Bytes → Bool) (seat now : Seat) (less : (name : Bytes) → f (name, now) < f (name, seat)) where
-  sum_falls : (seats : List (Bytes × Seat)) → lookup test seats ≡ Some seat → sum_by f (set_value test seats now) < sum_by f seats
+  -- where the one is found, less is left
+  abbrev Falls : List (Bytes × Seat) → Type 0
+  Falls seats = lookup test seats ≡ Some seat → sum_by f (set_value test seats now) < sum_by f seats
+
+  sum_falls : (seats : List (Bytes × Seat)) → Falls seats
   sum_falls [] found = cc
   sum_falls (x ∷ seats) found = go (cases_Bool (test x.0)) (sum_falls seats)
     where
-      go : (test x.0 ≡ true) ⊎ (test x.0 ≡ false) → (lookup test seats ≡ Some seat → sum_by f (set_value test seats now) < sum_by f seats)
-          → sum_by f (set_value test (x ∷ seats) now) < sum_by f (x ∷ seats)
+      go : (test x.0 ≡ true) ⊎ (test x.0 ≡ false) → Falls seats → sum_by f (set_value test (x ∷ seats) now) < sum_by f (x ∷ seats)
       go (inl y) later =
           let is : Some x.1 ≡ Some seat = rw y at found in
           let same : x.1 ≡ seat = cc in

@@ -56,9 +56,12 @@ module _ {a : NodeView} (c : CanTake [] a) (number : ℕ) (id : TxnId) (wanted :
 
   -- and how that ends
 
+  stays : {procs : List ProcTree} (r : RegionView) → r ≡ a.site.region → MovesOn procs [] a (record a { site = in_region a.site r })
+  stays {procs} r same = subst (λ (x : RegionView). MovesOn procs [] a (record a { site = in_region a.site x })) (sym same) (made_nothing a)
+
   pub own_ends : {procs : List ProcTree} (result : Result Bool NoMemory) (r : RegionView) → MakesAppend a.site.region (number_of a) number txn result r → IsSoundRegion r.state
       → MovesOn procs [] a (record a { site = in_region a.site r })
   own_ends (Ok true) r m sound = place_moves (number_of a) number txn r m []
       (λ cluster workload events p f t. place_goes f f.number (own_asks f number id wanted is_held) r m sound) (λ apart. absurd (apart refl))
-  own_ends {procs} (Ok false) r m sound = subst (λ (x : RegionView). MovesOn procs [] a (record a { site = in_region a.site x })) (sym m.1) (made_nothing a)
-  own_ends {procs} (Err e) r m sound = subst (λ (x : RegionView). MovesOn procs [] a (record a { site = in_region a.site x })) (sym m) (made_nothing a)
+  own_ends (Ok false) r m sound = stays r m.1
+  own_ends (Err e) r m sound = stays r m

@@ -1,10 +1,8 @@
 -- What a call on the region or the sessions inside a node makes of the node: the call says it of the part, and this is what it
 -- is of the whole.
-use Rattle.std.proofs.Common.{◌≡◌, ◌<◌, ◌≤◌, ◌+◌, ℕ, Bool, true, false, List, [], ◌∷◌, length, max, get_or, map, slice_get, Ok, None, Some, refl, sym, ap, subst, ◌∙◌}
-use Rattle.std.specs.Prelude.{Option, IsSome, option_and_then, option_map}
-use Rattle.std.proofs.lemmas.List.{length-map}
+use Rattle.std.proofs.Common.{◌≡◌, ◌<◌, ◌≤◌, ◌+◌, ℕ, Bool, true, false, List, [], ◌∷◌, length, max, get_or, slice_get, Ok, Some, refl, sym, ap, subst, ◌∙◌}
+use Rattle.std.specs.Prelude.{Option, IsSome, option_and_then}
 use Rattle.std.proofs.lemmas.Option.{slice_get-get_or}
-use Rattle.dt_lists.proofs.Callers.{at_place}
 use Rattle.dt_access.specs.Clash.{Bytes}
 use Rattle.dt_access.specs.declared.TxnId.{TxnId}
 use Rattle.dt_events.specs.declared.Event.TheVariants.{Answer}
@@ -20,16 +18,17 @@ use Rattle.dt_region.specs.Region.{RegionView, held, outcome_of}
 use Rattle.dt_region.specs.Rules.{MakesAppend, with_event}
 use Rattle.dt_region.specs.Sound.{IsSoundRegion}
 use Rattle.dt_packet.specs.declared.packet.Packet.{Packet}
-use Rattle.dt_session.specs.Step.{ranked_body}
-use Rattle.dt_session.specs.Sessions.{IsNext, MayBeAnswered, MayGo, SessionsView, StandsAt, after_answer, after_wait, answered_seat, waiting, waits_of, wanted_of}
+use Rattle.dt_session.specs.Sessions.{MayBeAnswered, MayGo, SessionsView, StandsAt, after_answer, after_wait, answered_seat, waiting, waits_of}
 use Rattle.dt_site.specs.declared.Origin.{Origin}
+use Rattle.dt_site.specs.NextAttempt.{HasNextCall, IsNextHere}
 use Rattle.dt_site.specs.Site.{SiteView, MakesAttempt, in_region}
+use Rattle.dt_site.proofs.Callers.{name_at}
 use Rattle.dt_node.specs.MeasureInner.{left_for}
 use Rattle.dt_node.specs.NodeView.{NodeView, heard_by, number_of}
 use Rattle.dt_node.specs.Turn.{HasPlacedOwn, HasTaken, MayAnswerAt, last_at}
 use Rattle.dt_node.specs.Steps.{HasTakenOne, IsNextAt}
 use Rattle.dt_node.specs.StepsInner.{HasPlaced, HasReceived, IsAnswering, IsPlacedTo}
-use Rattle.dt_node.specs.TurnInner.{CanTake, HasGoneOn, KnowsTheSame, MovesOn, asking_packet, logging_packet, noted}
+use Rattle.dt_node.specs.TurnInner.{CanGo, CanTake, HasGoneOn, KnowsTheSame, MovesOn, asking_packet, logging_packet, noted}
 use Rattle.dt_node.specs.EagerStartInner.{IsPlacingOwn}
 use Rattle.dt_node.proofs.CallAfterCall.{new_are}
 use Rattle.dt_node.proofs.SubmissionEvents.{placing_none, placing_one}
@@ -41,12 +40,6 @@ use Rattle.dt_node.proofs.WholePacket.{all_moved, all_steps, all_taken, asked_so
 -- the value that an equation begins with
 abbrev pub opened : {A : Type 0} {x y : A} → x ≡ y → A
 opened {A} {x} {y} e = x
-
--- a session stands at each place before their number
-pub no_name_at : {A : Type 0} (seats : List (Bytes × A)) (index : ℕ) → index < length seats → ¬ (None ≡ slice_get (map (λ p. p.0) seats) index)
-no_name_at seats index lt none =
-    let there = at_place (map (λ p. p.0) seats) index (subst (λ n. index < n) (sym (length-map seats (λ p. p.0))) lt) in
-    cc (there.1, none)
 
 -- the region is as it was
 pub same_own : (a : NodeView) (r : RegionView) → r ≡ a.site.region → IsPlacingOwn a (record a { site = in_region a.site r })
@@ -168,22 +161,17 @@ module _ (p : Packet) {a : NodeView} (c : CanTake (p ∷ []) a) (r : RegionView)
             (all_steps p a c b asks d logged (subst (λ n. HasPlaced p.source n b) hears placed) (subst (λ n. IsPlacedTo p.source (p.asked_at + length p.asked) n b) hears count) entries
             (ap (λ (n : NodeView). n.sessions) (sym notes) ∙ sessions) procs)
 
--- the call that a session may submit next is there, and it is what the session submits
-module _ (a : NodeView) (name : Bytes) {last : Option Outcome} (told : last ≡ last_at a name) (call attempt : ℕ) (is : IsNext a.sessions name last (Some (call, attempt))) where
-  told_next : IsNext a.sessions name (last_at a name) (Some (call, attempt))
-  told_next = subst (λ o. IsNext a.sessions name o (Some (call, attempt))) told is
+-- the call that a session may submit next is there
+pub next_call : {procs : List ProcTree} {a : NodeView} → CanGo procs [] a → (name : Bytes) → HasNextCall a.sessions a.site.region.state name
+next_call c name call attempt is = call_is_there c.fits name is.0 call attempt is.1
 
-  pub next_from : CanTake [] a → 1 ≤ call
-  next_from c = (call_is_there c.can.fits name told_next.0 call attempt told_next.1).0
-
-  pub next_call : CanTake [] a → IsSome (wanted_of a.sessions name call)
-  next_call c = (call_is_there c.can.fits name told_next.0 call attempt told_next.1).1
-
-  pub next_is : (index : ℕ) → StandsAt a.sessions index name → {rank : ℕ} {body : Body} → option_map ranked_body (wanted_of a.sessions name call) ≡ Some (rank, body) → {copied : Bytes} → copied ≡ name
-      → StandsAt a.sessions index copied × IsNextAt a copied (record { session = copied; call = call; attempt = attempt }) rank body
-  next_is index stands {rank} {body} wanted same =
-      subst (λ n. StandsAt a.sessions index n × IsNextAt a n (record { session = n; call = call; attempt = attempt }) rank body) (sym same)
-      (stands, record { may = told_next.0; session = refl; numbers = told_next.1; wanted = wanted })
+-- where the session at a place submits something next, it stands there
+pub next_is : (a : NodeView) (index : ℕ) {next : Option (Origin × ℕ × Body)} {origin : Origin} {rank : ℕ} {body : Body} → next ≡ Some (origin, rank, body) → (IsSome next → index < length a.sessions.seats)
+    → ((name : Bytes) → StandsAt a.sessions index name → IsNextHere a.sessions a.site.region.state name next) → StandsAt a.sessions index origin.session × IsNextAt a origin.session origin rank body
+next_is a index {next} {origin} {rank} {body} some there is =
+    let seat = name_at a.sessions.seats index (there (subst IsSome (sym some) refl)) in
+    let here = subst (IsNextHere a.sessions a.site.region.state seat.0) some (is seat.0 seat.1) in
+    subst (λ n. StandsAt a.sessions index n × IsNextAt a n origin rank body) (sym here.0) (seat.1, record { may = here.1.0; session = here.0; numbers = here.1.1; wanted = here.2 })
 
 -- a session may wait for the attempt that it submitted
 pub waits_next : (procs : List ProcTree) {a : NodeView} {origin : Origin} {rank : ℕ} {body : Body} (t : IsNextAt a origin.session origin rank body) (id : TxnId) (q : SiteView)

@@ -121,8 +121,9 @@ module _ {cluster : Cluster} {workload : Workload} {region : ℕ} (lr : region <
     replica_changes : (e : Event) → MayStep p.region.state.logs here e → stepped cluster.procs (held p.region.state) here e ≢ here
     replica_changes (Insert r home) m same =
         let there : home < length here.inserted = subst (λ n. home < n) (sym (ap (λ h. length h.inserted) (sym here_is) ∙ ((inv o.reached).sized region lr).inserted)) (home_there home m) in
-        let more : slice_index (set here.inserted home (slice_index here.inserted home + 1)) home ≡ slice_index here.inserted home + 1 = get_or-set_same here.inserted home (slice_index here.inserted home + 1) 0 there in
-        let still : slice_index (set here.inserted home (slice_index here.inserted home + 1)) home ≡ slice_index here.inserted home = ap (λ (h : Replica). slice_index h.inserted home) same in
+        let inserted = set here.inserted home (slice_index here.inserted home + 1) in
+        let more : slice_index inserted home ≡ slice_index here.inserted home + 1 = get_or-set_same here.inserted home (slice_index here.inserted home + 1) 0 there in
+        let still : slice_index inserted home ≡ slice_index here.inserted home = ap (λ (h : Replica). slice_index h.inserted home) same in
         absurd (omega (arith, more, still))
     replica_changes (Resolve r ids) m same =
         let more : length (here.resolved ++ ids ∷ []) ≡ length here.resolved + 1 = length_push here.resolved ids in

@@ -25,7 +25,7 @@ use Rattle.dt_site.specs.SessionsStandIn.{SessionsStandIn, seat_in}
 use Rattle.dt_site.specs.Site.{SiteView, MakesAttempt}
 use Rattle.dt_site.specs.StandsIn.{IsReached}
 use Rattle.dt_site.proofs.Callers.{HasShortLists, Steps, Submits, after_more, fits_region, ids, inv, kept_here, legal_short}
-use Rattle.dt_site.proofs.Callers.{many_here, numbers_are, order, origin_for, run_more, sessions_changed, submit_elsewhere, submit_legal, submit_made, waits_as}
+use Rattle.dt_site.proofs.Callers.{many_here, numbers_are, origin_for, run_more, sessions_changed, submit_elsewhere, submit_legal, submit_made, waits_as}
 use Rattle.dt_node.specs.NodeView.{NodeView, number_of}
 use Rattle.dt_node.specs.NodeInWorld.{NodeFits}
 use Rattle.dt_node.specs.Turn.{GoesAfter, last_at}
@@ -43,7 +43,7 @@ module _ {cluster : Cluster} {workload : Workload} {events : List Event} {a : No
   -- the world has the session, with its next call
   module _ (may : MayGo a.sessions name (last_at a name)) where
     allowed : agreed.Submits cluster workload w (number_of a) name
-    allowed = agreed.submits cluster f.run.sound workload w (order k) (number_of a) name (go_submit f name may) (inv k)
+    allowed = agreed.next_call_submits (inv k) f.run.sound (number_of a) name (go_submit f name may)
 
     tries : MayTry cluster.tries (length allowed.session.calls) allowed.place.answered (awaited_at w (number_of a) allowed.place.waits)
     tries = subst (MaySubmit cluster w (number_of a)) allowed.found (go_submit f name may)
@@ -72,10 +72,8 @@ module _ {cluster : Cluster} {workload : Workload} {events : List Event} {a : No
         → ◌≡◌ {A = ℕ × ℕ} (call, attempt) (allowed.place.answered + 1, next_attempt w allowed.place.waits)
     numbers_here call attempt is = same_Some _ _ (sym is ∙ ap (option_map numbers_next) seat_is) ∙ numbers_are w allowed.session allowed.place
 
-    pub call_is_there : (call attempt : ℕ) → option_map numbers_next (seat_of a.sessions name) ≡ Some (call, attempt) → (1 ≤ call) × IsSome (wanted_of a.sessions name call)
-    call_is_there call attempt is =
-        let e : call ≡ allowed.place.answered + 1 = ap (λ n. n.0) (numbers_here call attempt is) in
-        (omega (arith, e), subst IsSome (sym (wanted_here call e)) refl)
+    pub call_is_there : (call attempt : ℕ) → option_map numbers_next (seat_of a.sessions name) ≡ Some (call, attempt) → IsSome (wanted_of a.sessions name call)
+    call_is_there call attempt is = subst IsSome (sym (wanted_here call (ap (λ n. n.0) (numbers_here call attempt is)))) refl
 
   -- what it submits
   module _ {origin : Origin} {rank : ℕ} {body : Body} (t : IsNextAt a name origin rank body) where

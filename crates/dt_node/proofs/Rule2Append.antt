@@ -11,7 +11,7 @@ use Rattle.dt_region.specs.Rules.{MakesAppend}
 use Rattle.dt_region.specs.Sound.{IsSoundRegion}
 use Rattle.dt_cluster.specs.declared.Cluster.{Cluster}
 use Rattle.dt_workload.specs.declared.Workload.{Workload}
-use Rattle.dt_session.specs.World.{node_at}
+use Rattle.dt_session.specs.World.{World, node_at}
 use Rattle.dt_session.specs.Step.{next}
 use Rattle.dt_session.specs.Run.{world_after}
 use Rattle.dt_site.specs.Site.{in_region}
@@ -40,22 +40,29 @@ first_of_rest n end xs y ys e =
 
 module _ {cluster : Cluster} {workload : Workload} {events : List Event} {a : NodeView} (f : NodeFits cluster workload events a) {source : ℕ} (ls : source < cluster.regions)
     {number : ℕ} {txn : Txn} (asks : AsksFor (world_after cluster workload events) source (number_of a) number txn) where
+  abbrev w : World
+  w = world_after cluster workload events
+
+  -- the event: the request is placed in the log here
+  abbrev placing : Event
+  placing = Append (number_of a) source number
+
   -- it may be given the request
   pub can_place : length events + 1 < 4294967296 → CanAppend a.site.region.state source number txn
   can_place few =
-      let short : HasShortLists (world_after cluster workload events) (length events) = legal_short cluster f.run.sound workload f.run.fits events f.run.legal in
+      let short : HasShortLists w (length events) = legal_short cluster f.run.sound workload f.run.fits events f.run.legal in
       can_append (reached f) f.number f.site ls asks (omega (arith, short.parts, few))
 
   -- it placed it
   module _ (r : RegionView) (made : MakesAppend a.site.region source number txn (Ok true) r) (sound : IsSoundRegion r.state) where
-    steps : Steps cluster workload (world_after cluster workload events) (Append (number_of a) source number) (number_of a) a.site (in_region a.site r) (world_after cluster workload events).places
+    steps : Steps cluster workload w placing (number_of a) a.site (in_region a.site r) w.places
     steps = append_made (reached f) f.number f.site ls asks r made sound
 
     -- one request more is taken, so the world is another one
-    changed : next cluster workload (world_after cluster workload events) (Append (number_of a) source number) ≢ world_after cluster workload events
+    changed : next cluster workload w placing ≢ w
     changed same =
-        let before : taken_from (node_at (world_after cluster workload events) (number_of a)).here source ≡ taken_from a.site.region.state.here source = ap (λ n. taken_from n.here source) (sym f.site.node) in
-        let after : taken_from (node_at (next cluster workload (world_after cluster workload events) (Append (number_of a) source number)) (number_of a)).here source ≡ taken_from r.state.here source =
+        let before : taken_from (node_at w (number_of a)).here source ≡ taken_from a.site.region.state.here source = ap (λ n. taken_from n.here source) (sym f.site.node) in
+        let after : taken_from (node_at (next cluster workload w placing) (number_of a)).here source ≡ taken_from r.state.here source =
         ap (λ n. taken_from n.here source) (sym steps.stands.node) in
         let there : source < length a.site.region.state.here.taken = subst (λ n. source < n) (sym (f.site.sound.taken ∙ f.site.many)) ls in
         let more : taken_from r.state.here source ≡ taken_from a.site.region.state.here source + 1 =
@@ -63,6 +70,6 @@ module _ {cluster : Cluster} {workload : Workload} {events : List Event} {a : No
         let still = ap (λ u. taken_from (node_at u (number_of a)).here source) same in
         absurd (omega (arith, before, after, more, still))
 
-    pub place_goes : GoesAfter cluster workload events (Append (number_of a) source number ∷ []) (record a { site = in_region a.site r })
-    place_goes = one_goes f (Append (number_of a) source number) steps changed (sessions_stay (reached f) (Append (number_of a) source number) steps.legal (ap (λ v. v.places) steps.is) f.number f.sessions)
+    pub place_goes : GoesAfter cluster workload events (placing ∷ []) (record a { site = in_region a.site r })
+    place_goes = one_goes f placing steps changed (sessions_stay (reached f) placing steps.legal (ap (λ v. v.places) steps.is) f.number f.sessions)
         (ap (λ (x : RegionView). x.state.number) made.1) refl refl refl

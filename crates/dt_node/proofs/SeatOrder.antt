@@ -102,6 +102,7 @@ region_ordered region (s ∷ sessions) once = go (cases_Bool (s.region == region
 pub opening_seats : {cluster : Cluster} {workload : Workload} {a : NodeView} → NodeFits cluster workload [] a → HasAscendingKeys a.sessions.seats
     → a.sessions.seats ≡ map idle_seat (sessions_at (number_of a) workload.sessions)
 opening_seats {cluster} {workload} {a} f ascending =
-    same_seats a.sessions.seats (map idle_seat (sessions_at (number_of a) workload.sessions)) ascending
-    (each_image (λ (p q : Bytes × Seat). KeyBefore p.0 q.0) idle_seat (sessions_at (number_of a) workload.sessions) (region_ordered (number_of a) workload.sessions f.run.fits.names_once))
+    let own = sessions_at (number_of a) workload.sessions in
+    same_seats a.sessions.seats (map idle_seat own) ascending
+    (each_image (λ (p q : Bytes × Seat). KeyBefore p.0 q.0) idle_seat own (region_ordered (number_of a) workload.sessions f.run.fits.names_once))
     (λ name. f.sessions.seats name ∙ sym ((opening_sessions_stand cluster workload (number_of a) f.run.fits.names_once).seats name))

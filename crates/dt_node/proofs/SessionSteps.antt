@@ -149,17 +149,18 @@ by_same F {n} {m} {s} {t} {d} {e} p q r x = subst (λ k. F k t e) p (subst (λ o
 abbrev Stays : (NodeView → Bytes → Type 0) → Type 0
 Stays May = (names : List Bytes) (a b : NodeView) → LeavesOthers names a b → (name : Bytes) → ¬ (Has names name) → (May a name → May b name) × (May b name → May a name)
 
+-- a session in a seat may be answered, or try, by the last outcome that the region has of it
+abbrev MayEndBy : ℕ → Option Seat → List (TxnId × Outcome) → Type 0
+MayEndBy tries seat done = MaySeatEnd tries seat (last_by seat done)
+
+abbrev MayTryBy : ℕ → Option Seat → List (TxnId × Outcome) → Type 0
+MayTryBy tries seat done = MaySeatTry tries seat (last_by seat done)
+
 answer_stays : Stays MayAnswerAt
-answer_stays names a b l name apart = (
-  by_same (λ tries seat done. MaySeatEnd tries seat (last_by seat done)) (sym l.tries) (sym (l.seats name apart)) (sym l.done),
-  by_same (λ tries seat done. MaySeatEnd tries seat (last_by seat done)) l.tries (l.seats name apart) l.done,
-)
+answer_stays names a b l name apart = (by_same MayEndBy (sym l.tries) (sym (l.seats name apart)) (sym l.done), by_same MayEndBy l.tries (l.seats name apart) l.done)
 
 submit_stays : Stays MaySubmitAt
-submit_stays names a b l name apart = (
-  by_same (λ tries seat done. MaySeatTry tries seat (last_by seat done)) (sym l.tries) (sym (l.seats name apart)) (sym l.done),
-  by_same (λ tries seat done. MaySeatTry tries seat (last_by seat done)) l.tries (l.seats name apart) l.done,
-)
+submit_stays names a b l name apart = (by_same MayTryBy (sym l.tries) (sym (l.seats name apart)) (sym l.done), by_same MayTryBy l.tries (l.seats name apart) l.done)
 
 -- the names are in order in the beginning, since they are now
 pub ordered : {May : NodeView → Bytes → Type 0} {Step : NodeView → Bytes → NodeView → Type 0} {a b c : NodeView} {place : ℕ} → c ≡ b

@@ -37,13 +37,16 @@ ends_more May a b c index false false s o = (o.0 ∙ s.0, λ place name lt found
         (subst (λ (x : NodeView). slice_get (map (λ p. p.0) x.sessions.seats) index ≡ Some name) (sym s.0) (subst (λ i. slice_get (map (λ p. p.0) a.sessions.seats) i ≡ Some name) e found)))
     go place name lt found (inr n) = s.1 place name (omega (arith, lt, n)) found
 
+-- the name stands at some place
+abbrev HasPlace : Bytes → List (Bytes × Seat) → Type 0
+HasPlace name seats = (place : ℕ) × (place < length seats) × (slice_get (map (λ p. p.0) seats) place ≡ Some name)
+
 -- a session that a name finds stands at some place
-pub place_of_name : (name : Bytes) (seats : List (Bytes × Seat)) (seat : Seat) → lookup (is_named name) seats ≡ Some seat → (place : ℕ) × (place < length seats) × (slice_get (map (λ p. p.0) seats) place ≡ Some name)
+pub place_of_name : (name : Bytes) (seats : List (Bytes × Seat)) (seat : Seat) → lookup (is_named name) seats ≡ Some seat → HasPlace name seats
 place_of_name name [] seat e = cc
 place_of_name name (x ∷ seats) seat e = go (cases_Bool (is_named name x.0)) (place_of_name name seats seat)
   where
-    go : (is_named name x.0 ≡ true) ⊎ (is_named name x.0 ≡ false) → (lookup (is_named name) seats ≡ Some seat → (place : ℕ) × (place < length seats) × (slice_get (map (λ p. p.0) seats) place ≡ Some name))
-        → (place : ℕ) × (place < length (x ∷ seats)) × (slice_get (map (λ p. p.0) (x ∷ seats)) place ≡ Some name)
+    go : (is_named name x.0 ≡ true) ⊎ (is_named name x.0 ≡ false) → (lookup (is_named name) seats ≡ Some seat → HasPlace name seats) → HasPlace name (x ∷ seats)
     go (inl y) later = (0, omega arith, ap Some (sym (same_name name x.0 y)))
     go (inr n) later = let r = later (rw n at e) in (suc r.0, omega (arith, r.1), r.2)
 

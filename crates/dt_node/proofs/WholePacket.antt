@@ -77,14 +77,18 @@ module _ (p : Packet) (a : NodeView) (c : CanTake (p ∷ []) a) where
 
       -- and which events that makes
       module _ (placed : HasPlaced p.source hearing b) (count : IsPlacedTo p.source (p.asked_at + length p.asked) hearing b) (entries : HasReceived p.source p.log_at (p.log_at + length p.entries) b d) where
-        abbrev many : ℕ
-        many = p.asked_at + length p.asked - taken_from a.site.region.state.here p.source
+        -- how many requests of its source were placed before, and how many more
+        abbrev placed_before : ℕ
+        placed_before = taken_from a.site.region.state.here p.source
 
-        requests_made : events_of (new_items hearing b) ≡ placings (number_of a) p.source (taken_from a.site.region.state.here p.source) many
+        abbrev many : ℕ
+        many = p.asked_at + length p.asked - placed_before
+
+        requests_made : events_of (new_items hearing b) ≡ placings (number_of a) p.source placed_before many
         requests_made =
-            let to : taken_from b.site.region.state.here p.source ≡ taken_from a.site.region.state.here p.source + many = count in
-            let so_many : taken_from b.site.region.state.here p.source - taken_from a.site.region.state.here p.source ≡ many = omega (arith, to) in
-            placed.events ∙ ap (placings (number_of a) p.source (taken_from a.site.region.state.here p.source)) so_many
+            let to : taken_from b.site.region.state.here p.source ≡ placed_before + many = count in
+            let so_many : taken_from b.site.region.state.here p.source - placed_before ≡ many = omega (arith, to) in
+            placed.events ∙ ap (placings (number_of a) p.source placed_before) so_many
 
         entries_made : events_of (new_items b d) ≡ receipt (number_of a) p.source (length (log_at a.site.region.state.logs p.source)) p.log_at (p.log_at + length p.entries)
         entries_made =

@@ -4,7 +4,7 @@
 -- by packets (`AreBrought`); its stamps rise (`StampsRise`); it took all of every packet, and knows the greatest counts that
 -- they report (`HasTaken`); in the end nothing is left to do by itself (`IsSettled`); and its first turn begins with the first
 -- calls of its sessions (`BeginsEagerly`). Read next: `Steps`, for the order in which all this is done.
-use Rattle.std.specs.Prelude.{◌≡◌, ◌≢◌, ◌<◌, ◌≤◌, ◌+◌, ◌==◌, ◌⊎◌, ℕ, List, [], ◌∷◌, ◌++◌, length, map, filter, max, get_or, Option, option_and_then}
+use Rattle.std.specs.Prelude.{◌≡◌, ◌≢◌, ◌<◌, ◌≤◌, ◌+◌, ◌==◌, ◌⊎◌, ℕ, List, [], ◌∷◌, ◌++◌, length, map, filter, max, get_or, Option}
 use Rattle.dt_lists.specs.Lists.{AllIn, AnyIn, EachThen, IsFront}
 use Rattle.dt_access.specs.Clash.{Bytes}
 use Rattle.dt_events.specs.declared.Event.{Event}
@@ -14,16 +14,17 @@ use Rattle.dt_sched.specs.Views.{log_at}
 use Rattle.dt_proc.specs.Tree.{ProcTree}
 use Rattle.dt_txn.specs.declared.Outcome.{Outcome}
 use Rattle.dt_txn.specs.Replica.{IsDrained, taken_from}
-use Rattle.dt_region.specs.Region.{outcome_of, latest_stamp}
+use Rattle.dt_region.specs.Region.{latest_stamp}
 use Rattle.dt_packet.specs.declared.packet.Packet.{Packet}
 use Rattle.dt_cluster.specs.declared.Cluster.{Cluster}
 use Rattle.dt_workload.specs.declared.Workload.{Workload}
-use Rattle.dt_session.specs.Sessions.{MayBeAnswered, MayGo, waits_of}
+use Rattle.dt_session.specs.Sessions.{MayBeAnswered, MayGo}
 use Rattle.dt_session.specs.World.{opening_table}
 use Rattle.dt_session.specs.Run.{AreLegalFrom, world_after}
 use Rattle.dt_session.specs.Eager.{AllChange, first_calls, first_events, sessions_at}
 use Rattle.dt_events.specs.Stamps.{events_of}
 use Rattle.dt_merge.specs.Merge.{HasLowerStamp, region_at}
+use Rattle.dt_site.specs.NextAttempt.{last_here}
 use Rattle.dt_node.specs.NodeView.{NodeView, new_items, number_of}
 use Rattle.dt_node.specs.NodeInWorld.{AreTold, NodeFits}
 
@@ -113,7 +114,7 @@ pub record HasTaken (packets : List Packet) (before after : NodeView) : Type 0 w
 
 -- the outcome at its node of the attempt that a session waits for, if there are both
 abbrev pub last_at : NodeView → Bytes → Option Outcome
-last_at n name = option_and_then (outcome_of n.site.region.state) (waits_of n.sessions name)
+last_at n name = last_here n.sessions n.site.region.state name
 
 -- a session of the node may be answered
 abbrev pub MayAnswerAt : NodeView → Bytes → Type 0

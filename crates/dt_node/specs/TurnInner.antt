@@ -1,14 +1,13 @@
 -- Only proofs need this file, and the private calls of a turn. A turn makes its way in many small calls, and of each of them
 -- the same is said: what it makes of the node (`MovesOn`), and what has to be so before it (`CanGo`). Read `Turn` for what a
 -- whole turn makes.
-use Rattle.std.specs.Prelude.{◌≡◌, ◌<◌, ◌≤◌, ◌+◌, ◌^◌, ℕ, List, [], ◌∷◌, ◌++◌, length, get_or, map, max, set, slice_get, Bool, true, false, Option, Some, None}
+use Rattle.std.specs.Prelude.{◌≡◌, ◌<◌, ◌≤◌, ◌+◌, ◌^◌, ℕ, List, [], ◌∷◌, ◌++◌, length, get_or, map, max, set, slice_get, Bool, true, false, Some}
 use Rattle.dt_lists.specs.Lists.{AllIn}
 use Rattle.dt_access.specs.Clash.{Bytes}
 use Rattle.dt_events.specs.declared.Stamped.{Stamped}
 use Rattle.dt_events.specs.Stamps.{events_of}
 use Rattle.dt_proc.specs.Tree.{ProcTree}
 use Rattle.dt_sched.specs.Views.{log_at}
-use Rattle.dt_txn.specs.declared.Body.{Body}
 use Rattle.dt_txn.specs.declared.Entry.{Entry}
 use Rattle.dt_txn.specs.declared.Txn.{Txn}
 use Rattle.dt_txn.specs.Replica.{IsDrained, taken_from}
@@ -16,13 +15,11 @@ use Rattle.dt_region.specs.Region.{latest_stamp}
 use Rattle.dt_packet.specs.declared.packet.Packet.{Packet}
 use Rattle.dt_cluster.specs.declared.Cluster.{Cluster}
 use Rattle.dt_workload.specs.declared.Workload.{Workload}
-use Rattle.dt_session.specs.Sessions.{StandsAt}
-use Rattle.dt_site.specs.declared.Origin.{Origin}
 use Rattle.dt_node.specs.MeasureInner.{left_for}
 use Rattle.dt_node.specs.NodeView.{NodeView, new_items, number_of}
 use Rattle.dt_node.specs.NodeInWorld.{AreTold, NodeFits}
 use Rattle.dt_node.specs.Turn.{AreBrought, HasGone, HasPlacedOwn, HasTaken, MayAnswerAt, MaySubmitAt, StampsRise}
-use Rattle.dt_node.specs.Steps.{HasTakenEach, IsNextAt, own_left}
+use Rattle.dt_node.specs.Steps.{HasTakenEach, own_left}
 use Rattle.dt_node.specs.StepsInner.{HasPlaced, IsPlacedTo}
 
 -- what a call of a turn makes of the node; these are the packets that it has used
@@ -118,11 +115,6 @@ pub record IsPlacing (before : NodeView) (source first : ℕ) (asked left : List
   pub knows : KnowsTheSame before now
   pub sessions : now.sessions ≡ before.sessions
   pub placed : HasPlacedOwn before → HasPlacedOwn now
-
--- what the session at a place may submit next; none exactly where no session that may submit stands there
-abbrev pub IsNextOfPlace : NodeView → ℕ → Option (Origin × ℕ × Body) → Type 0
-IsNextOfPlace n index None = (name : Bytes) → StandsAt n.sessions index name → ¬ (MaySubmitAt n name)
-IsNextOfPlace n index (Some (origin, rank, body)) = StandsAt n.sessions index origin.session × IsNextAt n origin.session origin rank body
 
 -- a session went on, so that less is left for all of them, and some event was made; and the region's own requests are placed,
 -- if they were

@@ -6,12 +6,12 @@ ghost use Rattle.dt_node.specs.EagerStartInner.{IsPlacingOwn, MakesNext};
 ghost use Rattle.dt_node.specs.Steps.{AllWhoMight, IsNextAt};
 ghost use Rattle.dt_node.specs.StepsInner.{IsAnswering, IsSubmission, StepsAt};
 ghost use Rattle.dt_node.specs.Turn.{BeginsEagerly, HasPlacedOwn, MayAnswerAt, MaySubmitAt};
-ghost use Rattle.dt_node.specs.TurnInner.{CanGo, CanTake, EndsAll, EndsOne, EndsPlacing, IsNextOfPlace, KnowsTheSame, MovesOn};
+ghost use Rattle.dt_node.specs.TurnInner.{CanGo, CanTake, EndsAll, EndsOne, EndsPlacing, KnowsTheSame, MovesOn};
 
 use crate::node::Node;
 use dt_proc::Procs;
 use dt_sched::Scheduler;
-use dt_site::{Origin, last_outcome_at};
+use dt_site::{Origin, last_outcome_at, next_attempt};
 use dt_text::NoMemory;
 use dt_txn::Body;
 use std::alloc::Global;
@@ -90,38 +90,13 @@ impl<S: Scheduler + Drop> Node<S> {
         ensures ends { IfOk result (λ some. EndsOne MaySubmitAt self.old index some self.new) }
         ensures one { IfOk result (λ some. StepsAt (IsSubmission procs.now) self.old index some self.new) }
     {
-        let Some((origin, rank, body)) = self.next_attempt(alloc, index)? else {
+        let next = next_attempt(alloc, &self.sessions, &self.site.region, index)?;
+        let Some((origin, rank, body)) = next else {
             return Ok(false);
         };
         self.submit(alloc, procs, index, origin, rank, body)?;
         self.place_own(alloc)?;
         Ok(true)
-    }
-
-    /// What the session at this place may submit next, with its rank, and whose it is. `None` exactly where no session that may
-    /// submit stands there.
-    fn next_attempt(
-        &self,
-        alloc: Global,
-        index: u32,
-    ) -> Result<Option<(Origin, u8, Body)>, NoMemory>
-        requires can { CanTake [] self.now }
-        ensures { IfOk result (IsNextOfPlace self.now index) }
-    {
-        let last = last_outcome_at(&self.sessions, &self.site.region, index);
-        let Some((call, attempt)) = self.sessions.next_at(index, last) else {
-            return Ok(None);
-        };
-        let Some(name) = self.sessions.name(index) else {
-            unreachable!()
-        };
-        let (rank, body) = self.sessions.body_at(alloc, index, call)?;
-        let origin = Origin {
-            session: name.copy(alloc)?,
-            call,
-            attempt,
-        };
-        Ok(Some((origin, rank, body)))
     }
 
     /// Submits an attempt, for which its session, which stands at this place, waits from then on.

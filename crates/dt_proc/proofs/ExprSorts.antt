@@ -144,22 +144,22 @@ needs_fits P p s a r h = holds_cond P (same_sort a.1 s) (Ok r) (Err (fault.Kind 
 pub stored_fits : {A : Type 0} (P : A → Type 0) (p : ℕ) (a : Typed) (r : A) → (IsStoredSort a.1 → P r) → Holds P (needs_stored p a r)
 stored_fits P p a r h = holds_cond P (same_sort a.1 sort.Bool) (Err (fault.Kind p)) (Ok r) (λ e b is. absurd cc) (λ e. holds_ok P r (h (not_truth a.1 e)))
 
+-- where the sort of an expression is this one, its tree has it
+of_sort : (scope : Scope) (a : Typed) (s : Sort) → HasItsSort scope a → a.1 ≡ s → HasSort (sorts scope) (length (writes scope)) a.0 s
+of_sort scope a s h is = subst (λ t. HasSort (sorts scope) (length (writes scope)) a.0 t) is h
+
 maker_fits : (scope : Scope) (m : Maker) (p : ℕ) (a : Typed) → HasItsSort scope a → Holds (HasItsSort scope) (made_by m p a)
 maker_fits scope makes_length p a h =
-    needs_fits (HasItsSort scope) p sort.Text a (tree.length_of a.0, sort.Int) (λ e. (refl, subst (λ s. HasSort (sorts scope) (length (writes scope)) a.0 s) e h))
+    needs_fits (HasItsSort scope) p sort.Text a (tree.length_of a.0, sort.Int) (λ e. (refl, of_sort scope a _ h e))
 maker_fits scope makes_text p a h =
-    needs_fits (HasItsSort scope) p sort.Int a (tree.shown a.0, sort.Text) (λ e. (refl, subst (λ s. HasSort (sorts scope) (length (writes scope)) a.0 s) e h))
+    needs_fits (HasItsSort scope) p sort.Int a (tree.shown a.0, sort.Text) (λ e. (refl, of_sort scope a _ h e))
 
 combined_fits : (scope : Scope) (p : ℕ) (o : Op) (a b : Typed) → HasItsSort scope a → HasItsSort scope b → Holds (HasItsSort scope) (combined p o a b)
 combined_fits scope p o a b h k =
     holds_cond (HasItsSort scope) (fits_both o a.1 b.1) (Ok (tree.binary o a.0 b.0, sort_given o)) (Err (fault.Kind p))
     (λ e. let f = fits_sort a.1 b.1 o e in holds_ok (HasItsSort scope) (tree.binary o a.0 b.0, sort_given o)
-    (a.1, f.0, h, subst (λ s. HasSort (sorts scope) (length (writes scope)) b.0 s) f.1 k, refl))
+    (a.1, f.0, h, of_sort scope b _ k f.1, refl))
     (λ e c is. absurd cc)
-
--- where the sort of an expression is this one, its tree has it
-of_sort : (scope : Scope) (a : Typed) (s : Sort) → HasItsSort scope a → a.1 ≡ s → HasSort (sorts scope) (length (writes scope)) a.0 s
-of_sort scope a s h is = subst (λ t. HasSort (sorts scope) (length (writes scope)) a.0 t) is h
 
 mutual
   pub check_fits : (scope : Scope) (x : Syntax) → AllSound (syntax_tokens x) → Holds (HasItsSort scope) (check scope x)

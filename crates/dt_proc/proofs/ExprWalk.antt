@@ -68,6 +68,10 @@ shape_at n scope t u ts us x rest e h =
     subst (λ v. Shape n scope u.token u.place v x rest) (same_tail e)
     (subst (λ v. Shape n scope v.token v.place ts x rest) (same_head e) h)
 
+-- an expression between brackets, and what follows them
+opened : (o : ℕ) (x : Syntax) (q : ℕ) (rest : List Placed) → at o tok.Open ∷ (syntax_tokens x ++ at q tok.Close ∷ rest) ≡ at o tok.Open ∷ ((syntax_tokens x ++ at q tok.Close ∷ []) ++ rest)
+opened o x q rest = ap (λ v. at o tok.Open ∷ v) (inner (syntax_tokens x) (at q tok.Close) rest)
+
 pub operand_shape : (n : ℕ) (scope : Scope) (x : Syntax) (rest : List Placed) (t : Placed) (ts : List Placed) → 5 ≤ n → IsLevel n x →
     syntax_tokens x ++ rest ≡ t ∷ ts → Shape n scope t.token t.place ts x rest
 operand_shape n scope (chain head links) rest t ts le h e = absurd (omega (arith, h.0))
@@ -90,10 +94,10 @@ operand_shape n scope (of_key p reads_presence b) rest t ts le h e =
     shape_at n scope (at p tok.Has) t (bracketed_tokens b ++ rest) ts (of_key p reads_presence b) rest e (b, refl, refl)
 operand_shape n scope (made p makes_length o x q) rest t ts le h e =
     shape_at n scope (at p tok.Len) t (at o tok.Open ∷ ((syntax_tokens x ++ at q tok.Close ∷ []) ++ rest)) ts (made p makes_length o x q) rest e
-    (o, x, q, refl, h.1, ap (λ v. at o tok.Open ∷ v) (inner (syntax_tokens x) (at q tok.Close) rest))
+    (o, x, q, refl, h.1, opened o x q rest)
 operand_shape n scope (made p makes_text o x q) rest t ts le h e =
     shape_at n scope (at p tok.Show) t (at o tok.Open ∷ ((syntax_tokens x ++ at q tok.Close ∷ []) ++ rest)) ts (made p makes_text o x q) rest e
-    (o, x, q, refl, h.1, ap (λ v. at o tok.Open ∷ v) (inner (syntax_tokens x) (at q tok.Close) rest))
+    (o, x, q, refl, h.1, opened o x q rest)
 
 pub operand_when : (n : ℕ) (scope : Scope) (x : Syntax) (rest ts : List Placed) (first : Placed) (k : Token) → 5 ≤ n → IsLevel n x →
     1 ≤ length ts → first ≡ get_or ts 0 first → syntax_tokens x ++ rest ≡ ts → first.token ≡ k → Shape n scope k first.place (after_first ts) x rest

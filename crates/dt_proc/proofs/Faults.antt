@@ -159,8 +159,9 @@ mutual
       (λ a. late_after (needs p sort.Bool a a.0) (λ f. one_block scope f (check_block scope ss)) (late_needs p sort.Bool a a.0)
       (λ f. late_one scope f (check_block scope ss) (late_block scope ss)))
   late_statement scope (choose p x b ss e w o rs f) =
-      late_after (check scope x) (λ a. after_ok (needs p sort.Bool a a.0) (λ g. two_blocks scope g (check_block scope ss) (check_block scope rs))) (late_check scope x)
-      (λ a. late_after (needs p sort.Bool a a.0) (λ g. two_blocks scope g (check_block scope ss) (check_block scope rs)) (late_needs p sort.Bool a a.0)
+      let both = λ (g : ExprTree). two_blocks scope g (check_block scope ss) (check_block scope rs) in
+      late_after (check scope x) (λ a. after_ok (needs p sort.Bool a a.0) both) (late_check scope x)
+      (λ a. late_after (needs p sort.Bool a a.0) both (late_needs p sort.Bool a a.0)
       (λ g. late_two scope g (check_block scope ss) (check_block scope rs) (late_block scope ss) (late_block scope rs)))
   late_statement scope (abort p q t e) = late_ok (scope, tree.abort_with t)
   late_statement scope (give p i more e) =

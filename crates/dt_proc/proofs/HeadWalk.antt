@@ -22,17 +22,22 @@ Left = Result (Bor (List Placed)) ProcError
 abbrev pub kinds_of : List (ℕ × Param) → List Kind
 kinds_of more = map (λ m. m.1.kind) more
 
+-- what is reported of these parameters, where the first is right
+more_params_is : (scope one : Scope) (all : List (ℕ × Param)) (n : ℕ) (p : Param) (more : List (ℕ × Param)) → all ≡ (n, p) ∷ more → check_param scope p ≡ Ok one →
+    check_more_params scope all ≡ check_more_params one more
+more_params_is scope one all n p more is told = ap (check_more_params scope) is ∙ ap (λ t. after_ok t (λ s. check_more_params s more)) told
+
 pub more_params_told : (scope one last : Scope) (before between after : List Kind) (all : List (ℕ × Param)) (rest : List Placed) (r : Left) (n : ℕ) (p : Param) (more : List (ℕ × Param)) →
     all ≡ (n, p) ∷ more → check_param scope p ≡ Ok one → between ≡ before ++ p.kind ∷ [] →
     WalkAnswers (check_more_params one more) rest (left_with last r) × OnOk r (after ≡ between ++ kinds_of more) →
     WalkAnswers (check_more_params scope all) rest (left_with last r) × OnOk r (after ≡ before ++ kinds_of all)
 more_params_told scope one last before between after all rest (Ok b) n p more is told pushed (h, k) = (
-  (ap (check_more_params scope) is ∙ ap (λ t. after_ok t (λ s. check_more_params s more)) told ∙ h.0, h.1),
+  (more_params_is scope one all n p more is told ∙ h.0, h.1),
   k ∙ ap (λ v. v ++ kinds_of more) pushed ∙ append_assoc before (p.kind ∷ []) (kinds_of more) ∙ ap (λ v. before ++ kinds_of v) (sym is),
 )
 more_params_told scope one last before between after all rest (Err e) n p more is told pushed (inl h, k) = (inl h, tt)
 more_params_told scope one last before between after all rest (Err e) n p more is told pushed (inr h, k) =
-    (inr (ap (check_more_params scope) is ∙ ap (λ t. after_ok t (λ s. check_more_params s more)) told ∙ h), tt)
+    (inr (more_params_is scope one all n p more is told ∙ h), tt)
 
 pub params_fault : (scope : Scope) (all : List (ℕ × Param)) (before rest : List Placed) (e : ProcError) (n : ℕ) (p : Param) (more : List (ℕ × Param)) →
     all ≡ (n, p) ∷ more → WalkAnswers (check_param scope p) before (Err e) → WalkAnswers (check_more_params scope all) rest (Err e)

@@ -17,7 +17,7 @@ use Rattle.dt_proc.specs.declared.scope.Meaning.TheVariants.{Variable, Key, Unkn
 use Rattle.dt_proc.specs.declared.error.ProcError.TheVariants as fault
 use Rattle.dt_proc.specs.Names.{Scope, meaning_in}
 use Rattle.dt_proc.specs.Sound.{IsSoundItem, sort_of}
-use Rattle.dt_proc.specs.SecondPass.{after_ok, same_sort, as_new, as_param, with_new_variable, with_new_key, check_part, check_parts, check_key, check_keys}
+use Rattle.dt_proc.specs.SecondPass.{Checked, after_ok, same_sort, as_new, as_param, with_new_variable, with_new_key, check_part, check_parts, check_key, check_keys}
 use Rattle.dt_proc.specs.SecondPass.{check_param, check_more_params, check_params}
 use Rattle.dt_syntax.specs.Grammar.{param_kinds, at, Param, Params, no_param, params, KeyPart, text_part, name_part, show_part, part_tokens, KeySyntax, key_tokens}
 use Rattle.dt_proc.proofs.ExprSorts.{Holds, holds_ok, holds_after, holds_cond, sorts, writes, StandsInScope, means, same_is}
@@ -84,14 +84,15 @@ KeyMade kinds k d = FitsKey kinds d × (d.write ≡ k.write)
 key_makes : (kinds : List Kind) (scope : Scope) (k : KeySyntax) → HasParams kinds scope → AllSound (key_tokens k) → Holds (KeyMade kinds k) (check_key scope k)
 key_makes kinds scope k own h =
     let parts = h.1.1.1 in
-    let more = sound_right (part_tokens k.first) (flat_map joined_part k.more ++ at k.end_at tok.Semicolon ∷ []) parts in
-    holds_after {A = Unit {0}} (KeyMade kinds k) (as_new k.name_at (meaning_in scope k.name)) (λ _. after_ok (check_part scope k.first) (λ i.
-    after_ok (check_parts scope k.more) (λ is. Ok (record { write = k.write; items = i ∷ is }))))
-    (λ u g. holds_after (KeyMade kinds k) (check_part scope k.first) (λ i. after_ok (check_parts scope k.more) (λ is. Ok (record { write = k.write; items = i ∷ is })))
+    let behind = flat_map joined_part k.more ++ at k.end_at tok.Semicolon ∷ [] in
+    let more = sound_right (part_tokens k.first) behind parts in
+    let then_parts : KeyItem → Checked KeyDecl = λ i. after_ok (check_parts scope k.more) (λ is. Ok (record { write = k.write; items = i ∷ is })) in
+    holds_after {A = Unit {0}} (KeyMade kinds k) (as_new k.name_at (meaning_in scope k.name)) (λ _. after_ok (check_part scope k.first) then_parts)
+    (λ u g. holds_after (KeyMade kinds k) (check_part scope k.first) then_parts
     (λ i e. holds_after (KeyMade kinds k) (check_parts scope k.more) (λ is. Ok (record { write = k.write; items = i ∷ is }))
     (λ is f. holds_ok (KeyMade kinds k) (record { write = k.write; items = i ∷ is }) (
       (
-        part_fits kinds scope k.first own (sound_left (part_tokens k.first) (flat_map joined_part k.more ++ at k.end_at tok.Semicolon ∷ []) parts) i e,
+        part_fits kinds scope k.first own (sound_left (part_tokens k.first) behind parts) i e,
         parts_fit kinds scope k.more own (sound_left (flat_map joined_part k.more) (at k.end_at tok.Semicolon ∷ []) more) is f,
       ),
       refl,

@@ -42,8 +42,9 @@ proc_is before p free =
     let made : Scope → Scope × List KeyDecl → Checked ProcTree =
     λ s r. after_ok {A = BlockTree} (check_block r.0 p.body) (λ b. Ok (record { name = p.name; params = param_kinds p.params; keys = r.1; body = b })) in
     let keys = p.key ∷ p.more_keys in
-    ap (λ t. cond t (Err (fault.Twice p.name_at)) (after_ok {A = Scope} (check_params p.params) (λ s. after_ok {A = List KeyDecl × Scope} (check_keys s keys) (λ r. made s (r.1, r.0))))) free
-    ∙ after_same (check_params p.params) (λ s. after_ok {A = List KeyDecl × Scope} (check_keys s keys) (λ r. made s (r.1, r.0)))
+    let then_keys : Scope → Checked ProcTree = λ s. after_ok {A = List KeyDecl × Scope} (check_keys s keys) (λ r. made s (r.1, r.0)) in
+    ap (λ t. cond t (Err (fault.Twice p.name_at)) (after_ok {A = Scope} (check_params p.params) then_keys)) free
+    ∙ after_same (check_params p.params) then_keys
     (λ s. after_ok {A = Scope × List KeyDecl} (keys_told s [] keys) (made s)) (λ s. after_made {A = List KeyDecl × Scope} {B = Scope × List KeyDecl} (check_keys s keys) (λ r. (r.1, r.0)) (made s))
     ∙ after_made {A = Scope} {B = Scope × List Kind} (check_params p.params) (λ s. (s, param_kinds p.params))
     (λ s. after_ok {A = Scope × List KeyDecl} (keys_told s.0 [] keys) (λ r. after_ok {A = BlockTree} (check_block r.0 p.body) (λ b. Ok (record { name = p.name; params = s.1; keys = r.1; body = b }))))

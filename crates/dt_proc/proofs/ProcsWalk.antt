@@ -20,7 +20,7 @@ use Rattle.dt_syntax.specs.declared.error.SyntaxError.TheVariants as syntax
 use Rattle.dt_proc.specs.Outcome.{Outcome, told_first}
 use Rattle.dt_proc.proofs.EveryOutcome.{second}
 use Rattle.dt_proc.proofs.ExprWalk.{one_more}
-use Rattle.dt_syntax.proofs.Callers.{sound_left, sound_right, text_sound, procs_small}
+use Rattle.dt_syntax.proofs.Callers.{sound_left, sound_right, text_sound, procs_small, none_spelled}
 use Rattle.dt_proc.proofs.ProcNames.{distinct_more, names}
 
 -- what is left of the procedures: few enough, and each of the grammar
@@ -123,16 +123,13 @@ going_fault tokens before ts e some so right ps good cut = first (so ps good cut
     first [] g c is = absurd (some (sym c))
     first (q ∷ qs) g c is = told q qs is (right q (procs_tokens qs) g.0 c)
 
-no_proc : (p : ProcSyntax) (ts : List Placed) → proc_tokens p ++ ts ≡ [] → ⊥
-no_proc p ts e = cc
-
 pub going_end : (tokens : List Placed) (items : List ProcTree) (ts : List Placed) → ts ≡ [] → ToldSoFar tokens items ts →
     (ps : List ProcSyntax) → AreProcSyntaxes ps → procs_tokens ps ≡ tokens → check_procs [] ps ≡ Ok items
 going_end tokens items ts none so ps good cut = first (so ps good cut).0 (so ps good cut).2 (so ps good cut).3
   where
     first : (qs : List ProcSyntax) → procs_tokens qs ≡ ts → check_procs [] ps ≡ after_ok (check_procs items qs) (λ r. Ok (items ++ r)) → check_procs [] ps ≡ Ok items
     first [] c is = is ∙ ap Ok (append-nil items)
-    first (q ∷ qs) c is = absurd (no_proc q (procs_tokens qs) (c ∙ none))
+    first (q ∷ qs) c is = absurd (none_spelled q (procs_tokens qs) (sym (c ∙ none)))
 
 -- the tokens of a text that the first pass lets through
 pub passed_few : (text : List ℕ) (tokens : List Placed) → PassesFirst text tokens → AreFewProcs tokens

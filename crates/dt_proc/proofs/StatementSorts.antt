@@ -96,28 +96,31 @@ mutual
       holds_after (FitsStep scope) (as_written q (meaning_in scope n)) (λ k. Ok (scope, tree.clear_row k))
       (λ k f. holds_ok (FitsStep scope) (scope, tree.clear_row k) (λ b fits. (written_fits scope q (meaning_in scope n) (means scope n) k f, fits)))
   step_fits scope (when p x b ss e) h =
+      let block = at b tok.Begin ∷ (statements_tokens ss ++ at e tok.End ∷ []) in
       holds_after (FitsStep scope) (check scope x) (λ a. after_ok (needs p sort.Bool a a.0) (λ f. one_block scope f (check_block scope ss)))
       (λ a g. holds_after (FitsStep scope) (needs p sort.Bool a a.0) (λ f. one_block scope f (check_block scope ss))
       (λ f k. holds_after (FitsStep scope) (check_block scope ss) (λ c. Ok (scope, tree.choose f c done))
       (λ c m. holds_ok (FitsStep scope) (scope, tree.choose f c done)
       (λ d fits. (
-        test_fits scope p a f (check_fits scope x (sound_left (syntax_tokens x) (at b tok.Begin ∷ (statements_tokens ss ++ at e tok.End ∷ [])) h.1) a g) k,
-        block_fits scope ss (sound_left (statements_tokens ss) (at e tok.End ∷ []) (sound_right (syntax_tokens x) (at b tok.Begin ∷ (statements_tokens ss ++ at e tok.End ∷ [])) h.1).1) c m,
+        test_fits scope p a f (check_fits scope x (sound_left (syntax_tokens x) block h.1) a g) k,
+        block_fits scope ss (sound_left (statements_tokens ss) (at e tok.End ∷ []) (sound_right (syntax_tokens x) block h.1).1) c m,
         tt,
         fits,
       )))))
   step_fits scope (choose p x b ss e w o rs z) h =
-      holds_after (FitsStep scope) (check scope x) (λ a. after_ok (needs p sort.Bool a a.0) (λ f. two_blocks scope f (check_block scope ss) (check_block scope rs)))
-      (λ a g. holds_after (FitsStep scope) (needs p sort.Bool a a.0) (λ f. two_blocks scope f (check_block scope ss) (check_block scope rs))
+      let both = λ (f : ExprTree). two_blocks scope f (check_block scope ss) (check_block scope rs) in
+      let behind = at e tok.End ∷ at w tok.Else ∷ at o tok.Begin ∷ (statements_tokens rs ++ at z tok.End ∷ []) in
+      let blocks = at b tok.Begin ∷ (statements_tokens ss ++ behind) in
+      holds_after (FitsStep scope) (check scope x) (λ a. after_ok (needs p sort.Bool a a.0) both)
+      (λ a g. holds_after (FitsStep scope) (needs p sort.Bool a a.0) both
       (λ f k. holds_after (FitsStep scope) (check_block scope ss) (λ c. after_ok (check_block scope rs) (λ d. Ok (scope, tree.choose f c d)))
       (λ c m. holds_after (FitsStep scope) (check_block scope rs) (λ d. Ok (scope, tree.choose f c d))
       (λ d l. holds_ok (FitsStep scope) (scope, tree.choose f c d)
       (λ t fits.
-      let blocks = at b tok.Begin ∷ (statements_tokens ss ++ at e tok.End ∷ at w tok.Else ∷ at o tok.Begin ∷ (statements_tokens rs ++ at z tok.End ∷ [])) in
       let rest = sound_right (syntax_tokens x) blocks h.1 in
-      let last = sound_right (statements_tokens ss) (at e tok.End ∷ at w tok.Else ∷ at o tok.Begin ∷ (statements_tokens rs ++ at z tok.End ∷ [])) rest.1 in (
+      let last = sound_right (statements_tokens ss) behind rest.1 in (
         test_fits scope p a f (check_fits scope x (sound_left (syntax_tokens x) blocks h.1) a g) k,
-        block_fits scope ss (sound_left (statements_tokens ss) (at e tok.End ∷ at w tok.Else ∷ at o tok.Begin ∷ (statements_tokens rs ++ at z tok.End ∷ [])) rest.1) c m,
+        block_fits scope ss (sound_left (statements_tokens ss) behind rest.1) c m,
         block_fits scope rs (sound_left (statements_tokens rs) (at z tok.End ∷ []) last.1.1.1) d l,
         fits,
       ))))))

@@ -14,7 +14,7 @@ use Rattle.dt_proc.specs.declared.error.ProcError.TheVariants as fault
 use Rattle.dt_proc.specs.declared.tree.Give.{Give}
 use Rattle.dt_proc.specs.declared.tree.Stmt.{Stmt}
 use Rattle.dt_proc.specs.Names.{Scope}
-use Rattle.dt_proc.specs.Tree.{GiveTree, StmtTree, BlockTree, ProcTree}
+use Rattle.dt_proc.specs.Tree.{GiveTree, StmtTree}
 use Rattle.dt_lists.specs.Lists.{AllIn}
 use Rattle.dt_proc.specs.TreeViews.{expr_tree, give_tree, stmt_tree}
 use Rattle.dt_proc.specs.declared.tree.KeyDecl.{KeyDecl}
@@ -35,7 +35,6 @@ use Rattle.dt_syntax.specs.Grammar.{makes_length, makes_text, reads_int, reads_t
 use Rattle.dt_syntax.specs.declared.kinds.Kind.{Kind}
 use Rattle.std.specs.Borrow.{Bor}
 use Rattle.dt_syntax.specs.declared.operator.Op.{Op}
-use Rattle.dt_proc.specs.declared.tree.KeyItem.{KeyItem}
 use Rattle.dt_syntax.specs.Limits.{AllSound, IsSmall}
 
 -- the walk's answer is what is reported, with just the tokens that follow the part that it read; or it is the fault that is
@@ -50,10 +49,11 @@ abbrev pub expr_shown : Result (Expr × Sort × Bor (List Placed)) ProcError →
 expr_shown (Ok r) = Ok ((expr_tree r.0, r.1), r.2.now)
 expr_shown (Err e) = Err e
 
--- the same of a walk that gives a number, as that of a key in brackets
-abbrev pub number_shown : Result (ℕ × Bor (List Placed)) ProcError → Checked (ℕ × List Placed)
-number_shown (Ok r) = Ok (r.0, r.1.now)
-number_shown (Err e) = Err e
+-- the same of a walk whose thing contracts see as it is: the number of a key in brackets, a part of a key expression, the
+-- statements of a block, a procedure
+abbrev pub given_shown : {A : Type 0} → Result (A × Bor (List Placed)) ProcError → Checked (A × List Placed)
+given_shown (Ok r) = Ok (r.0, r.1.now)
+given_shown (Err e) = Err e
 
 -- an expression that was made of others, as contracts see it: its tree and its sort; or the fault
 abbrev pub typed_shown : Result (Expr × Sort) ProcError → Checked Typed
@@ -95,11 +95,6 @@ abbrev pub gifts_shown : Result (List Give × Bor (List Placed)) ProcError → C
 gifts_shown (Ok r) = Ok (map give_tree r.0, r.1.now)
 gifts_shown (Err e) = Err e
 
--- the same of a walk over the statements of a block
-abbrev pub block_shown : Result (BlockTree × Bor (List Placed)) ProcError → Checked (BlockTree × List Placed)
-block_shown (Ok r) = Ok (r.0, r.1.now)
-block_shown (Err e) = Err e
-
 -- the same of a walk over a statement, with what is visible after it
 abbrev pub step_shown : Scope → Result (Stmt × Bor (List Placed)) ProcError → Checked ((Scope × StmtTree) × List Placed)
 step_shown scope (Ok r) = Ok ((scope, stmt_tree r.0), r.1.now)
@@ -119,12 +114,6 @@ left_shown (Some r) = Some r.now
 abbrev pub left_with : {A : Type 0} → A → Result (Bor (List Placed)) ProcError → Checked (A × List Placed)
 left_with a (Ok r) = Ok (a, r.now)
 left_with a (Err e) = Err e
-
--- what a walk over a part of a key expression gave, as contracts see it: the part, and the tokens that are left; or its
--- fault
-abbrev pub part_shown : Result (KeyItem × Bor (List Placed)) ProcError → Checked (KeyItem × List Placed)
-part_shown (Ok r) = Ok (r.0, r.1.now)
-part_shown (Err e) = Err e
 
 -- the tokens that a walk left, with two things that were made on the way; or its fault
 abbrev pub left_with_both : {A B : Type 0} → A → B → Result (Bor (List Placed)) ProcError → Checked ((A × B) × List Placed)
@@ -148,11 +137,6 @@ params_told ps = after_ok (check_params ps) (λ s. Ok (s, param_kinds ps))
 abbrev pub params_shown : Result (Scope × List Kind × Bor (List Placed)) ProcError → Checked ((Scope × List Kind) × List Placed)
 params_shown (Ok r) = Ok ((r.0, r.1), r.2.now)
 params_shown (Err e) = Err e
-
--- what a walk over a procedure gave, as contracts see it: its tree, and the tokens that are left; or its fault
-abbrev pub proc_shown : Result (ProcTree × Bor (List Placed)) ProcError → Checked (ProcTree × List Placed)
-proc_shown (Ok r) = Ok (r.0, r.1.now)
-proc_shown (Err e) = Err e
 
 -- From here on: what a walk needs of the tokens. The part of the grammar that it reads comes first (`cut` says of which
 -- tokens it is made), and what stands behind it may follow it.

@@ -29,7 +29,7 @@ pub(crate) fn key_in_brackets<'a>(
     requires starts { walked.StartsBrackets tokens.now }
     ensures shorter { IfOk result (λ r. length r.1.now < length tokens.now) }
     ensures right { (b : Bracketed) (rest : List Placed) → bracketed_tokens b ++ rest ≡ tokens.now
-        → walked.WalkAnswers (checked.key_of scope.now b) rest (walked.number_shown result) }
+        → walked.WalkAnswers (checked.key_of scope.now b) rest (walked.given_shown result) }
 {
     let (place, name, rest) = bracketed(tokens);
     match scope.meaning(name) {

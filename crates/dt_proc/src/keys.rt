@@ -50,7 +50,7 @@ fn shown_part<'a>(scope: &Scope, tokens: &'a [Placed]) -> Result<(KeyItem, &'a [
     requires starts { walked.StartsBrackets tokens.now }
     ensures shorter { IfOk result (λ r. length r.1.now < length tokens.now) }
     ensures right { (p : ℕ) (b : Bracketed) (rest : List Placed) → bracketed_tokens b ++ rest ≡ tokens.now
-        → walked.WalkAnswers (checked.check_part scope.now (syn.show_part p b)) rest (walked.part_shown result) }
+        → walked.WalkAnswers (checked.check_part scope.now (syn.show_part p b)) rest (walked.given_shown result) }
 {
     let (place, name, rest) = bracketed(tokens);
     let number = param_of(scope, place, name, Sort::Int)?;
@@ -66,7 +66,7 @@ fn part<'a>(
     requires starts { walked.StartsPart tokens.now }
     ensures shorter { IfOk result (λ r. length r.1.now < length tokens.now) }
     ensures right { (i : syn.KeyPart) (rest : List Placed) → syn.part_tokens i ++ rest ≡ tokens.now
-        → walked.WalkAnswers (checked.check_part scope.now i) rest (walked.part_shown result) }
+        → walked.WalkAnswers (checked.check_part scope.now i) rest (walked.given_shown result) }
 {
     let [first, rest @ ..] = tokens else {
         unreachable!();

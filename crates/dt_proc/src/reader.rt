@@ -38,7 +38,7 @@ fn proc<'a>(
     ensures shorter { IfOk result (λ r. length r.1.now < length tokens.now) }
     ensures fits { IfOk result (λ r. sound.IsSoundProc r.0) }
     ensures right { (p : syn.ProcSyntax) (rest : List Placed) → syn.IsProc p → syn.proc_tokens p ++ rest ≡ tokens.now
-        → walked.WalkAnswers (checked.check_proc before.now p) rest (walked.proc_shown result) }
+        → walked.WalkAnswers (checked.check_proc before.now p) rest (walked.given_shown result) }
 {
     let (place, name, rest) = named(after_one(tokens));
     if is_taken(before, name) {

@@ -216,7 +216,7 @@ pub(crate) fn block<'a>(
     ensures room { IfOk result (λ r. walked.KeepsRoom scope.old tokens.now scope.new r.1.now) }
     ensures right { (ss : syn.Statements) (e : ℕ) (rest : List Placed) → syn.AreStatements ss
         → syn.statements_tokens ss ++ at e tok.End ∷ rest ≡ tokens.now
-        → walked.WalkAnswers (checked.check_block scope.old ss) rest (walked.block_shown result) × OnOk result (scope.new ≡ scope.old) }
+        → walked.WalkAnswers (checked.check_block scope.old ss) rest (walked.given_shown result) × OnOk result (scope.new ≡ scope.old) }
 {
     let outer = scope.variables();
     let mut stmts = Stmts::new(alloc);

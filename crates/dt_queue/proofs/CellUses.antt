@@ -1,6 +1,7 @@
 -- Which cells clash, shown by the lanes that they have their marks in.
-use Rattle.std.proofs.Common.{◌≡◌, ◌⊎◌, ℕ, true, false}
+use Rattle.std.proofs.Common.{◌≡◌, ◌⊎◌, ℕ, false}
 use Rattle.std.proofs.Common.{Some, refl, ap, sym, subst, inl, inr, ◌∙◌}
+use Rattle.std.proofs.lemmas.Bool.{false≢true}
 use Rattle.std.proofs.lemmas.Option.{same_Some}
 use Rattle.slab.specs.Slab.{get}
 use Rattle.dt_lists.specs.Lists.{Has}
@@ -104,14 +105,8 @@ one_granule r c d (inr b) = b.0
 
 -- two reads do not clash
 pub reads_agree : (r : RowLinks) (c d : Cell) → c.mode ≡ Read → d.mode ≡ Read → ¬ (CellsClash r c d)
-reads_agree r c d a b (inl e) = elim e.1 [ inl f ↦ write_no (sym (ap may_change a) ∙ f) | inr f ↦ write_no (sym (ap may_change b) ∙ f) ]
-  where
-    write_no : false ≡ true → ⊥
-    write_no e = cc
-reads_agree r c d a b (inr e) = elim e.1 [ inl f ↦ whole_no (sym (ap is_whole a) ∙ f) | inr f ↦ whole_no (sym (ap is_whole b) ∙ f) ]
-  where
-    whole_no : false ≡ true → ⊥
-    whole_no e = cc
+reads_agree r c d a b (inl e) = elim e.1 [ inl f ↦ false≢true (sym (ap may_change a) ∙ f) | inr f ↦ false≢true (sym (ap may_change b) ∙ f) ]
+reads_agree r c d a b (inr e) = elim e.1 [ inl f ↦ false≢true (sym (ap is_whole a) ∙ f) | inr f ↦ false≢true (sym (ap is_whole b) ∙ f) ]
 
 -- the mode takes no granule as a whole
 abbrev pub IsNarrow : Mode → Type 0
@@ -120,10 +115,7 @@ IsNarrow mode = is_whole mode ≡ false
 -- reads and writes clash on one row alone
 pub on_one_row : (r : RowLinks) (c d : Cell) → IsNarrow c.mode → IsNarrow d.mode → CellsClash r c d → c.row ≡ d.row
 on_one_row r c d a b (inl e) = e.0
-on_one_row r c d a b (inr e) = absurd (elim e.1 [ inl f ↦ no_part (sym a ∙ f) | inr f ↦ no_part (sym b ∙ f) ])
-  where
-    no_part : false ≡ true → ⊥
-    no_part e = cc
+on_one_row r c d a b (inr e) = absurd (elim e.1 [ inl f ↦ false≢true (sym a ∙ f) | inr f ↦ false≢true (sym b ∙ f) ])
 
 -- a write clashes with each use of its row
 pub write_clashes : (r : RowLinks) (c d : Cell) → c.mode ≡ Write → c.row ≡ d.row → CellsClash r c d

@@ -138,26 +138,29 @@ module _ (k : Kept) (kept : AreQueuesKept k) where
   near_cells_rise : (p : ℕ × Cell) → EachThen Rise (near_cells p)
   near_cells_rise p = near_rises (links k.rows).names p (lesser p.1.number (in_order (entries k.cells))) (earlier_rises p.1.number)
 
+  abbrev mark : ℕ × Cell → Mark
+  mark q = mark_of q.0 q.1
+
   -- the marks that were found are those of the neighbours
   pub neighbours_are : (slot : ℕ) (x : Cell) → get k.cells slot ≡ Some x → (ms : List Mark) → AreMarks (IsNearMark k x) ms → map (λ m. m.vertex) ms ≡ map (λ w. w.vertex) (neighbours (waiting_of k) slot)
   neighbours_are slot x e ms found =
       let p : ℕ × Cell = (slot, x) in
       let own = in_list slot x e in
-      let same : ms ≡ map (λ (q : ℕ × Cell). mark_of q.0 q.1) (near_cells p) =
-      ascending_same (λ (m n : Mark). m.number < n.number) (λ m lt. omega (arith, lt)) (λ m n o lt le. omega (arith, lt, le)) ms (map (λ (q : ℕ × Cell). mark_of q.0 q.1) (near_cells p)) found.numbered
-      (each_image (λ (m n : Mark). m.number < n.number) (λ (q : ℕ × Cell). mark_of q.0 q.1) (near_cells p) (near_cells_rise p)) (λ m h. down own m ((found.members m).0 h)) (λ m h. (found.members m).1 (up own m h)) in
-      ap (map (λ m. m.vertex)) same ∙ map-map (λ m. m.vertex) (λ (q : ℕ × Cell). mark_of q.0 q.1) (near_cells p)
+      let same : ms ≡ map mark (near_cells p) =
+      ascending_same (λ (m n : Mark). m.number < n.number) (λ m lt. omega (arith, lt)) (λ m n o lt le. omega (arith, lt, le)) ms (map mark (near_cells p)) found.numbered
+      (each_image (λ (m n : Mark). m.number < n.number) mark (near_cells p) (near_cells_rise p)) (λ m h. down own m ((found.members m).0 h)) (λ m h. (found.members m).1 (up own m h)) in
+      ap (map (λ m. m.vertex)) same ∙ map-map (λ m. m.vertex) mark (near_cells p)
       ∙ sym (map-map (λ w. w.vertex) (entry (links k.rows).names) (near_cells p)) ∙ ap (map (λ w. w.vertex)) (sym (neighbours_shown p own))
     where
-      down : Has (in_order (entries k.cells)) (slot, x) → (m : Mark) → IsNearMark k x m → Has (map (λ (q : ℕ × Cell). mark_of q.0 q.1) (near_cells (slot, x))) m
+      down : Has (in_order (entries k.cells)) (slot, x) → (m : Mark) → IsNearMark k x m → Has (map mark (near_cells (slot, x))) m
       down own m n =
           let q : ℕ × Cell = (m.slot, n.0) in
-          subst (Has (map (λ (q : ℕ × Cell). mark_of q.0 q.1) (near_cells (slot, x)))) (sym n.2)
-          (has_map (λ (q : ℕ × Cell). mark_of q.0 q.1) (near_cells (slot, x)) q (to_near_cells (slot, x) q own (record { there = in_list m.slot n.0 n.1; before = n.3; clash = n.4; free = n.5 })))
+          subst (Has (map mark (near_cells (slot, x)))) (sym n.2)
+          (has_map mark (near_cells (slot, x)) q (to_near_cells (slot, x) q own (record { there = in_list m.slot n.0 n.1; before = n.3; clash = n.4; free = n.5 })))
 
-      up : Has (in_order (entries k.cells)) (slot, x) → (m : Mark) → Has (map (λ (q : ℕ × Cell). mark_of q.0 q.1) (near_cells (slot, x))) m → IsNearMark k x m
+      up : Has (in_order (entries k.cells)) (slot, x) → (m : Mark) → Has (map mark (near_cells (slot, x))) m → IsNearMark k x m
       up own m h =
-          let r = any_get (λ (q : ℕ × Cell). mark_of q.0 q.1 ≡ m) (near_cells (slot, x)) (any_of_image (λ (n : Mark). n ≡ m) (λ (q : ℕ × Cell). mark_of q.0 q.1) (near_cells (slot, x)) h) in
+          let r = any_get (λ (q : ℕ × Cell). mark q ≡ m) (near_cells (slot, x)) (any_of_image (λ (n : Mark). n ≡ m) mark (near_cells (slot, x)) h) in
           let n = of_near_cells (slot, x) r.0 own r.1 in
           subst (IsNearMark k x) r.2 (r.0.1, cell_there r.0 n.there, refl, n.before, n.clash, n.free)
 
@@ -186,15 +189,20 @@ module _ (k : Kept) (kept : AreQueuesKept k) where
       (subst (AnyIn (λ w. is_at slot w ≡ true)) (sym (neighbours_shown q own))
       (any_image (λ w. is_at slot w ≡ true) (entry (links k.rows).names) (near_cells q) (any_put (λ (p : ℕ × Cell). (p.0 == slot) ≡ true) (near_cells q) (slot, x) (to_near_cells q (slot, x) own near) (eq-eqb slot slot refl))))
 
-  filter_shown : (slot : ℕ) (G : List (ℕ × Cell)) → filter (λ w. is_neighbour (waiting_of k) slot w.slot) (map (entry (links k.rows).names) G)
-      ≡ map (entry (links k.rows).names) (filter (λ (q : ℕ × Cell). is_neighbour (waiting_of k) slot q.0) G)
+  -- the cell is a follower of an entry
+  abbrev follows : ℕ → ℕ × Cell → Bool
+  follows slot q = is_neighbour (waiting_of k) slot q.0
+
+  -- the followers of an entry among these cells, as they are shown
+  abbrev shown_followers : ℕ → List (ℕ × Cell) → List Waiting
+  shown_followers slot G = filter (λ w. is_neighbour (waiting_of k) slot w.slot) (map (entry (links k.rows).names) G)
+
+  filter_shown : (slot : ℕ) (G : List (ℕ × Cell)) → shown_followers slot G ≡ map (entry (links k.rows).names) (filter (follows slot) G)
   filter_shown slot [] = refl
   filter_shown slot (q ∷ G) = by (is_neighbour (waiting_of k) slot q.0) (filter_shown slot G)
     where
-      by : (t : Bool) → filter (λ w. is_neighbour (waiting_of k) slot w.slot) (map (entry (links k.rows).names) G) ≡ map (entry (links k.rows).names) (filter (λ (q : ℕ × Cell). is_neighbour (waiting_of k) slot q.0) G)
-          → cond t (entry (links k.rows).names q ∷ filter (λ w. is_neighbour (waiting_of k) slot w.slot) (map (entry (links k.rows).names) G))
-          (filter (λ w. is_neighbour (waiting_of k) slot w.slot) (map (entry (links k.rows).names) G))
-          ≡ map (entry (links k.rows).names) (cond t (q ∷ filter (λ (q : ℕ × Cell). is_neighbour (waiting_of k) slot q.0) G) (filter (λ (q : ℕ × Cell). is_neighbour (waiting_of k) slot q.0) G))
+      by : (t : Bool) → shown_followers slot G ≡ map (entry (links k.rows).names) (filter (follows slot) G)
+          → cond t (entry (links k.rows).names q ∷ shown_followers slot G) (shown_followers slot G) ≡ map (entry (links k.rows).names) (cond t (q ∷ filter (follows slot) G) (filter (follows slot) G))
       by true e = ap (λ l. entry (links k.rows).names q ∷ l) e
       by false e = e
 
@@ -202,18 +210,15 @@ module _ (k : Kept) (kept : AreQueuesKept k) where
   pub followers_are : (slot : ℕ) (x : Cell) → get k.cells slot ≡ Some x → (ms : List Mark) → AreEachOnce (IsNextMark k x) ms → IsPermutation (map follower_of (followers (waiting_of k) slot)) (map follower_of_mark ms)
   followers_are slot x e ms found = subst (λ l. IsPermutation l (map follower_of_mark ms)) (sym shown) (IsPermutation-map follower_of_mark (map mark own) ms (same_permuted (map mark own) ms differ (marks_differ ms found.apart) to back))
     where
-      mark : ℕ × Cell → Mark
-      mark q = mark_of q.0 q.1
-
       own : List (ℕ × Cell)
-      own = filter (λ (q : ℕ × Cell). is_neighbour (waiting_of k) slot q.0) (in_order (entries k.cells))
+      own = filter (follows slot) (in_order (entries k.cells))
 
       shown : map follower_of (followers (waiting_of k) slot) ≡ map follower_of_mark (map mark own)
       shown = ap (map follower_of) (filter_shown slot (in_order (entries k.cells))) ∙ map-map follower_of (entry (links k.rows).names) own ∙ sym (map-map follower_of_mark mark own)
 
       differ : Distinct (map mark own)
       differ = marks_differ (map mark own) (each_image (λ (m n : Mark). ¬ (m.number ≡ n.number)) mark own (each_map Rise _ own (λ p q lt e. less p q lt e)
-          (filter_each Rise (λ (q : ℕ × Cell). is_neighbour (waiting_of k) slot q.0) (in_order (entries k.cells)) the_list.numbered)))
+          (filter_each Rise (follows slot) (in_order (entries k.cells)) the_list.numbered)))
         where
           less : (p q : ℕ × Cell) → p.1.number < q.1.number → p.1.number ≡ q.1.number → ⊥
           less p q lt e = omega (arith, lt, e)
@@ -221,7 +226,7 @@ module _ (k : Kept) (kept : AreQueuesKept k) where
       to : (m : Mark) → Has (map mark own) m → Has ms m
       to m h =
           let r = any_get (λ (q : ℕ × Cell). mark q ≡ m) own (any_of_image (λ (n : Mark). n ≡ m) mark own h) in
-          let a = has_of_filtered (λ (q : ℕ × Cell). is_neighbour (waiting_of k) slot q.0) (in_order (entries k.cells)) r.0 r.1 in
+          let a = has_of_filtered (follows slot) (in_order (entries k.cells)) r.0 r.1 in
           (found.members m).1 (subst (IsNextMark k x) r.2 (next_of slot x e r.0 a.0 a.1))
 
       back : (m : Mark) → Has ms m → Has (map mark own) m
@@ -230,7 +235,7 @@ module _ (k : Kept) (kept : AreQueuesKept k) where
           let q : ℕ × Cell = (m.slot, n.0) in
           let there = in_list m.slot n.0 n.1 in
           subst (Has (map mark own)) (sym n.2)
-          (has_map mark own q (has_filter (λ (q : ℕ × Cell). is_neighbour (waiting_of k) slot q.0) (in_order (entries k.cells)) q there (to_next slot x e q there (subst (IsNextMark k x) n.2 n))))
+          (has_map mark own q (has_filter (follows slot) (in_order (entries k.cells)) q there (to_next slot x e q there (subst (IsNextMark k x) n.2 n))))
 
 -- ---- what is shown after a step
 
@@ -250,9 +255,13 @@ pub shown_same : (k n : Kept) → AreQueuesKept k → IsFront (links k.rows).nam
 shown_same k n kept front slots =
     ap (λ l. map (entry (links n.rows).names) (in_order (entries_from 0 l))) slots ∙ same_entries (links k.rows).names (links n.rows).names front (in_order (entries k.cells)) (row_of_cell k kept)
 
+-- the entry at a slot, for this row and mode
+abbrev entry_of : ℕ → ℕ × Bytes → Mode → ℕ → Waiting
+entry_of slot name mode vertex = record { slot = slot; home = name.0; key = name.1; mode = mode; vertex = vertex }
+
 -- a cell that was put behind all others shows its entry
 pub shown_push : (k n : Kept) (slot : ℕ) (name : ℕ × Bytes) (mode : Mode) (vertex : ℕ) → AreQueuesKept k → AreQueuesKept n → IsFront (links k.rows).names (links n.rows).names → AddsCell k n slot name mode vertex
-    → waiting_of n ≡ waiting_of k ++ record { slot = slot; home = name.0; key = name.1; mode = mode; vertex = vertex } ∷ []
+    → waiting_of n ≡ waiting_of k ++ entry_of slot name mode vertex ∷ []
 shown_push k n slot name mode vertex kept later front adds =
     let K = in_order (entries k.cells) in
     let list : in_order (entries n.cells) ≡ K ++ (slot, adds.cell) ∷ [] = same_list n.cells n.cells (in_order (entries n.cells)) (K ++ (slot, adds.cell) ∷ []) (listed n.cells later.alone)
@@ -263,7 +272,7 @@ shown_push k n slot name mode vertex kept later front adds =
     last : (p : ℕ × Cell) → get k.cells p.0 ≡ Some p.1 → p.1.number < adds.cell.number
     last p e = let b = kept.counted p.0 p.1 e in omega (arith, b.1, adds.number)
 
-    own : entry (links n.rows).names (slot, adds.cell) ≡ record { slot = slot; home = name.0; key = name.1; mode = mode; vertex = vertex }
+    own : entry (links n.rows).names (slot, adds.cell) ≡ entry_of slot name mode vertex
     own = λ i. record { slot = slot; home = (adds.name i).0; key = (adds.name i).1; mode = adds.mode_is i; vertex = adds.vertex_is i }
 
 -- no entry waited at the slot

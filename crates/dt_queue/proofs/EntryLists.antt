@@ -5,7 +5,7 @@ use Rattle.std.specs.List.{filter, list_any}
 use Rattle.std.proofs.lemmas.Bool.{and_from, and_parts, false≢true, not-true}
 use Rattle.slab.specs.Slab.{Slab, get}
 use Rattle.dt_lists.specs.Lists.{EachThen, Has}
-use Rattle.dt_lists.proofs.Callers.{all_get, all_map, all_put, any_of_test, any_put, any_get, test_of_any, filter_none}
+use Rattle.dt_lists.proofs.Callers.{all_get, all_map, all_put, any_of_test, any_put, any_get, test_of_any, filter_none, some_same}
 use Rattle.dt_access.specs.Clash.{Bytes}
 use Rattle.dt_queue.specs.declared.cell.Cell.{Cell}
 use Rattle.dt_queue.specs.KeptInner.{entry}
@@ -20,10 +20,7 @@ pub slots_of_list : (cells : Slab Cell) (K : List (ℕ × Cell)) → IsListed ce
 slots_of_list cells K l = by K (λ p h. (l.members p).0 h) l.numbered
   where
     apart : (p q : ℕ × Cell) → get cells p.0 ≡ Some p.1 → get cells q.0 ≡ Some q.1 → p.1.number < q.1.number → p.0 ≡ q.0 → ⊥
-    apart p q a b lt e = let same : p.1 ≡ q.1 = some (sym a ∙ ap (get cells) e ∙ b) in omega (arith, lt, ap (λ (c : Cell). c.number) same)
-      where
-        some : Some p.1 ≡ Some q.1 → p.1 ≡ q.1
-        some e = cc
+    apart p q a b lt e = let same : p.1 ≡ q.1 = some_same (sym a ∙ ap (get cells) e ∙ b) in omega (arith, lt, ap (λ (c : Cell). c.number) same)
 
     by : (K : List (ℕ × Cell)) → ((p : ℕ × Cell) → Has K p → get cells p.0 ≡ Some p.1) → EachThen Rise K → Slots K
     by [] there num = tt
@@ -121,12 +118,15 @@ module _ (names : List (ℕ × Bytes)) where
   pub nearest_is : (x : ℕ × Cell) (B : List (ℕ × Cell)) → nearest (entry names x) (map (entry names) B) ≡ map (entry names) (near_in x B)
   nearest_is x [] = refl
   nearest_is x (b ∷ later) =
-      ap (λ t. cond (meets b x && not t) (entry names b ∷ nearest (entry names x) (map (entry names) later)) (nearest (entry names x) (map (entry names) later)))
+      ap (λ t. cond (meets b x && not t) (entry names b ∷ shown) shown)
       (any_shown (λ m. entries_clash (entry names b) m && entries_clash m (entry names x)) later)
       ∙ by (meets b x && is_free x b later) (nearest_is x later)
     where
-      by : (t : Bool) → nearest (entry names x) (map (entry names) later) ≡ map (entry names) (near_in x later)
-          → cond t (entry names b ∷ nearest (entry names x) (map (entry names) later)) (nearest (entry names x) (map (entry names) later)) ≡ map (entry names) (cond t (b ∷ near_in x later) (near_in x later))
+      shown : List Waiting
+      shown = nearest (entry names x) (map (entry names) later)
+
+      by : (t : Bool) → shown ≡ map (entry names) (near_in x later)
+          → cond t (entry names b ∷ shown) shown ≡ map (entry names) (cond t (b ∷ near_in x later) (near_in x later))
       by true e = ap (λ l. entry names b ∷ l) e
       by false e = e
 

@@ -8,7 +8,7 @@ use Rattle.std.specs.Option.{option_or}
 use Rattle.std.specs.Prelude.{MatchOption}
 use Rattle.std.proofs.lemmas.List.{append-nil, append_assoc}
 use Rattle.std.proofs.lemmas.List.Sorted.{IsPermutation-cons, IsPermutation-middle, IsPermutation-refl, IsPermutation-sym, IsPermutation-trans}
-use Rattle.std.proofs.lemmas.Bool.{false_from_ne_true}
+use Rattle.std.proofs.lemmas.Bool.{cases_order, false_from_ne_true}
 use Rattle.dt_lists.specs.Lists.{AnyIn, Distinct, EachThen, Has}
 use Rattle.dt_lists.proofs.Callers.{Spot, all_append, all_append_left, all_append_right, all_get, all_put, any_append, any_append_left, any_append_right, any_get, ascending_same, each_across, each_append, each_append_right, each_map}
 use Rattle.dt_lists.proofs.Callers.{filter_each, filter_none, spot}
@@ -20,7 +20,7 @@ use Rattle.dt_queue.specs.ListedInner.{listed_left}
 use Rattle.dt_queue.specs.NextInner.{AreEachOnce, first_in, next_of_row, next_of_rows, or_else_one, reads_left, rows_left}
 use Rattle.dt_queue.specs.TableInner.{lanes_read, lanes_written}
 use Rattle.dt_queue.proofs.Marks.{none_past}
-use Rattle.dt_queue.proofs.NearMarks.{AreLanesOfRow, either_between, in_between, next_first, next_reads, next_write, of_between, row_of, same_mark, trichotomy}
+use Rattle.dt_queue.proofs.NearMarks.{AreLanesOfRow, either_between, in_between, next_first, next_reads, next_write, of_between, row_of, same_mark}
 
 -- ---- lists with the same items
 
@@ -82,15 +82,15 @@ between_first low high ms m num first =
       all_put (λ (k : Mark). m.number < k.number) (filter (is_between m.number high) ms) (λ k h. (of_between m.number high ms k h).1.0),
       filter_each (λ (m n : Mark). m.number < n.number) (is_between m.number high) ms num,
     )
-    (λ k h. place k (of_between low high ms k h) (trichotomy m.number k.number))
+    (λ k h. place k (of_between low high ms k h) (cases_order m.number k.number))
     (λ k h. elim h [
       | inl e ↦ subst (Has (filter (is_between low high) ms)) e (in_between low high ms m first.0 first.1)
       | inr g ↦ let b = of_between m.number high ms k g in in_between low high ms k b.0 (omega (arith, b.1.0, first.1.0), b.1.1)
     ])
   where
-    place : (k : Mark) → Has ms k × IsBetween low high k → (m.number < k.number) ⊎ (m.number ≡ k.number) ⊎ (k.number < m.number) → Has (m ∷ filter (is_between m.number high) ms) k
-    place k b (inl lt) = inr (in_between m.number high ms k b.0 (lt, b.1.1))
-    place k b (inr (inl e)) = inl (same_mark ms num m k first.0 b.0 e)
+    place : (k : Mark) → Has ms k × IsBetween low high k → (m.number ≡ k.number) ⊎ ((m.number < k.number) ⊎ (k.number < m.number)) → Has (m ∷ filter (is_between m.number high) ms) k
+    place k b (inr (inl lt)) = inr (in_between m.number high ms k b.0 (lt, b.1.1))
+    place k b (inl e) = inl (same_mark ms num m k first.0 b.0 e)
     place k b (inr (inr gt)) = absurd (omega (arith, gt, first.2 k b.0 b.1))
 
 pub first_in_is : (low high : ℕ) (ms : List Mark) (o : Option Mark) → HasRisingNumbers ms → IsFirstBetween low high ms o → o ≡ first_in low high ms
@@ -184,8 +184,8 @@ module _ (reads writes : List (List Mark)) (a : AreApart reads writes) (low high
   pub rows_next : (rows : List ℕ) → Distinct rows → AreEachOnce (λ m. AnyIn (λ row. IsNextIn row m) rows) (next_of_rows reads writes low high rows)
   rows_next [] d = record { apart = tt; members = λ m. (λ h. h, λ h. h) }
   rows_next (r ∷ rows) d =
-      joined (next_of_row (get_or reads r []) (get_or writes r []) low high) (next_of_rows reads writes low high rows)
-      (once_of_marks (IsNextIn r) (next_of_row (get_or reads r []) (get_or writes r []) low high) (row_next (get_or reads r []) (get_or writes r []) low high (row_of reads writes a r))) (rows_next rows d.1)
+      let first : List Mark = next_of_row (get_or reads r []) (get_or writes r []) low high in
+      joined first (next_of_rows reads writes low high rows) (once_of_marks (IsNextIn r) first (row_next (get_or reads r []) (get_or writes r []) low high (row_of reads writes a r))) (rows_next rows d.1)
     where
       other : (m k : Mark) → IsNextIn r m → AnyIn (λ row. IsNextIn row k) rows → m.number ≡ k.number → ⊥
       other m k p q e = let found = any_get (λ row. IsNextIn row k) rows q in all_get (λ y. ¬ (r ≡ y)) rows d.0 found.0 found.1 (next_parted r found.0 m k p found.2 e)

@@ -5,7 +5,7 @@ use Rattle.std.proofs.lemmas.Option.{none-some}
 use Rattle.std.specs.List.{filter}
 use Rattle.slab.specs.Slab.{Slab, Updates, get, entries, entries_from}
 use Rattle.dt_lists.specs.Lists.{AllIn, EachThen, Has}
-use Rattle.dt_lists.proofs.Callers.{all_get, all_map, all_put, any_append, any_append_left, any_append_right, ascending_same, each_append, either_nat, filter_each, has_filter, has_of_filtered}
+use Rattle.dt_lists.proofs.Callers.{all_get, all_map, all_put, any_append, any_append_left, any_append_right, ascending_same, each_append, either_nat, filter_each, has_filter, has_of_filtered, some_same}
 use Rattle.dt_queue.specs.declared.cell.Cell.{Cell}
 use Rattle.dt_queue.specs.KeptInner.{in_order, put_cell}
 
@@ -32,11 +32,8 @@ entries_has key (None ∷ rest) (suc s) c e =
     subst (λ n. Has (entries_from (key + 1) rest) (n, c)) same (entries_has (key + 1) rest s c e)
 entries_has key (Some v ∷ rest) zero c e =
     let same : key ≡ key + 0 = omega arith in
-    let one : v ≡ c = value e in
+    let one : v ≡ c = some_same e in
     inl (λ i. (same i, one i))
-  where
-    value : Some v ≡ Some c → v ≡ c
-    value e = cc
 entries_has key (Some v ∷ rest) (suc s) c e =
     let same : key + 1 + s ≡ key + suc s = omega arith in
     inr (subst (λ n. Has (entries_from (key + 1) rest) (n, c)) same (entries_has (key + 1) rest s c e))
@@ -162,11 +159,8 @@ listed_more a b K slot c k up vacant last = record {
     other : (p : ℕ × Cell) → get a p.0 ≡ Some p.1 → p.0 ≢ slot
     other p e s = none-some p.1 (sym vacant ∙ sym (ap (λ n. get a n) s) ∙ e)
 
-    value : (d : Cell) → Some c ≡ Some d → c ≡ d
-    value d e = cc
-
     here : (p : ℕ × Cell) → p.0 ≡ slot → get b p.0 ≡ Some p.1 → (slot, c) ≡ p
-    here p s e = let v : c ≡ p.1 = value p.1 (sym up.changed ∙ ap (λ n. get b n) (sym s) ∙ e) in λ i. (sym s i, v i)
+    here p s e = let v : c ≡ p.1 = some_same (sym up.changed ∙ ap (λ n. get b n) (sym s) ∙ e) in λ i. (sym s i, v i)
 
 -- a cell was taken out
 pub listed_less : (a b : Slab Cell) (K : List (ℕ × Cell)) (slot : ℕ) → IsListed a K → Updates a b slot None → IsListed b (filter (λ (p : ℕ × Cell). not (p.0 == slot)) K)

@@ -179,34 +179,47 @@ kept_listed k new kept listed = kept_same k (record k { listed = new }) kept kep
     same Write p = refl
     same Whole p = refl
 
--- a cell was put behind all others, and its mark in its lane
-pub kept_pushed : (k n : Kept) (slot : ℕ) (c : Cell) → AreQueuesKept k → AreRowsLinked (links n.rows) → KeepsRows (links k.rows) (links n.rows) → Updates k.cells n.cells slot (Some c) → get k.cells slot ≡ None
-    → c.number ≡ k.next_number → n.next_number ≡ c.number + 1 → n.next_number < 2 ^ 64 → c.row < length (links n.rows).names
-    → lane n c.mode (place_at (links n.rows) c.mode c.row) ≡ lane k c.mode (place_at (links n.rows) c.mode c.row) ++ mark_of slot c ∷ []
-    → ((m : Mode) (p : ℕ) → ¬ ((m ≡ c.mode) × (p ≡ place_at (links n.rows) c.mode c.row)) → lane n m p ≡ lane k m p) → AreRowsListed n → AreQueuesKept n
-kept_pushed k n slot c kept linked keeps up vacant number next within row changed others used = record {
-  linked = linked;
-  first = omega (arith, next);
-  last = within;
+-- the place of the lane that has the mark of a cell
+abbrev pub own_place : Kept → Cell → ℕ
+own_place k c = place_at (links k.rows) c.mode c.row
+
+-- a cell was put behind all others, and its mark in its lane; all else is as before
+pub record PushesCell (k n : Kept) (slot : ℕ) (c : Cell) : Type 0 where
+  pub cells : Updates k.cells n.cells slot (Some c)
+  pub vacant : get k.cells slot ≡ None
+  pub row_in : c.row < length (links k.rows).names
+  pub number : c.number ≡ k.next_number
+  pub next : n.next_number ≡ c.number + 1
+  pub fits : n.next_number < 2 ^ 64
+  pub changed : lane n c.mode (own_place k c) ≡ lane k c.mode (own_place k c) ++ mark_of slot c ∷ []
+  pub others : (m : Mode) (p : ℕ) → ¬ ((m ≡ c.mode) × (p ≡ own_place k c)) → lane n m p ≡ lane k m p
+  pub rows : (links n.rows) ≡ (links k.rows)
+  pub listed : n.listed ≡ k.listed
+
+pub kept_pushed : (k n : Kept) (slot : ℕ) (c : Cell) → AreQueuesKept k → PushesCell k n slot c → AreRowsListed n → AreQueuesKept n
+kept_pushed k n slot c kept push used = record {
+  linked = subst AreRowsLinked (sym push.rows) kept.linked;
+  first = omega (arith, push.next);
+  last = push.fits;
   counted = λ s d e. counted s d e (either_nat s slot);
   alone = λ s t d x e f g. alone s t d x e f g (either_nat s slot) (either_nat t slot);
-  known = λ s d e. known s d e (either_nat s slot);
-  lanes = λ m p. lanes m p (either_place m c.mode p (place_at (links n.rows) c.mode c.row));
+  known = λ s d e. subst (λ (r : RowLinks). d.row < length r.names) (sym push.rows) (known s d e (either_nat s slot));
+  lanes = λ m p. subst (λ (r : RowLinks). IsLane n.cells (IsInLane r m p) (lane n m p)) (sym push.rows) (lanes m p (either_place m c.mode p (own_place k c)));
   listed = used;
 }
   where
     is_new : (s : ℕ) (d : Cell) → s ≡ slot → get n.cells s ≡ Some d → d ≡ c
-    is_new s d e f = same_Some d c (sym f ∙ ap (get n.cells) e ∙ up.changed)
+    is_new s d e f = same_Some d c (sym f ∙ ap (get n.cells) e ∙ push.cells.changed)
 
     is_old : (s : ℕ) (d : Cell) → s ≢ slot → get n.cells s ≡ Some d → get k.cells s ≡ Some d
-    is_old s d ne f = sym (up.others s ne) ∙ f
+    is_old s d ne f = sym (push.cells.others s ne) ∙ f
 
     below : (s : ℕ) (d : Cell) → s ≢ slot → get n.cells s ≡ Some d → d.number < c.number
-    below s d ne f = let b = kept.counted s d (is_old s d ne f) in omega (arith, b.1, number)
+    below s d ne f = let b = kept.counted s d (is_old s d ne f) in omega (arith, b.1, push.number)
 
     counted : (s : ℕ) (d : Cell) → get n.cells s ≡ Some d → (s ≡ slot) ⊎ (s ≢ slot) → (0 < d.number) × (d.number < n.next_number)
-    counted s d e (inl s') = let v : d.number ≡ c.number = ap (λ (x : Cell). x.number) (is_new s d s' e) in (omega (arith, v, number, kept.first), omega (arith, v, next))
-    counted s d e (inr ne) = let b = kept.counted s d (is_old s d ne e) in (b.0, omega (arith, below s d ne e, next))
+    counted s d e (inl s') = let v : d.number ≡ c.number = ap (λ (x : Cell). x.number) (is_new s d s' e) in (omega (arith, v, push.number, kept.first), omega (arith, v, push.next))
+    counted s d e (inr ne) = let b = kept.counted s d (is_old s d ne e) in (b.0, omega (arith, below s d ne e, push.next))
 
     alone : (s t : ℕ) (d x : Cell) → get n.cells s ≡ Some d → get n.cells t ≡ Some x → d.number ≡ x.number → (s ≡ slot) ⊎ (s ≢ slot) → (t ≡ slot) ⊎ (t ≢ slot) → s ≡ t
     alone s t d x e f g (inl a) (inl b) = a ∙ sym b
@@ -214,58 +227,57 @@ kept_pushed k n slot c kept linked keeps up vacant number next within row change
     alone s t d x e f g (inr a) (inl b) = let v : x.number ≡ c.number = ap (λ (x : Cell). x.number) (is_new t x b f) in absurd (omega (arith, v, g, below s d a e))
     alone s t d x e f g (inr a) (inr b) = kept.alone s t d x (is_old s d a e) (is_old t x b f) g
 
-    known : (s : ℕ) (d : Cell) → get n.cells s ≡ Some d → (s ≡ slot) ⊎ (s ≢ slot) → d.row < length (links n.rows).names
-    known s d e (inl s') = subst (λ (x : Cell). x.row < length (links n.rows).names) (sym (is_new s d s' e)) row
-    known s d e (inr ne) = let lt = kept.known s d (is_old s d ne e) in omega (arith, lt, front_length _ _ keeps.names)
-
-    moved : (m : Mode) (p s : ℕ) (d : Cell) → get k.cells s ≡ Some d → IsInLane (links k.rows) m p d ↔ IsInLane (links n.rows) m p d
-    moved m p s d e = let same = place_same (links k.rows) (links n.rows) keeps m d.row (kept.known s d e) in (λ b. (b.0, same ∙ b.1), λ b. (b.0, sym same ∙ b.1))
-
-    had : (m : Mode) (p : ℕ) → IsLane k.cells (IsInLane (links n.rows) m p) (lane k m p)
-    had m p = lane_map k.cells (IsInLane (links k.rows) m p) (IsInLane (links n.rows) m p) (lane k m p) (moved m p) (kept.lanes m p)
+    known : (s : ℕ) (d : Cell) → get n.cells s ≡ Some d → (s ≡ slot) ⊎ (s ≢ slot) → d.row < length (links k.rows).names
+    known s d e (inl s') = subst (λ (x : Cell). x.row < length (links k.rows).names) (sym (is_new s d s' e)) push.row_in
+    known s d e (inr ne) = kept.known s d (is_old s d ne e)
 
     all_below : (m : Mode) (p : ℕ) → AllIn (λ (x : Mark). x.number < c.number) (lane k m p)
     all_below m p = all_put _ (lane k m p) (λ x h. let r = ((kept.lanes m p).members x).0 h in
         let v : x.number ≡ r.0.number = ap (λ (y : Mark). y.number) r.3 in
-        omega (arith, v, (kept.counted x.slot r.0 r.1).1, number))
+        omega (arith, v, (kept.counted x.slot r.0 r.1).1, push.number))
 
-    lanes : (m : Mode) (p : ℕ) → ((m ≡ c.mode) × (p ≡ place_at (links n.rows) c.mode c.row)) ⊎ ¬ ((m ≡ c.mode) × (p ≡ place_at (links n.rows) c.mode c.row)) → IsLane n.cells (IsInLane (links n.rows) m p) (lane n m p)
-    lanes m p (inr ne) = subst (IsLane n.cells (IsInLane (links n.rows) m p)) (sym (others m p ne))
-        (lane_same k.cells n.cells (IsInLane (links n.rows) m p) (lane k m p) slot c (had m p) up vacant (λ b. ne (sym b.0, sym b.1 ∙ ap (λ x. place_at (links n.rows) x c.row) (sym b.0))))
+    lanes : (m : Mode) (p : ℕ) → ((m ≡ c.mode) × (p ≡ own_place k c)) ⊎ ¬ ((m ≡ c.mode) × (p ≡ own_place k c)) → IsLane n.cells (IsInLane (links k.rows) m p) (lane n m p)
+    lanes m p (inr ne) = subst (IsLane n.cells (IsInLane (links k.rows) m p)) (sym (push.others m p ne))
+        (lane_same k.cells n.cells (IsInLane (links k.rows) m p) (lane k m p) slot c (kept.lanes m p) push.cells push.vacant (λ b. ne (sym b.0, sym b.1 ∙ ap (λ x. place_at (links k.rows) x c.row) (sym b.0))))
     lanes m p (inl b) =
-        subst (λ x. IsLane n.cells (IsInLane (links n.rows) x p) (lane n x p)) (sym b.0)
-        (subst (λ q. IsLane n.cells (IsInLane (links n.rows) c.mode q) (lane n c.mode q)) (sym b.1)
-        (subst (IsLane n.cells (IsInLane (links n.rows) c.mode (place_at (links n.rows) c.mode c.row))) (sym changed)
-        (lane_more k.cells n.cells (IsInLane (links n.rows) c.mode (place_at (links n.rows) c.mode c.row)) (lane k c.mode (place_at (links n.rows) c.mode c.row)) slot c
-        (had c.mode (place_at (links n.rows) c.mode c.row)) up vacant (refl, refl) (all_below c.mode (place_at (links n.rows) c.mode c.row)))))
+        subst (λ x. IsLane n.cells (IsInLane (links k.rows) x p) (lane n x p)) (sym b.0)
+        (subst (λ q. IsLane n.cells (IsInLane (links k.rows) c.mode q) (lane n c.mode q)) (sym b.1)
+        (subst (IsLane n.cells (IsInLane (links k.rows) c.mode (own_place k c))) (sym push.changed)
+        (lane_more k.cells n.cells (IsInLane (links k.rows) c.mode (own_place k c)) (lane k c.mode (own_place k c)) slot c (kept.lanes c.mode (own_place k c)) push.cells push.vacant (refl, refl) (all_below c.mode (own_place k c)))))
 
--- a cell was taken out, and its mark out of its lane
-pub kept_removed : (k n : Kept) (slot : ℕ) (c : Cell) → AreQueuesKept k → (links n.rows) ≡ (links k.rows) → get k.cells slot ≡ Some c → Updates k.cells n.cells slot None → n.next_number ≡ k.next_number
-    → lane n c.mode (place_at (links k.rows) c.mode c.row) ≡ filter (λ m. not (m.number == c.number)) (lane k c.mode (place_at (links k.rows) c.mode c.row))
-    → ((m : Mode) (p : ℕ) → ¬ ((m ≡ c.mode) × (p ≡ place_at (links k.rows) c.mode c.row)) → lane n m p ≡ lane k m p) → AreRowsListed n → AreQueuesKept n
-kept_removed k n slot c kept rows there up next changed others used = record {
-  linked = subst AreRowsLinked (sym rows) kept.linked;
-  first = subst (λ i. 0 < i) (sym next) kept.first;
-  last = subst (λ i. i < 2 ^ 64) (sym next) kept.last;
-  counted = λ s d e. let b = kept.counted s d (old s d e) in (b.0, subst (λ i. d.number < i) (sym next) b.1);
+-- a cell was taken out, and its mark out of its lane; all else is as before
+pub record TakesCell (k n : Kept) (slot : ℕ) (c : Cell) : Type 0 where
+  pub there : get k.cells slot ≡ Some c
+  pub cells : Updates k.cells n.cells slot None
+  pub changed : lane n c.mode (own_place k c) ≡ filter (λ m. not (m.number == c.number)) (lane k c.mode (own_place k c))
+  pub others : (m : Mode) (p : ℕ) → ¬ ((m ≡ c.mode) × (p ≡ own_place k c)) → lane n m p ≡ lane k m p
+  pub rows : (links n.rows) ≡ (links k.rows)
+  pub listed : n.listed ≡ k.listed
+  pub number : n.next_number ≡ k.next_number
+
+pub kept_removed : (k n : Kept) (slot : ℕ) (c : Cell) → AreQueuesKept k → TakesCell k n slot c → AreRowsListed n → AreQueuesKept n
+kept_removed k n slot c kept take used = record {
+  linked = subst AreRowsLinked (sym take.rows) kept.linked;
+  first = subst (λ i. 0 < i) (sym take.number) kept.first;
+  last = subst (λ i. i < 2 ^ 64) (sym take.number) kept.last;
+  counted = λ s d e. let b = kept.counted s d (old s d e) in (b.0, subst (λ i. d.number < i) (sym take.number) b.1);
   alone = λ s t d x e f g. kept.alone s t d x (old s d e) (old t x f) g;
-  known = λ s d e. subst (λ (r : RowLinks). d.row < length r.names) (sym rows) (kept.known s d (old s d e));
-  lanes = λ m p. subst (λ (r : RowLinks). IsLane n.cells (IsInLane r m p) (lane n m p)) (sym rows) (lanes m p (either_place m c.mode p (place_at (links k.rows) c.mode c.row)));
+  known = λ s d e. subst (λ (r : RowLinks). d.row < length r.names) (sym take.rows) (kept.known s d (old s d e));
+  lanes = λ m p. subst (λ (r : RowLinks). IsLane n.cells (IsInLane r m p) (lane n m p)) (sym take.rows) (lanes m p (either_place m c.mode p (own_place k c)));
   listed = used;
 }
   where
     old : (s : ℕ) (d : Cell) → get n.cells s ≡ Some d → get k.cells s ≡ Some d
-    old s d e = sym (up.others s (λ f. none-some d (sym up.changed ∙ ap (get n.cells) (sym f) ∙ e))) ∙ e
+    old s d e = sym (take.cells.others s (λ f. none-some d (sym take.cells.changed ∙ ap (get n.cells) (sym f) ∙ e))) ∙ e
 
-    lanes : (m : Mode) (p : ℕ) → ((m ≡ c.mode) × (p ≡ place_at (links k.rows) c.mode c.row)) ⊎ ¬ ((m ≡ c.mode) × (p ≡ place_at (links k.rows) c.mode c.row)) → IsLane n.cells (IsInLane (links k.rows) m p) (lane n m p)
-    lanes m p (inr ne) = subst (IsLane n.cells (IsInLane (links k.rows) m p)) (sym (others m p ne))
-        (lane_kept k.cells n.cells (IsInLane (links k.rows) m p) (lane k m p) slot c (kept.lanes m p) there (λ b. ne (sym b.0, sym b.1 ∙ ap (λ x. place_at (links k.rows) x c.row) (sym b.0))) up)
+    lanes : (m : Mode) (p : ℕ) → ((m ≡ c.mode) × (p ≡ own_place k c)) ⊎ ¬ ((m ≡ c.mode) × (p ≡ own_place k c)) → IsLane n.cells (IsInLane (links k.rows) m p) (lane n m p)
+    lanes m p (inr ne) = subst (IsLane n.cells (IsInLane (links k.rows) m p)) (sym (take.others m p ne))
+        (lane_kept k.cells n.cells (IsInLane (links k.rows) m p) (lane k m p) slot c (kept.lanes m p) take.there (λ b. ne (sym b.0, sym b.1 ∙ ap (λ x. place_at (links k.rows) x c.row) (sym b.0))) take.cells)
     lanes m p (inl b) =
         subst (λ x. IsLane n.cells (IsInLane (links k.rows) x p) (lane n x p)) (sym b.0)
         (subst (λ q. IsLane n.cells (IsInLane (links k.rows) c.mode q) (lane n c.mode q)) (sym b.1)
-        (subst (IsLane n.cells (IsInLane (links k.rows) c.mode (place_at (links k.rows) c.mode c.row))) (sym changed)
-        (lane_less k.cells n.cells (IsInLane (links k.rows) c.mode (place_at (links k.rows) c.mode c.row)) (lane k c.mode (place_at (links k.rows) c.mode c.row)) slot c
-        (kept.lanes c.mode (place_at (links k.rows) c.mode c.row)) kept.alone there up)))
+        (subst (IsLane n.cells (IsInLane (links k.rows) c.mode (own_place k c))) (sym take.changed)
+        (lane_less k.cells n.cells (IsInLane (links k.rows) c.mode (own_place k c)) (lane k c.mode (own_place k c)) slot c (kept.lanes c.mode (own_place k c)) kept.alone take.there take.cells)))
 
 -- ---- steps of the code
 
@@ -323,17 +335,21 @@ abbrev pub mode_of : Way → Mode
 mode_of way.Read = Read
 mode_of way.Write = Write
 
+-- rows have all their lanes as before, but for those of this way
+abbrev KeepsOtherWays : Kept → Kept → Way → Type 0
+KeepsOtherWays old new w = (v : Way) → v ≢ w → SameLanes (lanes_of v old.rows.table.items) (lanes_of v new.rows.table.items)
+
 -- one lane was changed
 pub changed_row : (old new : Kept) (f : List Mark → List Mark) (mode : Mode) (w : Way) (row : ℕ) → mode ≡ mode_of w
     → ChangesLane (lanes_of w old.rows.table.items) row (f (get_or (lanes_of w old.rows.table.items) row [])) (lanes_of w new.rows.table.items)
-    → ((v : Way) → v ≢ w → SameLanes (lanes_of v old.rows.table.items) (lanes_of v new.rows.table.items))
+    → KeepsOtherWays old new w
     → (links new.rows) ≡ (links old.rows) → new.listed ≡ old.listed → new.cells ≡ old.cells → new.next_number ≡ old.next_number → new.wholes ≡ old.wholes
     → ChangesLaneOf old mode (place_at (links old.rows) mode row) (f (lane old mode (place_at (links old.rows) mode row))) new
 changed_row old new f mode w row is change others rows used cells number wholes =
     subst (λ m. ChangesLaneOf old m (place_at (links old.rows) m row) (f (lane old m (place_at (links old.rows) m row))) new) (sym is) (by w change others)
   where
     other : (v : Way) → ((p : ℕ) → ¬ (p ≡ row) → get_or (lanes_of v new.rows.table.items) p [] ≡ get_or (lanes_of v old.rows.table.items) p [])
-        → ((u : Way) → u ≢ v → SameLanes (lanes_of u old.rows.table.items) (lanes_of u new.rows.table.items))
+        → KeepsOtherWays old new v
         → (m : Mode) (p : ℕ) → ¬ ((m ≡ mode_of v) × (p ≡ row)) → lane new m p ≡ lane old m p
     other way.Read here there Read p ne = here p (λ e. ne (refl, e))
     other way.Read here there Write p ne = there way.Write (λ e. cc) p
@@ -342,7 +358,7 @@ changed_row old new f mode w row is change others rows used cells number wholes 
     other v here there Whole p ne = ap (λ l. get_or l p []) wholes
 
     by : (v : Way) → ChangesLane (lanes_of v old.rows.table.items) row (f (get_or (lanes_of v old.rows.table.items) row [])) (lanes_of v new.rows.table.items)
-        → ((u : Way) → u ≢ v → SameLanes (lanes_of u old.rows.table.items) (lanes_of u new.rows.table.items))
+        → KeepsOtherWays old new v
         → ChangesLaneOf old (mode_of v) (place_at (links old.rows) (mode_of v) row) (f (lane old (mode_of v) (place_at (links old.rows) (mode_of v) row))) new
     by way.Read one rest = record { changed = one.changed; others = other way.Read one.others rest; rows = rows; listed = used; cells = cells; number = number }
     by way.Write one rest = record { changed = one.changed; others = other way.Write one.others rest; rows = rows; listed = used; cells = cells; number = number }

@@ -130,13 +130,20 @@ listed_between l g low high row = by l.exact (since l low)
         in_log true a h = (has_of_filtered (is_numbered low high) (listings_at l g) a h).0
         in_log false a h = h
 
+-- the rows that are found between the two, where numbers of pushes tell of listings or not
+abbrev rows_found : ListedRows → ℕ → ℕ → ℕ → Bool → List ℕ
+rows_found l g low high exact = rows_of_oldest (if exact then low else 0) (if exact then filter (is_numbered low high) (listings_at l g) else listings_at l g)
+
+-- the listing is one of the row and lies between the two, and older ones came before both
+abbrev pub IsListingBetween : ListedRows → ℕ → ℕ → ℕ → Listing → Type 0
+IsListingBetween l row low top a = (a.row ≡ row) × (a.before ≤ low) × (low < a.number) × (l.exact ≡ true → a.number ≤ top)
+
 -- a row with a listing between the two, the oldest after the first, is found
 pub found_between : (l : ListedRows) (g low top high row : ℕ) → top < high → IsListedBy l g row (since l low) top → Has (rows_between l g low high) row
 found_between l g low top high row lt b = by l.exact refl (any_get _ (listings_at l g) b)
   where
-    by : (t : Bool) → l.exact ≡ t → ((a : Listing) × Has (listings_at l g) a × ((a.row ≡ row) × (a.before ≤ (if l.exact then low else 0)) × ((if l.exact then low else 0) < a.number) × (l.exact ≡ true → a.number ≤ top)))
-        → Has (rows_of_oldest (if l.exact then low else 0) (if l.exact then filter (is_numbered low high) (listings_at l g) else listings_at l g)) row
-    by true e (a, h, (is, old, late, most)) = subst (λ t. Has (rows_of_oldest (if t then low else 0) (if t then filter (is_numbered low high) (listings_at l g) else listings_at l g)) row) (sym e)
+    by : (t : Bool) → l.exact ≡ t → ((a : Listing) × Has (listings_at l g) a × IsListingBetween l row (if l.exact then low else 0) top a) → Has (rows_found l g low high l.exact) row
+    by true e (a, h, (is, old, late, most)) = subst (λ t. Has (rows_found l g low high t) row) (sym e)
         (subst (Has (rows_of_oldest low (filter (is_numbered low high) (listings_at l g)))) is
         (has_map (λ (x : Listing). x.row) (filter (is_oldest low) (filter (is_numbered low high) (listings_at l g))) a
         (has_filter (is_oldest low) (filter (is_numbered low high) (listings_at l g)) a (has_filter (is_numbered low high) (listings_at l g) a h (within low_late (most e)))
@@ -147,7 +154,7 @@ found_between l g low top high row lt b = by l.exact refl (any_get _ (listings_a
 
         within : low < a.number → a.number ≤ top → is_numbered low high a ≡ true
         within m n = and_from (nat_lt low a.number) (nat_lt a.number high) (grind (arith, m)) (grind (arith, n, lt))
-    by false e (a, h, (is, old, late, most)) = subst (λ t. Has (rows_of_oldest (if t then low else 0) (if t then filter (is_numbered low high) (listings_at l g) else listings_at l g)) row) (sym e)
+    by false e (a, h, (is, old, late, most)) = subst (λ t. Has (rows_found l g low high t) row) (sym e)
         (subst (Has (rows_of_oldest 0 (listings_at l g))) is
         (has_map (λ (x : Listing). x.row) (filter (is_oldest 0) (listings_at l g)) a
         (has_filter (is_oldest 0) (listings_at l g) a h (is_oldest_to 0 a (subst (λ t. a.before ≤ (if t then low else 0)) e old)))))
@@ -161,17 +168,21 @@ pub listed_by : (l new : ListedRows) (g row low top more : ℕ) → ((a : Listin
     → IsListedBy l g row low top → IsListedBy new g row low more
 listed_by l new g row low top more longer most b =
     let r = any_get _ (listings_at l g) b in
-    any_put (λ a. (a.row ≡ row) × (a.before ≤ low) × (low < a.number) × (new.exact ≡ true → a.number ≤ more)) (listings_at new g) r.0 (longer r.0 r.1)
+    any_put (IsListingBetween new row low more) (listings_at new g) r.0 (longer r.0 r.1)
     (r.2.0, r.2.1, r.2.2, λ e. let m = most e in omega (arith, r.2.3 m.0, m.1))
 
 -- ---- how logs change
+
+-- the listing is later than the one of its row before it, and no later than the last of its row
+abbrev IsInTurn : ListedRows → Listing → Type 0
+IsInTurn l a = (a.before < a.number) × (a.number ≤ last_listing l a.row)
 
 pub same_logged : (l new : ListedRows) → AreLogged l → SameListings l new → AreLogged new
 same_logged l new logged same = record {
   rising = λ e g. subst (EachThen (λ a b. a.number ≤ b.number)) (sym (same.logs g)) (logged.rising (sym same.exact ∙ e) g);
   chained = λ g. subst (EachThen (λ a b. a.row ≡ b.row → a.number ≤ b.before)) (sym (same.logs g)) (logged.chained g);
-  each = λ g. subst (AllIn (λ a. (a.before < a.number) × (a.number ≤ last_listing new a.row))) (sym (same.logs g))
-      (all_map _ (λ a. (a.before < a.number) × (a.number ≤ last_listing new a.row)) (listings_at l g) (λ a b. (b.0, subst (λ n. a.number ≤ n) (sym (same.last a.row)) b.1)) (logged.each g));
+  each = λ g. subst (AllIn (IsInTurn new)) (sym (same.logs g))
+      (all_map _ (IsInTurn new) (listings_at l g) (λ a b. (b.0, subst (λ n. a.number ≤ n) (sym (same.last a.row)) b.1)) (logged.each g));
 }
 
 module _ (l new : ListedRows) (logged : AreLogged l) (granule : ℕ) (a : Listing) (put : AppendsListing granule a l new) (older : a.before ≡ last_listing l a.row) (less : a.before < a.number)
@@ -191,7 +202,7 @@ module _ (l new : ListedRows) (logged : AreLogged l) (granule : ℕ) (a : Listin
   }
     where
       below : (g : ℕ) (x : Listing) → Has (listings_at l g) x → x.number ≤ last_listing l x.row
-      below g x h = (all_get (λ y. (y.before < y.number) × (y.number ≤ last_listing l y.row)) (listings_at l g) (logged.each g) x h).1
+      below g x h = (all_get (IsInTurn l) (listings_at l g) (logged.each g) x h).1
 
       rising : l.exact ≡ true → (g : ℕ) → (g ≡ granule) ⊎ (g ≢ granule) → EachThen (λ x y. x.number ≤ y.number) (listings_at new g)
       rising e g (inl is) =
@@ -208,19 +219,19 @@ module _ (l new : ListedRows) (logged : AreLogged l) (granule : ℕ) (a : Listin
           (all_put _ (listings_at l granule) (λ x h. ((λ e. omega (arith, below granule x h, ap (last_listing l) e, older)), tt))) (tt, tt)))
       chained g (inr ne) = subst (EachThen (λ x y. x.row ≡ y.row → x.number ≤ y.before)) (sym (put.others g ne)) (logged.chained g)
 
-      old : (g : ℕ) → AllIn (λ x. (x.before < x.number) × (x.number ≤ last_listing new x.row)) (listings_at l g)
-      old g = all_map _ (λ x. (x.before < x.number) × (x.number ≤ last_listing new x.row)) (listings_at l g) (λ x b. (b.0, omega (arith, b.1, last_grows x.row))) (logged.each g)
+      old : (g : ℕ) → AllIn (IsInTurn new) (listings_at l g)
+      old g = all_map _ (IsInTurn new) (listings_at l g) (λ x b. (b.0, omega (arith, b.1, last_grows x.row))) (logged.each g)
 
-      each : (g : ℕ) → (g ≡ granule) ⊎ (g ≢ granule) → AllIn (λ x. (x.before < x.number) × (x.number ≤ last_listing new x.row)) (listings_at new g)
+      each : (g : ℕ) → (g ≡ granule) ⊎ (g ≢ granule) → AllIn (IsInTurn new) (listings_at new g)
       each g (inl is) =
-          subst (λ i. AllIn (λ x. (x.before < x.number) × (x.number ≤ last_listing new x.row)) (listings_at new i)) (sym is)
-          (subst (AllIn (λ x. (x.before < x.number) × (x.number ≤ last_listing new x.row))) (sym put.log)
+          subst (λ i. AllIn (IsInTurn new) (listings_at new i)) (sym is)
+          (subst (AllIn (IsInTurn new)) (sym put.log)
           (more (listings_at l granule) (old granule)))
         where
-          more : (xs : List Listing) → AllIn (λ x. (x.before < x.number) × (x.number ≤ last_listing new x.row)) xs → AllIn (λ x. (x.before < x.number) × (x.number ≤ last_listing new x.row)) (xs ++ a ∷ [])
+          more : (xs : List Listing) → AllIn (IsInTurn new) xs → AllIn (IsInTurn new) (xs ++ a ∷ [])
           more [] all = ((less, omega (arith, put.last)), tt)
           more (x ∷ xs) all = (all.0, more xs all.1)
-      each g (inr ne) = subst (AllIn (λ x. (x.before < x.number) × (x.number ≤ last_listing new x.row))) (sym (put.others g ne)) (old g)
+      each g (inr ne) = subst (AllIn (IsInTurn new)) (sym (put.others g ne)) (old g)
 
 -- a row with a listing that stays is in use
 pub stays_used : (first : ℕ) (reads writes : List (List Mark)) (a : Listing) → stays first reads writes a ≡ true → is_used reads writes a.row ≡ true
@@ -249,23 +260,20 @@ logged_tidied l new granule first reads writes logged t apart = record {
         (subst (EachThen (λ x y. x.row ≡ y.row → x.number ≤ y.before)) (sym t.log) (filter_each (λ x y. x.row ≡ y.row → x.number ≤ y.before) p (listings_at l granule) (logged.chained granule)))
     chained g (inr ne) = subst (EachThen (λ x y. x.row ≡ y.row → x.number ≤ y.before)) (sym (t.others g ne)) (logged.chained g)
 
-    had : (g : ℕ) (x : Listing) → Has (listings_at l g) x → (x.before < x.number) × (x.number ≤ last_listing l x.row)
-    had g x h = all_get (λ y. (y.before < y.number) × (y.number ≤ last_listing l y.row)) (listings_at l g) (logged.each g) x h
+    had : (g : ℕ) (x : Listing) → Has (listings_at l g) x → IsInTurn l x
+    had g x h = all_get (IsInTurn l) (listings_at l g) (logged.each g) x h
 
-    each : (g : ℕ) → (g ≡ granule) ⊎ (g ≢ granule) → AllIn (λ x. (x.before < x.number) × (x.number ≤ last_listing new x.row)) (listings_at new g)
+    each : (g : ℕ) → (g ≡ granule) ⊎ (g ≢ granule) → AllIn (IsInTurn new) (listings_at new g)
     each g (inl is) =
-        subst (λ i. AllIn (λ x. (x.before < x.number) × (x.number ≤ last_listing new x.row)) (listings_at new i)) (sym is)
-        (subst (AllIn (λ x. (x.before < x.number) × (x.number ≤ last_listing new x.row))) (sym t.log)
-        (all_map _ (λ x. (x.before < x.number) × (x.number ≤ last_listing new x.row)) (filter p (listings_at l granule))
+        subst (λ i. AllIn (IsInTurn new) (listings_at new i)) (sym is)
+        (subst (AllIn (IsInTurn new)) (sym t.log)
+        (all_map _ (IsInTurn new) (filter p (listings_at l granule))
         (λ x b. let r = had granule x b.0 in (r.0, subst (λ n. x.number ≤ n) (sym (t.last.used x.row (stays_used first reads writes x b.1))) r.1)) (of_filter p (listings_at l granule))))
     each g (inr ne) =
-        subst (AllIn (λ x. (x.before < x.number) × (x.number ≤ last_listing new x.row))) (sym (t.others g ne))
+        subst (AllIn (IsInTurn new)) (sym (t.others g ne))
         (all_put _ (listings_at l g) (λ x h. let r = had g x h in (r.0, subst (λ n. x.number ≤ n) (sym (t.last.others x.row (λ b. ne (apart g x.row b (any_put (λ y. y.row ≡ x.row) (listings_at l g) x h refl))))) r.1)))
 
 -- ---- rows in which nothing waits have no last listing any more
-
-pub none_forgotten : (reads writes : List (List Mark)) (P : ℕ → Type 0) (old : List ℕ) → ((row : ℕ) → ¬ (P row)) → Forgets reads writes P old old
-none_forgotten reads writes P old none = record { used = λ r u. refl; gone = λ r u h. absurd (none r h); others = λ r no. refl }
 
 -- one more row was looked at
 pub forgets_more : (reads writes : List (List Mark)) (done : List Listing) (a : Listing) (old mid new : List ℕ) → Forgets reads writes (IsListedRow done) old mid → Forgets reads writes (λ r. r ≡ a.row) mid new

@@ -1,6 +1,7 @@
 -- How a lane is searched: what stands before and after the place where the search for a number ends.
 use Rattle.std.proofs.Common.{◌≡◌, ◌≢◌, ℕ, zero, suc, ◌+◌, ◌<◌, ◌≤◌, Bool, true, false, not, ◌&&◌, ◌==◌, nat_lt, cond, List, [], ◌∷◌, ◌++◌, length, take, drop}
 use Rattle.std.proofs.Common.{slice_index_or, Option, Some, None, IsSome, OnSome, refl, ap, sym, subst, inl, inr, arith}
+use Rattle.std.proofs.lemmas.Bool.{false≢true}
 use Rattle.std.specs.List.{filter, remove}
 use Rattle.std.specs.List.Sorted.{IsPartitionedBy, IsPartitionPoint}
 use Rattle.dt_lists.specs.Lists.{AllIn, Has}
@@ -217,10 +218,7 @@ none_past low high ms le = filter_none (is_between low high) ms (none ms)
 -- ---- what the searches answer
 
 pub past_all_places : (p n : ℕ) → (p < n → false ≡ true) → n ≤ p
-past_all_places p n h = elim (either_le n p) [ inl le ↦ le | inr more ↦ absurd (clash (h (omega (arith, more)))) ]
-  where
-    clash : false ≡ true → ⊥
-    clash e = cc
+past_all_places p n h = elim (either_le n p) [ inl le ↦ le | inr more ↦ absurd (false≢true (h (omega (arith, more)))) ]
 
 pub first_is : (low high : ℕ) (ms : List Mark) (p : ℕ) (m : Mark) → HasRisingNumbers ms → EndsBelow (low + 1) ms p → p < length ms → m ≡ slice_index_or ms p m → m.number < high
     → IsFirstBetween low high ms (Some m)

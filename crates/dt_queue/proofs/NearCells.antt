@@ -1,6 +1,7 @@
 -- The marks of the nearest cells before a cell that clash with it, as they are found in the lanes.
-use Rattle.std.proofs.Common.{◌≡◌, ◌⊎◌, ℕ, ◌<◌, ◌≤◌, true, false, List, []}
+use Rattle.std.proofs.Common.{◌≡◌, ◌⊎◌, ℕ, ◌<◌, ◌≤◌, List, []}
 use Rattle.std.proofs.Common.{◌∷◌, Option, Some, None, option_to_list, refl, ap, sym, subst, inl, inr, arith, ◌∙◌}
+use Rattle.std.proofs.lemmas.Bool.{cases_order, false≢true}
 use Rattle.std.specs.List.{filter}
 use Rattle.std.specs.Option.{option_or}
 use Rattle.std.proofs.Math.Nat.{lt_trans}
@@ -17,7 +18,7 @@ use Rattle.dt_queue.specs.KeptInner.{CellsClash, AreQueuesKept, HasOneNear, IsNe
 use Rattle.dt_queue.specs.LanesInner.{AreMarks, HasRisingNumbers, IsBetween, IsLastBetween, IsLastIn, IsNearInRow, is_between, number_or}
 use Rattle.dt_queue.specs.ListedInner.{rows_between}
 use Rattle.dt_queue.specs.RowsInner.{granule_at, links}
-use Rattle.dt_queue.proofs.NearMarks.{AreLanesOfRow, either_between, in_between, near_reads, near_write, row_of, same_mark, trichotomy}
+use Rattle.dt_queue.proofs.NearMarks.{AreLanesOfRow, either_between, in_between, near_reads, near_write, row_of, same_mark}
 use Rattle.dt_queue.proofs.RowsUsed.{marks_found}
 use Rattle.dt_queue.proofs.CellUses.{InUseOf, IsMarkOf, IsNarrow, apart_lanes, cell_in_row, cell_of, clash_turned, clash_uses, lane_tells, one_use}
 use Rattle.dt_queue.proofs.CellUses.{number_of_mark, on_one_row, one_cell, one_granule, narrow_cell, reads_agree, row_in_granule, taker_of, use_clashes, whole_clashes, write_clashes}
@@ -180,21 +181,18 @@ module _ (k : Kept) (kept : AreQueuesKept k) (x : Cell) (o : Option Mark) (last 
       by None l = positive
       by (Some w) l =
           let d = cell_of k kept Whole (granule_at (links k.rows) x.row) w l.0 in
-          elim (trichotomy w.number m.number) [
-            | inl less ↦ less
-            | inr more ↦ absurd (elim more [
-              | inl e ↦ differ d.0 d.2.0 (one_cell k kept w m d.0 c d.1 a e)
-              | inr gt ↦ free w.slot d.0 d.1.there (up d.0 d.1 gt) (below d.0 d.1 l.1.1)
+          elim (cases_order w.number m.number) [
+            | inl e ↦ absurd (differ d.0 d.2.0 (one_cell k kept w m d.0 c d.1 a e))
+            | inr other ↦ elim other [
+              | inl less ↦ less
+              | inr gt ↦ absurd (free w.slot d.0 d.1.there (up d.0 d.1 gt) (below d.0 d.1 l.1.1)
                   (clash_turned (links k.rows) d.0 c (whole_clashes (links k.rows) d.0 c d.2.0 (d.2.1 ∙ sym (one_granule (links k.rows) c x clash))))
-                  (whole_clashes (links k.rows) d.0 x d.2.0 d.2.1)
-            ])
+                  (whole_clashes (links k.rows) d.0 x d.2.0 d.2.1))
+            ]
           ]
         where
           differ : (d : Cell) → d.mode ≡ Whole → d ≡ c → ⊥
-          differ d e f = no_part (sym part ∙ ap (λ (y : Cell). is_whole y.mode) (sym f) ∙ ap is_whole e)
-            where
-              no_part : false ≡ true → ⊥
-              no_part e = cc
+          differ d e f = false≢true (sym part ∙ ap (λ (y : Cell). is_whole y.mode) (sym f) ∙ ap is_whole e)
 
           up : (d : Cell) → IsMarkOf k w d → m.number < w.number → c.number < d.number
           up d b gt = omega (arith, gt, number_of_mark k w d b, number_of_mark k m c a)
@@ -320,10 +318,10 @@ module _ (k : Kept) (kept : AreQueuesKept k) (x : Cell) (o : Option Mark) (last 
               let d = cell_of k kept Whole (granule_at (links k.rows) x.row) w l.0 in
               let le : m.number ≤ w.number = l.2 m h (positive c a, omega (arith, n.3, number_of_mark k m c a)) in
               same_mark taken (kept.lanes Whole (granule_at (links k.rows) x.row)).numbered w m l.0 h
-              (elim (trichotomy w.number m.number) [
-                | inl less ↦ absurd (omega (arith, less, le))
-                | inr more ↦ elim more [
-                  | inl e ↦ e
+              (elim (cases_order w.number m.number) [
+                | inl e ↦ e
+                | inr other ↦ elim other [
+                  | inl less ↦ absurd (omega (arith, less, le))
                   | inr gt ↦ absurd (n.5 w.slot d.0 d.1.there (up c a d.0 d.1 gt) (below d.0 d.1) (whole_clashes (links k.rows) c d.0 t.0 (t.1 ∙ sym d.2.1)) (whole_clashes (links k.rows) d.0 x d.2.0 d.2.1))
                 ]
               ])

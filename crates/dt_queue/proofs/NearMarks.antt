@@ -3,25 +3,20 @@ use Rattle.std.proofs.Common.{◌≡◌, ◌⊎◌, ◌↔◌, ℕ, suc, ◌+◌
 use Rattle.std.proofs.Common.{List, [], ◌∷◌, ◌++◌, length, get_or, Option, Some, None, option_to_list}
 use Rattle.std.proofs.Common.{refl, ap, sym, subst, inl, inr, arith, ◌∙◌, length-append}
 use Rattle.std.specs.List.{filter}
+use Rattle.std.proofs.lemmas.Bool.{cases_lt, cases_order}
 use Rattle.dt_lists.specs.Lists.{Has}
-use Rattle.dt_lists.proofs.Callers.{all_get, filter_each, has_filter, has_of_filtered}
+use Rattle.dt_lists.proofs.Callers.{all_get, filter_each, has_filter, has_of_filtered, some_same}
 use Rattle.dt_queue.specs.declared.mark.Mark.{Mark}
 use Rattle.std.proofs.lemmas.List.{append-nil}
 use Rattle.std.proofs.Math.Nat.{lt_trans}
 use Rattle.dt_queue.specs.LanesInner.{AddsMarks, AreApart, AreMarks, HasRisingNumbers, IsBetween, IsFirstBetween, IsFirstIn, IsLastBetween, IsLastIn, IsNearInRow, IsNextInRow, NoneBetween, is_between, number_or}
 use Rattle.dt_queue.proofs.Marks.{between_true}
 
-pub trichotomy : (a b : ℕ) → (a < b) ⊎ (a ≡ b) ⊎ (b < a)
-trichotomy a b = grind arith
-
 -- a number lies between two numbers, or not
 pub either_between : (low high : ℕ) (m : Mark) → IsBetween low high m ⊎ ¬ (IsBetween low high m)
-either_between low high m = elim (trichotomy low m.number) [
-  | inl a ↦ elim (trichotomy m.number high) [
-    | inl b ↦ inl (a, b)
-    | inr b ↦ inr (λ c. elim b [ inl e ↦ omega (arith, e, c.1) | inr lt ↦ omega (arith, lt, c.1) ])
-  ]
-  | inr a ↦ inr (λ c. elim a [ inl e ↦ omega (arith, e, c.0) | inr lt ↦ omega (arith, lt, c.0) ])
+either_between low high m = elim (cases_lt low m.number) [
+  | inl a ↦ elim (cases_lt m.number high) [ inl b ↦ inl (a, b) | inr b ↦ inr (λ c. omega (arith, b, c.1)) ]
+  | inr a ↦ inr (λ c. omega (arith, a, c.0))
 ]
 
 -- in a lane a number stands once
@@ -92,9 +87,9 @@ near_reads reads writes low high (Some w) row last r here = record {
     up m a b = omega (arith, a, b)
 
     past : (m : Mark) → Has reads m → NoneBetween m.number high writes → w.number < m.number
-    past m h none = elim (trichotomy m.number w.number) [
-      | inl less ↦ absurd (none w last.0 (less, last.1.1))
-      | inr more ↦ elim more [ inl same ↦ absurd (row.apart m w h last.0 same) | inr after ↦ after ]
+    past m h none = elim (cases_order m.number w.number) [
+      | inl same ↦ absurd (row.apart m w h last.0 same)
+      | inr other ↦ elim other [ inl less ↦ absurd (none w last.0 (less, last.1.1)) | inr after ↦ after ]
     ]
 
 -- where none does, the last write is
@@ -115,19 +110,19 @@ near_write reads writes low high (Some w) row last empty = record {
   members = λ m. (
     λ h. elim h [ inl e ↦ subst (IsNearInRow reads writes low high) e near_w | inr g ↦ absurd g ],
     λ near. inl (elim near.1 [
-      | inl read ↦ absurd (elim (trichotomy m.number w.number) [
-        | inl less ↦ read.1 w last.0 (less, last.1.1)
-        | inr more ↦ elim more [
-          | inl same ↦ row.apart m w read.0 last.0 same
+      | inl read ↦ absurd (elim (cases_order m.number w.number) [
+        | inl same ↦ row.apart m w read.0 last.0 same
+        | inr other ↦ elim other [
+          | inl less ↦ read.1 w last.0 (less, last.1.1)
           | inr after ↦ none_left m read.0 (after, near.0.1)
         ]
       ])
-      | inr write ↦ same_mark writes row.writes_numbered w m last.0 write.0 (elim (trichotomy m.number w.number) [
-        | inl less ↦ absurd (write.1 w last.0 (less, last.1.1))
-        | inr more ↦ elim more [
-          | inl same ↦ sym same
-          | inr after ↦ absurd (not_after m after (last.2 m write.0 near.0))
-        ]
+      | inr write ↦ same_mark writes row.writes_numbered w m last.0 write.0 (elim (cases_order m.number w.number) [
+        | inl same ↦ sym same
+        | inr other ↦ absurd (elim other [
+          | inl less ↦ write.1 w last.0 (less, last.1.1)
+          | inr after ↦ not_after m after (last.2 m write.0 near.0)
+        ])
       ])
     ]),
   );
@@ -166,9 +161,9 @@ next_reads reads writes low high (Some w) row first r here between m = (
     up a b = omega (arith, a, b)
 
     before : Has reads m → NoneBetween low m.number writes → m.number < w.number
-    before h none = elim (trichotomy m.number w.number) [
-      | inl less ↦ less
-      | inr more ↦ elim more [ inl same ↦ absurd (row.apart m w h first.0 same) | inr after ↦ absurd (none w first.0 (first.1.0, after)) ]
+    before h none = elim (cases_order m.number w.number) [
+      | inl same ↦ absurd (row.apart m w h first.0 same)
+      | inr other ↦ elim other [ inl less ↦ less | inr after ↦ absurd (none w first.0 (first.1.0, after)) ]
     ]
 
 -- where none does, the first write
@@ -180,27 +175,24 @@ next_write reads writes low high None row first empty m = (
 )
 next_write reads writes low high (Some w) row first empty m = (
   λ near. ap Some (elim near.1 [
-    | inl read ↦ absurd (elim (trichotomy m.number w.number) [
-      | inl less ↦ empty m read.0 (near.0.0, less)
-      | inr more ↦ elim more [
-        | inl same ↦ row.apart m w read.0 first.0 same
+    | inl read ↦ absurd (elim (cases_order m.number w.number) [
+      | inl same ↦ row.apart m w read.0 first.0 same
+      | inr other ↦ elim other [
+        | inl less ↦ empty m read.0 (near.0.0, less)
         | inr after ↦ read.1 w first.0 (first.1.0, after)
       ]
     ])
-    | inr write ↦ same_mark writes row.writes_numbered w m first.0 write.0 (elim (trichotomy m.number w.number) [
-      | inl less ↦ absurd (not_before m less (first.2 m write.0 near.0))
-      | inr more ↦ elim more [
-        | inl same ↦ sym same
-        | inr after ↦ absurd (write.1 w first.0 (first.1.0, after))
-      ]
+    | inr write ↦ same_mark writes row.writes_numbered w m first.0 write.0 (elim (cases_order m.number w.number) [
+      | inl same ↦ sym same
+      | inr other ↦ absurd (elim other [
+        | inl less ↦ not_before m less (first.2 m write.0 near.0)
+        | inr after ↦ write.1 w first.0 (first.1.0, after)
+      ])
     ])
   ]),
-  λ e. subst (IsNextInRow reads writes low high) (of_some e) next_w,
+  λ e. subst (IsNextInRow reads writes low high) (some_same e) next_w,
 )
   where
-    of_some : Some w ≡ Some m → w ≡ m
-    of_some e = cc
-
     not_before : (k : Mark) → k.number < w.number → w.number ≤ k.number → ⊥
     not_before k a b = omega (arith, a, b)
 
@@ -242,9 +234,9 @@ near_last ms low high (Some w) num l = record {
   numbered = (tt, tt);
   members = λ m. (
     λ h. elim h [ inl e ↦ subst (IsLastIn ms low high) e (l.0, l.1, λ k g b. after k (l.2 k g (lt_trans l.1.0 b.0, b.1)) b.0) | inr g ↦ absurd g ],
-    λ p. inl (same_mark ms num w m l.0 p.0 (elim (trichotomy w.number m.number) [
-      | inl less ↦ absurd (after m (l.2 m p.0 p.1) less)
-      | inr more ↦ elim more [ inl e ↦ e | inr gt ↦ absurd (p.2 w l.0 (gt, l.1.1)) ]
+    λ p. inl (same_mark ms num w m l.0 p.0 (elim (cases_order w.number m.number) [
+      | inl e ↦ e
+      | inr other ↦ absurd (elim other [ inl less ↦ after m (l.2 m p.0 p.1) less | inr gt ↦ p.2 w l.0 (gt, l.1.1) ])
     ])),
   );
 }
@@ -255,15 +247,12 @@ near_last ms low high (Some w) num l = record {
 pub next_first : (ms : List Mark) (low high : ℕ) (w : Option Mark) → HasRisingNumbers ms → IsFirstBetween low high ms w → (m : Mark) → IsFirstIn ms low high m ↔ (w ≡ Some m)
 next_first ms low high None num l m = (λ p. absurd (l m p.0 p.1), λ e. cc)
 next_first ms low high (Some w) num l m = (
-  λ p. ap Some (same_mark ms num w m l.0 p.0 (elim (trichotomy w.number m.number) [
-    | inl less ↦ absurd (p.2 w l.0 (l.1.0, less))
-    | inr more ↦ elim more [ inl e ↦ e | inr gt ↦ absurd (before m (l.2 m p.0 p.1) gt) ]
+  λ p. ap Some (same_mark ms num w m l.0 p.0 (elim (cases_order w.number m.number) [
+    | inl e ↦ e
+    | inr other ↦ absurd (elim other [ inl less ↦ p.2 w l.0 (l.1.0, less) | inr gt ↦ before m (l.2 m p.0 p.1) gt ])
   ])),
-  λ e. subst (IsFirstIn ms low high) (of_some e) (l.0, l.1, λ k g b. before k (l.2 k g (b.0, lt_trans b.1 l.1.1)) b.1),
+  λ e. subst (IsFirstIn ms low high) (some_same e) (l.0, l.1, λ k g b. before k (l.2 k g (b.0, lt_trans b.1 l.1.1)) b.1),
 )
   where
-    of_some : Some w ≡ Some m → w ≡ m
-    of_some e = cc
-
     before : (k : Mark) → w.number ≤ k.number → k.number < w.number → ⊥
     before k le lt = omega (arith, le, lt)

@@ -18,7 +18,7 @@ use Rattle.dt_queue.specs.LanesInner.{EndsBelow, HasRisingNumbers}
 use Rattle.dt_queue.specs.NumbersInner.{AreGiven, IsBeside, IsFirstBelow, IsFirstFrom, IsGap, ShowsSame, anew, renumbered}
 use Rattle.dt_queue.specs.RowsInner.{AreRowsLinked, RowLinks, links}
 use Rattle.dt_queue.proofs.InOrder.{AreAlone, IsListed, Rise, listed, same_list}
-use Rattle.dt_queue.proofs.LanesOfCells.{either_place, kept_same, rows_refl, same_lanes, same_self}
+use Rattle.dt_queue.proofs.LanesOfCells.{either_place, kept_same, own_place, rows_refl, same_lanes, same_self}
 use Rattle.dt_queue.proofs.RowsUsed.{all_the_same, listed_free, listed_same, rows_renumbered}
 use Rattle.dt_queue.proofs.EntriesOfCells.{shown_same}
 
@@ -113,6 +113,10 @@ not_placed n i (x ∷ xs) (suc p) d num ends none =
 
 -- ---- lanes
 
+-- it is the mark of a cell that is one of these
+abbrev IsMarkIn : Slab Cell → (Cell → Type 0) → Mark → Type 0
+IsMarkIn cells P m = (d : Cell) × (get cells m.slot ≡ Some d) × P d × (m ≡ mark_of m.slot d)
+
 module _ (a b : Slab Cell) (slot : ℕ) (c : Cell) (i : ℕ) (there : get a slot ≡ Some c) (up : Updates a b slot (Some (record c { number = i }))) where
   lane_renumbered : (P : Cell → Type 0) (ms : List Mark) → IsLane a P ms → AreAlone a → P (record c { number = i }) → P c → i ≤ c.number → AllIn (IsGap c.number i) ms → IsLane b P (map (renumbered c.number i) ms)
   lane_renumbered P ms l alone new old le gap = record {
@@ -124,16 +128,15 @@ module _ (a b : Slab Cell) (slot : ℕ) (c : Cell) (i : ℕ) (there : get a slot
     );
   }
     where
-      down : (m k : Mark) → renumbered c.number i k ≡ m → ((d : Cell) × (get a k.slot ≡ Some d) × P d × (k ≡ mark_of k.slot d)) → (k.slot ≡ slot) ⊎ (k.slot ≢ slot)
-          → (d : Cell) × (get b m.slot ≡ Some d) × P d × (m ≡ mark_of m.slot d)
+      down : (m k : Mark) → renumbered c.number i k ≡ m → IsMarkIn a P k → (k.slot ≡ slot) ⊎ (k.slot ≢ slot) → IsMarkIn b P m
       down m k e r (inl s) =
           let v : r.0 ≡ c = same_Some r.0 c (sym r.1 ∙ ap (get a) s ∙ there) in
           let is : k ≡ mark_of slot c = r.3 ∙ (λ j. mark_of (s j) (v j)) in
           let own : mark_of slot (record c { number = i }) ≡ m = sym (mark_at c.number i k (ap (λ (x : Mark). x.number) is) ∙ ap (λ (x : Mark). record x { number = i }) is) ∙ e in
-          subst (λ (x : Mark). (d : Cell) × (get b x.slot ≡ Some d) × P d × (x ≡ mark_of x.slot d)) own (record c { number = i }, up.changed, new, refl)
+          subst (IsMarkIn b P) own (record c { number = i }, up.changed, new, refl)
       down m k e r (inr ne) =
           let off : k.number ≢ c.number = λ f. ne (alone k.slot slot r.0 c r.1 there (sym (ap (λ (x : Mark). x.number) r.3) ∙ f)) in
-          subst (λ (x : Mark). (d : Cell) × (get b x.slot ≡ Some d) × P d × (x ≡ mark_of x.slot d)) (sym (mark_off c.number i k off) ∙ e) (r.0, up.others k.slot ne ∙ r.1, r.2, r.3)
+          subst (IsMarkIn b P) (sym (mark_off c.number i k off) ∙ e) (r.0, up.others k.slot ne ∙ r.1, r.2, r.3)
 
       back : (m : Mark) (d : Cell) → get b m.slot ≡ Some d → P d → m ≡ mark_of m.slot d → (m.slot ≡ slot) ⊎ (m.slot ≢ slot) → Has (map (renumbered c.number i) ms) m
       back m d e p is (inl s) =
@@ -200,8 +203,8 @@ gap_in k kept n i gap m p = all_put (IsGap n i) (lane k m p) (λ x h. let r = ((
 
 module _ (k n : Kept) (slot : ℕ) (c : Cell) (i : ℕ) (kept : AreQueuesKept k) (rows : (links n.rows) ≡ (links k.rows)) (there : get k.cells slot ≡ Some c) (up : Updates k.cells n.cells slot (Some (record c { number = i })))
     (le : i ≤ c.number) (gap : (s : ℕ) (d : Cell) → get k.cells s ≡ Some d → IsBeside c.number i d.number) where
-  pub kept_renumbered : n.next_number ≡ k.next_number → 0 < i → lane n c.mode (place_at (links k.rows) c.mode c.row) ≡ map (renumbered c.number i) (lane k c.mode (place_at (links k.rows) c.mode c.row))
-      → ((m : Mode) (p : ℕ) → ¬ ((m ≡ c.mode) × (p ≡ place_at (links k.rows) c.mode c.row)) → lane n m p ≡ lane k m p) → k.listed.exact ≡ false → n.listed ≡ k.listed → AreQueuesKept n
+  pub kept_renumbered : n.next_number ≡ k.next_number → 0 < i → lane n c.mode (own_place k c) ≡ map (renumbered c.number i) (lane k c.mode (own_place k c))
+      → ((m : Mode) (p : ℕ) → ¬ ((m ≡ c.mode) × (p ≡ own_place k c)) → lane n m p ≡ lane k m p) → k.listed.exact ≡ false → n.listed ≡ k.listed → AreQueuesKept n
   kept_renumbered next positive changed others free used = record {
     linked = subst AreRowsLinked (sym rows) kept.linked;
     first = subst (λ x. 0 < x) (sym next) kept.first;
@@ -209,8 +212,8 @@ module _ (k n : Kept) (slot : ℕ) (c : Cell) (i : ℕ) (kept : AreQueuesKept k)
     counted = λ s d e. counted s d e (either_nat s slot);
     alone = λ s t d x e f g. alone s t d x e f g (either_nat s slot) (either_nat t slot);
     known = λ s d e. subst (λ (r : RowLinks). d.row < length r.names) (sym rows) (known s d e (either_nat s slot));
-    lanes = λ m p. subst (λ (r : RowLinks). IsLane n.cells (IsInLane r m p) (lane n m p)) (sym rows) (lanes m p (either_place m c.mode p (place_at (links k.rows) c.mode c.row)));
-    listed = rows_renumbered k n (renumbered c.number i) c.mode (place_at (links k.rows) c.mode c.row) kept free rows used changed others;
+    lanes = λ m p. subst (λ (r : RowLinks). IsLane n.cells (IsInLane r m p) (lane n m p)) (sym rows) (lanes m p (either_place m c.mode p (own_place k c)));
+    listed = rows_renumbered k n (renumbered c.number i) c.mode (own_place k c) kept free rows used changed others;
   }
     where
       is_new : (s : ℕ) (d : Cell) → s ≡ slot → get n.cells s ≡ Some d → d ≡ record c { number = i }
@@ -236,7 +239,7 @@ module _ (k n : Kept) (slot : ℕ) (c : Cell) (i : ℕ) (kept : AreQueuesKept k)
       known s d e (inl s') = subst (λ (x : Cell). x.row < length (links k.rows).names) (sym (is_new s d s' e)) (kept.known slot c there)
       known s d e (inr ne) = kept.known s d (is_old s d ne e)
 
-      lanes : (m : Mode) (p : ℕ) → ((m ≡ c.mode) × (p ≡ place_at (links k.rows) c.mode c.row)) ⊎ ¬ ((m ≡ c.mode) × (p ≡ place_at (links k.rows) c.mode c.row)) → IsLane n.cells (IsInLane (links k.rows) m p) (lane n m p)
+      lanes : (m : Mode) (p : ℕ) → ((m ≡ c.mode) × (p ≡ own_place k c)) ⊎ ¬ ((m ≡ c.mode) × (p ≡ own_place k c)) → IsLane n.cells (IsInLane (links k.rows) m p) (lane n m p)
       lanes m p (inr ne) = subst (IsLane n.cells (IsInLane (links k.rows) m p)) (sym (others m p ne))
           (lane_beside k.cells n.cells slot c i there up (IsInLane (links k.rows) m p) (lane k m p) (kept.lanes m p) other other)
         where
@@ -245,9 +248,9 @@ module _ (k n : Kept) (slot : ℕ) (c : Cell) (i : ℕ) (kept : AreQueuesKept k)
       lanes m p (inl b) =
           subst (λ x. IsLane n.cells (IsInLane (links k.rows) x p) (lane n x p)) (sym b.0)
           (subst (λ q. IsLane n.cells (IsInLane (links k.rows) c.mode q) (lane n c.mode q)) (sym b.1)
-          (subst (IsLane n.cells (IsInLane (links k.rows) c.mode (place_at (links k.rows) c.mode c.row))) (sym changed)
-          (lane_renumbered k.cells n.cells slot c i there up (IsInLane (links k.rows) c.mode (place_at (links k.rows) c.mode c.row)) (lane k c.mode (place_at (links k.rows) c.mode c.row))
-          (kept.lanes c.mode (place_at (links k.rows) c.mode c.row)) kept.alone (refl, refl) (refl, refl) le (gap_in k kept c.number i gap c.mode (place_at (links k.rows) c.mode c.row)))))
+          (subst (IsLane n.cells (IsInLane (links k.rows) c.mode (own_place k c))) (sym changed)
+          (lane_renumbered k.cells n.cells slot c i there up (IsInLane (links k.rows) c.mode (own_place k c)) (lane k c.mode (own_place k c))
+          (kept.lanes c.mode (own_place k c)) kept.alone (refl, refl) (refl, refl) le (gap_in k kept c.number i gap c.mode (own_place k c)))))
 
   pub shown_renumbered : AreQueuesKept n → waiting_of n ≡ waiting_of k
   shown_renumbered later =

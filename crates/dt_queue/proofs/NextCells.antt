@@ -1,10 +1,11 @@
 -- The marks of the nearest cells after a cell that clash with it, as they are found in the lanes.
-use Rattle.std.proofs.Common.{◌≡◌, ◌⊎◌, ◌↔◌, ℕ, ◌<◌, ◌≤◌, true, false, List, []}
+use Rattle.std.proofs.Common.{◌≡◌, ◌⊎◌, ◌↔◌, ℕ, ◌<◌, ◌≤◌, List, []}
 use Rattle.std.proofs.Common.{◌∷◌, Option, Some, None, refl, ap, sym, subst, inl, inr, arith, ◌∙◌}
+use Rattle.std.proofs.lemmas.Bool.{cases_order, false≢true}
 use Rattle.std.proofs.Math.Nat.{lt_trans}
 use Rattle.slab.specs.Slab.{get}
 use Rattle.dt_lists.specs.Lists.{Has}
-use Rattle.dt_lists.proofs.Callers.{any_get, any_put}
+use Rattle.dt_lists.proofs.Callers.{any_get, any_put, some_same}
 use Rattle.dt_access.specs.Clash.{is_whole}
 use Rattle.dt_access.specs.declared.access.Mode.{Mode}
 use Rattle.dt_access.specs.declared.access.Mode.TheVariants.{Read, Write, Whole}
@@ -16,7 +17,7 @@ use Rattle.dt_queue.specs.LanesInner.{IsBetween, IsFirstBetween, IsNextInRow, nu
 use Rattle.dt_queue.specs.NextInner.{AreEachOnce, or_else_one}
 use Rattle.dt_queue.specs.ListedInner.{rows_between}
 use Rattle.dt_queue.specs.RowsInner.{granule_at, links}
-use Rattle.dt_queue.proofs.NearMarks.{AreLanesOfRow, next_reads, next_write, row_of, same_mark, trichotomy}
+use Rattle.dt_queue.proofs.NearMarks.{AreLanesOfRow, next_reads, next_write, row_of, same_mark}
 use Rattle.dt_queue.proofs.FollowerMarks.{first_there, once_of_one}
 use Rattle.dt_queue.proofs.RowsUsed.{marks_found}
 use Rattle.dt_queue.proofs.CellUses.{InUseOf, IsMarkOf, IsNarrow, apart_lanes, cell_in_row, cell_of, clash_turned, clash_uses, in_lane, lane_tells, one_use}
@@ -156,21 +157,18 @@ module _ (k : Kept) (kept : AreQueuesKept k) (x : Cell) (waits : IsKeptCell k x)
       by None l = below_top m c a
       by (Some w) l =
           let d = cell_of k kept Whole (granule_at (links k.rows) x.row) w l.0 in
-          elim (trichotomy m.number w.number) [
-            | inl less ↦ less
-            | inr more ↦ absurd (elim more [
-              | inl e ↦ differ d.0 d.2.0 (one_cell k kept w m d.0 c d.1 a (sym e))
-              | inr gt ↦ free w.slot d.0 d.1.there (above d.0 d.1 l.1.0) (down d.0 d.1 gt)
+          elim (cases_order m.number w.number) [
+            | inl e ↦ absurd (differ d.0 d.2.0 (one_cell k kept w m d.0 c d.1 a (sym e)))
+            | inr other ↦ elim other [
+              | inl less ↦ less
+              | inr gt ↦ absurd (free w.slot d.0 d.1.there (above d.0 d.1 l.1.0) (down d.0 d.1 gt)
                   (clash_turned (links k.rows) d.0 x (whole_clashes (links k.rows) d.0 x d.2.0 d.2.1))
-                  (whole_clashes (links k.rows) d.0 c d.2.0 (d.2.1 ∙ one_granule (links k.rows) x c clash))
-            ])
+                  (whole_clashes (links k.rows) d.0 c d.2.0 (d.2.1 ∙ one_granule (links k.rows) x c clash)))
+            ]
           ]
         where
           differ : (d : Cell) → d.mode ≡ Whole → d ≡ c → ⊥
-          differ d e f = no_part (sym part ∙ ap (λ (y : Cell). is_whole y.mode) (sym f) ∙ ap is_whole e)
-            where
-              no_part : false ≡ true → ⊥
-              no_part e = cc
+          differ d e f = false≢true (sym part ∙ ap (λ (y : Cell). is_whole y.mode) (sym f) ∙ ap is_whole e)
 
           down : (d : Cell) → IsMarkOf k w d → w.number < m.number → d.number < c.number
           down d b gt = omega (arith, gt, number_of_mark k w d b, number_of_mark k m c a)
@@ -256,11 +254,8 @@ module _ (k : Kept) (kept : AreQueuesKept k) (x : Cell) (waits : IsKeptCell k x)
 
           above : IsNextMark k x m → x.number < m.number
           above n = omega (arith, n.3, number_of_mark k m n.0 (record { there = n.1; is = n.2 }))
-      by (Some w) l none all = (λ n. ap Some (is_w n), λ e. subst (IsNextMark k x) (of_some e) next_w)
+      by (Some w) l none all = (λ n. ap Some (is_w n), λ e. subst (IsNextMark k x) (some_same e) next_w)
         where
-          of_some : Some w ≡ Some m → w ≡ m
-          of_some e = cc
-
           next_w : IsNextMark k x w
           next_w =
               let d = cell_of k kept Whole (granule_at (links k.rows) x.row) w l.0 in
@@ -289,10 +284,10 @@ module _ (k : Kept) (kept : AreQueuesKept k) (x : Cell) (waits : IsKeptCell k x)
               let d = cell_of k kept Whole (granule_at (links k.rows) x.row) w l.0 in
               let le : w.number ≤ m.number = l.2 m h (omega (arith, n.3, number_of_mark k m c a), below_top m c a) in
               same_mark taken (kept.lanes Whole (granule_at (links k.rows) x.row)).numbered w m l.0 h
-              (elim (trichotomy m.number w.number) [
-                | inl less ↦ absurd (omega (arith, less, le))
-                | inr more ↦ elim more [
-                  | inl e ↦ sym e
+              (elim (cases_order m.number w.number) [
+                | inl e ↦ sym e
+                | inr other ↦ elim other [
+                  | inl less ↦ absurd (omega (arith, less, le))
                   | inr gt ↦ absurd (n.5 w.slot d.0 d.1.there (above d.0 d.1) (down c a d.0 d.1 gt) (clash_turned (links k.rows) d.0 x (whole_clashes (links k.rows) d.0 x d.2.0 d.2.1))
                       (whole_clashes (links k.rows) d.0 c d.2.0 (d.2.1 ∙ sym t.1)))
                 ]

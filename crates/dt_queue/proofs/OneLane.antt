@@ -2,6 +2,7 @@
 use Rattle.std.proofs.Common.{◌≡◌, ◌≢◌, ℕ, zero, ◌<◌, ◌≤◌, ◌⊎◌, Bool, true, false, ◌==◌, cond, if◌then◌else◌, List, []}
 use Rattle.std.proofs.Common.{◌∷◌, ◌++◌, length, drop, map, not, is_some, Option, Some, None, Result, Ok, Err, OnOk, OnErr}
 use Rattle.std.proofs.Common.{Box, Global, refl, ap, sym, subst, inl, inr, arith, ◌∙◌}
+use Rattle.std.proofs.lemmas.Bool.{false≢true}
 use Rattle.std.specs.List.{filter}
 use Rattle.dt_lists.specs.Lists.{AllIn, Has}
 use Rattle.dt_lists.proofs.Callers.{all_get, all_map, either_nat, filter_all, filter_each}
@@ -14,9 +15,6 @@ use Rattle.dt_queue.specs.LanesInner.{EndsBelow, HasRisingNumbers, IsBetween, Is
 use Rattle.dt_queue.specs.NumbersInner.{IsGap, renumbered}
 use Rattle.dt_queue.proofs.Marks.{first_removed, is_not, numbered_more}
 use Rattle.dt_queue.proofs.NewNumbers.{marks_rise, renumbered_at}
-
-no_yes : {A : Type 0} → false ≡ true → A
-no_yes e = cc
 
 -- a lane with no first mark has none
 pub no_marks : (f : Mark) (t : List Mark) → f.number ≡ 0 → marks_of f t ≡ []
@@ -144,7 +142,7 @@ first_of_tail low high f t (Some m) one is found = (
 
 -- the last between two numbers is that of those after the first one, if there is one
 pub last_of_tail : (low high : ℕ) (f : Mark) (t : List Mark) (o : Option Mark) → IsOneLane f t → is_some o ≡ true → IsLastBetween low high t o → IsLastBetween low high (marks_of f t) o
-last_of_tail low high f t None one is none = no_yes is
+last_of_tail low high f t None one is none = absurd (false≢true is)
 last_of_tail low high f t (Some m) one is found = (
   (of_tail f t m one found.0).0,
   found.1,
@@ -167,14 +165,14 @@ last_of_first low high f t o is none = subst (IsLastBetween low high (marks_of f
 
 -- what the first mark is found to be
 pub between_none : (b n : Bool) (f : Mark) (o : Option Mark) → o ≡ (if b then Some f else None) → is_some o ≡ not n → n ≡ true → b ≡ false
-between_none true true f o e s t = no_yes (sym s ∙ ap is_some e)
-between_none true false f o e s t = no_yes t
+between_none true true f o e s t = absurd (false≢true (sym s ∙ ap is_some e))
+between_none true false f o e s t = absurd (false≢true t)
 between_none false n f o e s t = refl
 
 pub between_some : (b n : Bool) (f : Mark) (o : Option Mark) → o ≡ (if b then Some f else None) → is_some o ≡ not n → n ≡ false → (b ≡ true) × (o ≡ Some f)
 between_some true n f o e s t = (refl, e)
-between_some false n f o e s t = no_yes (sym (ap is_some e) ∙ s ∙ ap not t)
+between_some false n f o e s t = absurd (false≢true (sym (ap is_some e) ∙ s ∙ ap not t))
 
 pub none_found : (n : Bool) (o : Option Mark) → n ≡ is_some o → n ≡ false → o ≡ None
 none_found n None e t = refl
-none_found n (Some m) e t = no_yes (sym t ∙ e)
+none_found n (Some m) e t = absurd (false≢true (sym t ∙ e))

@@ -4,11 +4,11 @@ use Rattle.std.proofs.Common.{◌++◌, length, get_or, map, slice_get, slice_in
 use Rattle.std.specs.List.{list_any, position, position_from}
 use Rattle.std.proofs.lemmas.Iterator.Adapters.{position_from-zero}
 use Rattle.std.specs.Cmp.Lexicographic.{bytes_decides}
-use Rattle.std.proofs.lemmas.Bool.{and_from, and_parts}
+use Rattle.std.proofs.lemmas.Bool.{and_from, and_parts, true≢false}
 use Rattle.std.proofs.lemmas.List.{get_or_append_left, length_push}
 use Rattle.std.proofs.Math.Seq.{get_or-append_seam}
 use Rattle.dt_lists.specs.Lists.{Has}
-use Rattle.dt_lists.proofs.Callers.{any_get, any_of_test, distinct_push, place_in_longer}
+use Rattle.dt_lists.proofs.Callers.{any_get, any_of_test, distinct_push, place_in_longer, some_same}
 use Rattle.dt_access.specs.Clash.{Bytes, same_key}
 use Rattle.dt_access.proofs.Callers.{same_key_self}
 use Rattle.dt_queue.specs.RowsInner.{AreTied, granule_name, name_at}
@@ -79,10 +79,7 @@ named_from name (x ∷ xs) start i e = by (same_name name x) refl e (λ f. named
   where
     by : (t : Bool) → same_name name x ≡ t → Some i ≡ cond t (Some start) (position_from (same_name name) (start + 1) xs)
         → (Some i ≡ position_from (same_name name) (start + 1) xs → (j : ℕ) × (i ≡ start + 1 + j) × (slice_get xs j ≡ Some name)) → (j : ℕ) × (i ≡ start + j) × (slice_get (x ∷ xs) j ≡ Some name)
-    by true t f rest = let s : i ≡ start = value f in (0, omega (arith, s), ap Some (sym (same_of_test name x t)))
-      where
-        value : Some i ≡ Some start → i ≡ start
-        value f = cc
+    by true t f rest = let s : i ≡ start = some_same f in (0, omega (arith, s), ap Some (sym (same_of_test name x t)))
     by false t f rest = let r = rest f in (suc r.0, omega (arith, r.1), r.2)
 
 pub named_at : (name : ℕ × Bytes) (xs : List (ℕ × Bytes)) (i : ℕ) → Some i ≡ position (same_name name) xs → slice_get xs i ≡ Some name
@@ -95,10 +92,7 @@ unnamed_from name (x ∷ xs) start e h = by (same_name name x) refl e (λ f. unn
   where
     by : (t : Bool) → same_name name x ≡ t → None ≡ cond t (Some start) (position_from (same_name name) (start + 1) xs) → (None ≡ position_from (same_name name) (start + 1) xs → ¬ (Has xs name)) → ⊥
     by true t f rest = cc
-    by false t f rest = elim h [ inl s ↦ clash (sym (subst (λ y. same_name name y ≡ true) (sym s) (test_of_self name)) ∙ t) | inr g ↦ rest f g ]
-      where
-        clash : true ≡ false → ⊥
-        clash e = cc
+    by false t f rest = elim h [ inl s ↦ true≢false (sym (subst (λ y. same_name name y ≡ true) (sym s) (test_of_self name)) ∙ t) | inr g ↦ rest f g ]
 
 pub unnamed : (name : ℕ × Bytes) (xs : List (ℕ × Bytes)) → None ≡ position (same_name name) xs → ¬ (Has xs name)
 unnamed name xs e = unnamed_from name xs 0 (e ∙ position_from-zero (same_name name) xs)

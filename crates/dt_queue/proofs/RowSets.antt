@@ -1,6 +1,6 @@
 -- Lists by the numbers of rows and granules: what they tell of each, as they get longer or one of their items is changed.
-use Rattle.std.proofs.Common.{◌≡◌, ℕ, zero, suc, ◌<◌, ◌≤◌, List, [], ◌∷◌, ◌++◌, map, length, get_or, set, slice_index_or}
-use Rattle.std.proofs.Common.{true, false, refl, ap, sym, arith, ◌∙◌}
+use Rattle.std.proofs.Common.{◌≡◌, ℕ, zero, suc, ◌<◌, List, [], ◌∷◌, ◌++◌, map, length, get_or, set, slice_index_or}
+use Rattle.std.proofs.Common.{refl, ap, sym, arith, ◌∙◌}
 use Rattle.std.proofs.lemmas.List.{get_or_read, get_or-set_same, length-map, map-set}
 use Rattle.std.proofs.Math.ListN.{get_or-map}
 
@@ -25,18 +25,9 @@ within_room [] i lt = absurd (omega (arith, lt))
 within_room (r ∷ rooms) zero lt = omega arith
 within_room (r ∷ rooms) (suc i) lt = let le : i < length rooms = within_room rooms i lt in omega (arith, le)
 
--- past the end there is no list
-pub past : {A : Type 0} (lists : List (List A)) (i : ℕ) → length lists ≤ i → get_or lists i [] ≡ []
-past [] i le = refl
-past (l ∷ lists) zero le = absurd (omega (arith, le))
-past (l ∷ lists) (suc i) le = past lists i (omega (arith, le))
-
 -- what is told past the end does not show behind the others
 pub told_behind : {A : Type 0} (xs : List A) (d : A) (r : ℕ) → get_or (xs ++ d ∷ []) r d ≡ get_or xs r d
 told_behind [] d zero = refl
 told_behind [] d (suc r) = refl
 told_behind (x ∷ xs) d zero = refl
 told_behind (x ∷ xs) d (suc r) = told_behind xs d r
-
-pub true_no : true ≡ false → ⊥
-true_no e = cc

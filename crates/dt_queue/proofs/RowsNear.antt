@@ -89,8 +89,12 @@ sorted_marks P rows old new had moves sorted = record {
   );
 }
 
+-- it is one of the nearest marks of a row
+abbrev pub IsNearIn : List (List Mark) → List (List Mark) → ℕ → ℕ → ℕ → Mark → Type 0
+IsNearIn reads writes low high row m = IsNearInRow (get_or reads row []) (get_or writes row []) low high m
+
 -- marks that are near in different rows have different numbers
-pub near_parted : (reads writes : List (List Mark)) (low high : ℕ) → AreApart reads writes → AreParted (λ row m. IsNearInRow (get_or reads row []) (get_or writes row []) low high m)
+pub near_parted : (reads writes : List (List Mark)) (low high : ℕ) → AreApart reads writes → AreParted (IsNearIn reads writes low high)
 near_parted reads writes low high a r s m k p q e = elim p.1 [
   | inl x ↦ elim q.1 [ inl y ↦ a.of_reads r s m k x.0 y.0 e | inr y ↦ absurd (a.of_both r s m k x.0 y.0 e) ]
   | inr x ↦ elim q.1 [ inl y ↦ absurd (a.of_both s r k m y.0 x.0 (sym e)) | inr y ↦ a.of_writes r s m k x.0 y.0 e ]

@@ -1,10 +1,8 @@
 -- Listed rows: between each entry that takes a granule whole and each mark of a row after it the row is listed. So it is after a row
 -- was listed, after a log was tidied, and after a mark was added, taken out or renumbered.
-use Rattle.std.proofs.Common.{◌≡◌, ◌≢◌, ◌⊎◌, ℕ, ◌<◌, ◌≤◌, Bool, true, false, not, ◌==◌, ◌||◌, nat_lt, if◌then◌else◌, List, [], ◌∷◌, ◌++◌, map, Result, Ok, Err, OnOk, OnErr}
-use Rattle.std.proofs.Common.{◌+◌, ◌^◌, length, Option, None, Some, refl, ap, sym, subst, inl, inr, arith, ◌∙◌}
-use Rattle.std.specs.List.{filter}
-use Rattle.std.proofs.lemmas.Bool.{and_from}
-use Rattle.slab.specs.Slab.{Updates, get}
+use Rattle.std.proofs.Common.{◌≡◌, ◌≢◌, ◌⊎◌, ℕ, ◌<◌, ◌≤◌, Bool, true, false, not, ◌==◌, ◌||◌, nat_lt, if◌then◌else◌, List, [], ◌∷◌, map, Result, Ok, Err, OnOk, OnErr}
+use Rattle.std.proofs.Common.{length, Option, None, Some, refl, ap, sym, subst, inl, inr, arith, ◌∙◌}
+use Rattle.std.proofs.lemmas.Bool.{and_from, false≢true, or_left, or_right, true≢false}
 use Rattle.dt_lists.specs.Lists.{AnyIn, Has}
 use Rattle.dt_lists.proofs.Callers.{any_append, any_append_right, any_get, any_of_image, any_put, either_any, either_le, either_nat, front_length, has_filter, has_longer, has_of_filtered}
 use Rattle.dt_access.specs.Clash.{is_whole}
@@ -16,28 +14,22 @@ use Rattle.dt_queue.specs.declared.kept.Kept.{Kept}
 use Rattle.dt_queue.specs.declared.listed.ListedRows.{ListedRows}
 use Rattle.dt_queue.specs.declared.listing.Listing.{Listing}
 use Rattle.dt_queue.specs.ListedInner.{AppendsListing, AreLogged, IsListedBy, IsListedRow, ListsRow, SameListings, Tidies, is_used, last_listing, listings_at, rows_between, since, stays}
-use Rattle.dt_queue.specs.KeptInner.{AreQueuesKept, AreRowsListed, ChangesLaneOf, IsEntered, IsLow, IsTakenWhole, IsTop, lane, mark_of, place_at}
+use Rattle.dt_queue.specs.KeptInner.{AreQueuesKept, AreRowsListed, IsEntered, IsLow, IsTakenWhole, IsTop, lane, mark_of, place_at}
 use Rattle.dt_queue.specs.LanesInner.{IsFirstBetween, IsLastBetween, number_or}
 use Rattle.dt_queue.specs.TableInner.{lanes_read, lanes_written}
-use Rattle.dt_queue.specs.RowsInner.{AreRowsLinked, KeepsRows, RowLinks, granule_at, links}
-use Rattle.dt_queue.proofs.Listings.{found_between, listed_by, listed_row, logged_appended, logged_tidied, same_logged}
-use Rattle.dt_queue.proofs.LanesOfCells.{either_place, kept_pushed, rows_refl}
+use Rattle.dt_queue.specs.RowsInner.{KeepsRows, RowLinks, granule_at, links}
+use Rattle.dt_queue.proofs.Listings.{IsListingBetween, found_between, listed_by, listed_row, logged_appended, logged_tidied, same_logged}
+use Rattle.dt_queue.proofs.LanesOfCells.{PushesCell, TakesCell, either_place, kept_pushed, own_place, rows_refl}
 
 -- the mode takes no granule as a whole
 abbrev IsPart : Mode → Type 0
 IsPart mode = is_whole mode ≡ false
 
-whole_no : {A : Type 0} → true ≡ false → A
-whole_no e = cc
-
-no_whole : {A : Type 0} → false ≡ true → A
-no_whole e = cc
-
 -- reads and writes have their lanes at their row
 at_row : (r : RowLinks) (mode : Mode) (row : ℕ) → IsPart mode → place_at r mode row ≡ row
 at_row r Read row part = refl
 at_row r Write row part = refl
-at_row r Whole row part = whole_no part
+at_row r Whole row part = absurd (true≢false part)
 
 -- a mark of a row, by its lane
 abbrev pub IsOfRow : Kept → ℕ → Mark → Type 0
@@ -50,7 +42,7 @@ of_row k row m (inr h) = (Write, refl, h)
 to_row : (k : Kept) (row : ℕ) (m : Mark) (mode : Mode) → IsPart mode → Has (lane k mode row) m → IsOfRow k row m
 to_row k row m Read part h = inl h
 to_row k row m Write part h = inr h
-to_row k row m Whole part h = whole_no part
+to_row k row m Whole part h = absurd (true≢false part)
 
 -- where something is listed before a top, the row is known
 known_of : (k : Kept) → AreRowsListed k → (row top : ℕ) → IsTop k row top → 0 < top → row < length (links k.rows).names
@@ -93,61 +85,57 @@ keeps_links k n rows = subst (KeepsRows (links k.rows)) (sym rows) (rows_refl (l
 pub all_the_same : (k n : Kept) → n.listed ≡ k.listed → SameListings k.listed n.listed
 all_the_same k n list = record { logs = λ g. ap (λ l. listings_at l g) list; last = λ row. ap (λ l. last_listing l row) list; exact = ap (λ (l : ListedRows). l.exact) list }
 
--- a mark was taken out of the lane of a row
-pub rows_removed : (k n : Kept) (mode : Mode) (place number : ℕ) → AreQueuesKept k → (links n.rows) ≡ (links k.rows) → n.listed ≡ k.listed → n.next_number ≡ k.next_number
-    → lane n mode place ≡ filter (λ m. not (m.number == number)) (lane k mode place) → AreOthers k n mode place → AreRowsListed n
-rows_removed k n mode place number kept rows list next changed others =
-    listed_same k n kept.listed (keeps_links k n rows) (all_the_same k n list) (omega (arith, next)) within
+-- a cell was taken out
+pub rows_removed : (k n : Kept) (slot : ℕ) (c : Cell) → AreQueuesKept k → TakesCell k n slot c → AreRowsListed n
+rows_removed k n slot c kept take = listed_same k n kept.listed (keeps_links k n take.rows) (all_the_same k n take.listed) (omega (arith, take.number)) within
   where
     within : (m : Mode) (p : ℕ) (x : Mark) → Has (lane n m p) x → Has (lane k m p) x
-    within m p x h = elim (either_place m mode p place) [
-      | inl b ↦ subst (λ o. Has (lane k o p) x) (sym b.0) (subst (λ q. Has (lane k mode q) x) (sym b.1)
-          (has_of_filtered (λ (y : Mark). not (y.number == number)) (lane k mode place) x
-          (subst (λ l. Has l x) changed (subst (λ q. Has (lane n mode q) x) b.1 (subst (λ o. Has (lane n o p) x) b.0 h)))).0)
-      | inr ne ↦ subst (λ l. Has l x) (others m p ne) h
+    within m p x h = elim (either_place m c.mode p (own_place k c)) [
+      | inl b ↦ subst (λ o. Has (lane k o p) x) (sym b.0) (subst (λ q. Has (lane k c.mode q) x) (sym b.1)
+          (has_of_filtered (λ (y : Mark). not (y.number == c.number)) (lane k c.mode (own_place k c)) x
+          (subst (λ l. Has l x) take.changed (subst (λ q. Has (lane n c.mode q) x) b.1 (subst (λ o. Has (lane n o p) x) b.0 h)))).0)
+      | inr ne ↦ subst (λ l. Has l x) (take.others m p ne) h
     ]
 
--- a mark with the next number was put to the lane of a row, for which the row is listed where it reads or writes it
-pub rows_pushed : (k n : Kept) (mode : Mode) (row : ℕ) (new : Mark) → AreQueuesKept k → (links n.rows) ≡ (links k.rows) → n.listed ≡ k.listed → new.number ≡ k.next_number → k.next_number ≤ n.next_number
-    → lane n mode (place_at (links k.rows) mode row) ≡ lane k mode (place_at (links k.rows) mode row) ++ new ∷ [] → AreOthers k n mode (place_at (links k.rows) mode row)
-    → (IsPart mode → IsEntered k row) → AreRowsListed n
-rows_pushed k n mode row new kept rows list number later changed others entered = record {
-  logged = subst AreLogged (sym list) kept.listed.logged;
-  own = λ g r h. subst (λ (x : RowLinks). (r < length x.names) × (granule_at x r ≡ g)) (sym rows) (kept.listed.own g r (subst (λ l. IsListedRow (listings_at l g) r) list h));
-  latest = λ e r. omega (arith, kept.listed.latest (exact e) r, ap (λ l. last_listing l r) list, later);
+-- a cell was pushed, for whose row the row is listed where it reads or writes it
+pub rows_pushed : (k n : Kept) (slot : ℕ) (c : Cell) → AreQueuesKept k → PushesCell k n slot c → (IsPart c.mode → IsEntered k c.row) → AreRowsListed n
+rows_pushed k n slot c kept push entered = record {
+  logged = subst AreLogged (sym push.listed) kept.listed.logged;
+  own = λ g r h. subst (λ (x : RowLinks). (r < length x.names) × (granule_at x r ≡ g)) (sym push.rows) (kept.listed.own g r (subst (λ l. IsListedRow (listings_at l g) r) push.listed h));
+  latest = λ e r. omega (arith, kept.listed.latest (exact e) r, ap (λ l. last_listing l r) push.listed, push.number, push.next);
   covered = λ r low top lo to lt.
-      subst (λ (x : RowLinks). IsListedBy n.listed (granule_at x r) r low top) (sym rows)
-      (subst (λ l. IsListedBy l (granule_at (links k.rows) r) r low top) (sym list)
-      (covered r low top (was_low (granule_at (links k.rows) r) low (subst (λ (x : RowLinks). IsLow n (granule_at x r) low) rows lo)) (was_top r top to) lt));
+      subst (λ (x : RowLinks). IsListedBy n.listed (granule_at x r) r low top) (sym push.rows)
+      (subst (λ l. IsListedBy l (granule_at (links k.rows) r) r low top) (sym push.listed)
+      (covered r low top (was_low (granule_at (links k.rows) r) low (subst (λ (x : RowLinks). IsLow n (granule_at x r) low) push.rows lo)) (was_top r top to) lt));
 }
   where
     exact : n.listed.exact ≡ true → k.listed.exact ≡ true
-    exact e = sym (ap (λ (l : ListedRows). l.exact) list) ∙ e
+    exact e = sym (ap (λ (l : ListedRows). l.exact) push.listed) ∙ e
 
-    came : (m : Mode) (p : ℕ) (x : Mark) → Has (lane n m p) x → Has (lane k m p) x ⊎ (m ≡ mode) × (p ≡ place_at (links k.rows) mode row) × (new ≡ x)
-    came m p x h = elim (either_place m mode p (place_at (links k.rows) mode row)) [
-      | inl b ↦ elim (any_append (λ y. y ≡ x) (lane k mode (place_at (links k.rows) mode row)) (new ∷ [])
-          (subst (λ l. Has l x) changed (subst (λ q. Has (lane n mode q) x) b.1 (subst (λ o. Has (lane n o p) x) b.0 h)))) [
-            | inl old ↦ inl (subst (λ o. Has (lane k o p) x) (sym b.0) (subst (λ q. Has (lane k mode q) x) (sym b.1) old))
+    came : (m : Mode) (p : ℕ) (x : Mark) → Has (lane n m p) x → Has (lane k m p) x ⊎ (m ≡ c.mode) × (p ≡ own_place k c) × (mark_of slot c ≡ x)
+    came m p x h = elim (either_place m c.mode p (own_place k c)) [
+      | inl b ↦ elim (any_append (λ y. y ≡ x) (lane k c.mode (own_place k c)) (mark_of slot c ∷ [])
+          (subst (λ l. Has l x) push.changed (subst (λ q. Has (lane n c.mode q) x) b.1 (subst (λ o. Has (lane n o p) x) b.0 h)))) [
+            | inl old ↦ inl (subst (λ o. Has (lane k o p) x) (sym b.0) (subst (λ q. Has (lane k c.mode q) x) (sym b.1) old))
             | inr one ↦ inr (b.0, b.1, elim one [ inl e ↦ e | inr e ↦ absurd e ])
           ]
-      | inr ne ↦ inl (subst (λ l. Has l x) (others m p ne) h)
+      | inr ne ↦ inl (subst (λ l. Has l x) (push.others m p ne) h)
     ]
 
     was_low : (g low : ℕ) → IsLow n g low → IsLow k g low ⊎ (k.listed.exact ≡ true) × (low ≡ k.next_number)
     was_low g low (inl e) = inl (inl e)
     was_low g low (inr (e, (m, h, is))) = elim (came Whole g m h) [
       | inl old ↦ inl (inr (exact e, (m, old, is)))
-      | inr b ↦ inr (exact e, sym is ∙ ap (λ (x : Mark). x.number) (sym b.2) ∙ number)
+      | inr b ↦ inr (exact e, sym is ∙ ap (λ (x : Mark). x.number) (sym b.2) ∙ push.number)
     ]
 
-    was_top : (r top : ℕ) → IsTop n r top → IsTop k r top ⊎ IsPart mode × (r ≡ row) × (top ≡ k.next_number)
-    was_top r top (inl e) = inl (inl (e ∙ ap (λ l. last_listing l r) list))
+    was_top : (r top : ℕ) → IsTop n r top → IsTop k r top ⊎ IsPart c.mode × (r ≡ c.row) × (top ≡ k.next_number)
+    was_top r top (inl e) = inl (inl (e ∙ ap (λ l. last_listing l r) push.listed))
     was_top r top (inr (m, h, is)) =
         let a = of_row n r m h in
         elim (came a.0 r m a.2) [
           | inl old ↦ inl (inr (m, to_row k r m a.0 a.1 old, is))
-          | inr b ↦ inr (subst IsPart b.0 a.1, b.1 ∙ at_row (links k.rows) mode row (subst IsPart b.0 a.1), sym is ∙ ap (λ (x : Mark). x.number) (sym b.2) ∙ number)
+          | inr b ↦ inr (subst IsPart b.0 a.1, b.1 ∙ at_row (links k.rows) c.mode c.row (subst IsPart b.0 a.1), sym is ∙ ap (λ (x : Mark). x.number) (sym b.2) ∙ push.number)
         ]
 
     -- nothing is as late as the next push
@@ -155,10 +143,10 @@ rows_pushed k n mode row new kept rows list number later changed others entered 
     early r top e (inl is) = omega (arith, is, kept.listed.latest e r)
     early r top e (inr (m, h, is)) =
         let a = of_row k r m h in
-        let c = ((kept.lanes a.0 r).members m).0 a.2 in
-        omega (arith, is, (kept.counted m.slot c.0 c.1).1, ap (λ (x : Mark). x.number) c.3)
+        let d = ((kept.lanes a.0 r).members m).0 a.2 in
+        omega (arith, is, (kept.counted m.slot d.0 d.1).1, ap (λ (x : Mark). x.number) d.3)
 
-    covered : (r low top : ℕ) → IsLow k (granule_at (links k.rows) r) low ⊎ (k.listed.exact ≡ true) × (low ≡ k.next_number) → IsTop k r top ⊎ IsPart mode × (r ≡ row) × (top ≡ k.next_number) → low < top
+    covered : (r low top : ℕ) → IsLow k (granule_at (links k.rows) r) low ⊎ (k.listed.exact ≡ true) × (low ≡ k.next_number) → IsTop k r top ⊎ IsPart c.mode × (r ≡ c.row) × (top ≡ k.next_number) → low < top
         → IsListedBy k.listed (granule_at (links k.rows) r) r low top
     covered r low top (inl lo) (inl to) lt = kept.listed.covered r low top lo to lt
     covered r low top (inl lo) (inr b) lt =
@@ -168,39 +156,26 @@ rows_pushed k n mode row new kept rows list number later changed others entered 
     covered r low top (inr e) (inl to) lt = absurd (omega (arith, e.1, early r top e.0 to, lt))
     covered r low top (inr e) (inr b) lt = absurd (omega (arith, e.1, b.2, lt))
 
--- a push, once its row is listed: a mark was added, and the cell was put
-pub push_steps : (mid marked n : Kept) (slot : ℕ) (c : Cell) → AreQueuesKept mid
-    → ChangesLaneOf mid c.mode (place_at (links mid.rows) c.mode c.row) (lane mid c.mode (place_at (links mid.rows) c.mode c.row) ++ mark_of slot c ∷ []) marked
-    → (links n.rows) ≡ (links marked.rows) → n.listed ≡ marked.listed → ((m : Mode) (p : ℕ) → lane n m p ≡ lane marked m p) → Updates marked.cells n.cells slot (Some c) → get marked.cells slot ≡ None
-    → c.number ≡ mid.next_number → n.next_number ≡ c.number + 1 → n.next_number < 2 ^ 64 → c.row < length (links mid.rows).names → (IsPart c.mode → IsEntered mid c.row) → AreQueuesKept n
-push_steps mid marked n slot c kept change rows list same up vacant number next within row entered =
-    let moved : (links n.rows) ≡ (links mid.rows) = rows ∙ change.rows in
-    let old : (s : ℕ) → get marked.cells s ≡ get mid.cells s = λ s. ap (λ x. get x s) change.cells in
-    let updates : Updates mid.cells n.cells slot (Some c) = record { changed = up.changed; others = λ s ne. up.others s ne ∙ old s } in
-    let changed : lane n c.mode (place_at (links mid.rows) c.mode c.row) ≡ lane mid c.mode (place_at (links mid.rows) c.mode c.row) ++ mark_of slot c ∷ [] =
-    same c.mode (place_at (links mid.rows) c.mode c.row) ∙ change.changed in
-    let others : AreOthers mid n c.mode (place_at (links mid.rows) c.mode c.row) = λ m p ne. same m p ∙ change.others m p ne in
-    kept_pushed mid n slot c kept (subst AreRowsLinked (sym moved) kept.linked) (keeps_links mid n moved) updates (sym (old slot) ∙ vacant) number next within (subst (λ (r : RowLinks). c.row < length r.names) (sym moved) row)
-    (subst (λ (r : RowLinks). lane n c.mode (place_at r c.mode c.row) ≡ lane mid c.mode (place_at r c.mode c.row) ++ mark_of slot c ∷ []) (sym moved) changed)
-    (subst (λ (r : RowLinks). AreOthers mid n c.mode (place_at r c.mode c.row)) (sym moved) others)
-    (rows_pushed mid n c.mode c.row (mark_of slot c) kept moved (list ∙ change.listed) number (omega (arith, number, next)) changed others entered)
+-- so all queues are kept
+pub queues_pushed : (k n : Kept) (slot : ℕ) (c : Cell) → AreQueuesKept k → PushesCell k n slot c → (IsPart c.mode → IsEntered k c.row) → AreQueuesKept n
+queues_pushed k n slot c kept push entered = kept_pushed k n slot c kept push (rows_pushed k n slot c kept push entered)
 
 -- ---- numbers tell nothing
 
 -- numbers of pushes tell nothing of listings any more
 pub listed_free : (k : Kept) → AreRowsListed k → AreRowsListed (record k { listed = record k.listed { exact = false } })
 listed_free k listed = record {
-  logged = record { rising = λ e g. no_whole e; chained = listed.logged.chained; each = listed.logged.each };
+  logged = record { rising = λ e g. absurd (false≢true e); chained = listed.logged.chained; each = listed.logged.each };
   own = listed.own;
-  latest = λ e row. no_whole e;
+  latest = λ e row. absurd (false≢true e);
   covered = λ row low top lo to lt. covered row low top lo to lt;
 }
   where
     covered : (row low top : ℕ) → (low ≡ 0) ⊎ (false ≡ true) × ((m : Mark) × Has (lane k Whole (granule_at (links k.rows) row)) m × (m.number ≡ low)) → IsTop k row top → low < top
         → IsListedBy (record k.listed { exact = false }) (granule_at (links k.rows) row) row low top
     covered row low top (inl e) to lt =
-        listed_by k.listed (record k.listed { exact = false }) (granule_at (links k.rows) row) row low top top (λ a h. h) (λ e. no_whole e) (listed.covered row low top (inl e) to lt)
-    covered row low top (inr b) to lt = no_whole b.0
+        listed_by k.listed (record k.listed { exact = false }) (granule_at (links k.rows) row) row low top top (λ a h. h) (λ e. absurd (false≢true e)) (listed.covered row low top (inl e) to lt)
+    covered row low top (inr b) to lt = absurd (false≢true b.0)
 
 -- then marks may have other numbers
 pub rows_renumbered : (k n : Kept) (f : Mark → Mark) (mode : Mode) (place : ℕ) → AreQueuesKept k → k.listed.exact ≡ false → (links n.rows) ≡ (links k.rows) → n.listed ≡ k.listed
@@ -216,7 +191,7 @@ rows_renumbered k n f mode place kept free rows list changed others = record {
 }
   where
     not_free : {A : Type 0} → n.listed.exact ≡ true → A
-    not_free e = no_whole (sym free ∙ sym (ap (λ (l : ListedRows). l.exact) list) ∙ e)
+    not_free e = absurd (false≢true (sym free ∙ sym (ap (λ (l : ListedRows). l.exact) list) ∙ e))
 
     is_zero : (g low : ℕ) → IsLow n g low → low ≡ 0
     is_zero g low (inl e) = e
@@ -233,7 +208,7 @@ rows_renumbered k n f mode place kept free rows list changed others = record {
     ]
 
     freely : (r low top other : ℕ) → IsListedBy k.listed (granule_at (links k.rows) r) r low other → IsListedBy k.listed (granule_at (links k.rows) r) r low top
-    freely r low top other b = listed_by k.listed k.listed (granule_at (links k.rows) r) r low other top (λ a h. h) (λ e. no_whole (sym free ∙ e)) b
+    freely r low top other b = listed_by k.listed k.listed (granule_at (links k.rows) r) r low other top (λ a h. h) (λ e. absurd (false≢true (sym free ∙ e))) b
 
     covered : (r low top : ℕ) → low ≡ 0 → IsTop n r top → low < top → IsListedBy k.listed (granule_at (links k.rows) r) r low top
     covered r low top zero (inl e) lt = kept.listed.covered r low top (inl zero) (inl (e ∙ ap (λ l. last_listing l r) list)) lt
@@ -258,16 +233,11 @@ first_of_takers k kept g top o within first m h = by o first
 
 -- what waits in a row shows
 pub told_used : (k : Kept) (row : ℕ) (m : Mark) → IsOfRow k row m → is_used (lanes_read k.rows.table.items) (lanes_written k.rows.table.items) row ≡ true
-told_used k row m h = either _ _ (elim h [ inl r ↦ inl (some (lane k Read row) m r) | inr w ↦ inr (some (lane k Write row) m w) ])
+told_used k row m h = elim h [ inl r ↦ or_left _ _ (some (lane k Read row) m r) | inr w ↦ or_right _ _ (some (lane k Write row) m w) ]
   where
     some : (ms : List Mark) (m : Mark) → Has ms m → not (length ms == 0) ≡ true
     some [] m h = absurd h
     some (x ∷ ms) m h = grind arith
-
-    either : (a b : Bool) → (a ≡ true) ⊎ (b ≡ true) → (a || b) ≡ true
-    either true b e = refl
-    either false b (inl e) = cc
-    either false b (inr e) = e
 
 pub listed_tidied : (k : Kept) (granule first : ℕ) (new : ListedRows) → AreRowsListed k → ((m : Mark) → Has (lane k Whole granule) m → first ≤ m.number)
     → Tidies granule first (lanes_read k.rows.table.items) (lanes_written k.rows.table.items) k.listed new → AreRowsListed (record k { listed = new })
@@ -323,7 +293,7 @@ listed_tidied k granule first new listed takers t = record {
         → IsListedBy new (granule_at (links k.rows) row) row low top
     covered row low top lo to lt true u =
         kept_on (granule_at (links k.rows) row) row low top u lo (either_nat (granule_at (links k.rows) row) granule) (listed.covered row low top lo (elim to [ inl e ↦ inl (e ∙ t.last.used row u) | inr r ↦ inr r ]) lt)
-    covered row low top lo (inr (m, h, is)) lt false u = whole_no (sym (told_used k row m h) ∙ u)
+    covered row low top lo (inr (m, h, is)) lt false u = absurd (true≢false (sym (told_used k row m h) ∙ u))
     covered row low top lo (inl e) lt false u = elim (listed_here row) [
       | inl h ↦ absurd (omega (arith, t.last.gone row u h, e, lt))
       | inr absent ↦
@@ -353,12 +323,16 @@ last_of_takers k kept g top o within last = (below o last, λ low lo. by k.liste
     by : (t : Bool) → k.listed.exact ≡ t → (low : ℕ) → IsLow k g low → low ≤ (if k.listed.exact then number_or o 0 else 0)
     by t e low (inl zero) = omega (arith, zero)
     by true e low (inr (f, (m, h, is))) = subst (λ x. low ≤ (if x then number_or o 0 else 0)) (sym e) (omega (arith, most m h o last, is))
-    by false e low (inr (f, r)) = whole_no (sym f ∙ e)
+    by false e low (inr (f, r)) = absurd (true≢false (sym f ∙ e))
 
 module _ (k : Kept) (kept : AreQueuesKept k) (row granule whole : ℕ) (new : ListedRows) (row_in : row < length (links k.rows).names) (in_granule : granule ≡ granule_at (links k.rows) row)
     (before : whole < k.next_number) (lows : (low : ℕ) → IsLow k granule low → low ≤ since k.listed whole) (change : ListsRow granule row k.next_number whole k.listed new) where
   abbrev now : Kept
   now = record k { listed = new }
+
+  -- the listing of the row for the next push
+  abbrev listing : Listing
+  listing = record { row = row; number = k.next_number; before = last_listing k.listed row }
 
   since_before : since k.listed whole < k.next_number
   since_before = by k.listed.exact
@@ -367,7 +341,7 @@ module _ (k : Kept) (kept : AreQueuesKept k) (row granule whole : ℕ) (new : Li
       by true = before
       by false = kept.first
 
-  module _ (old_last : last_listing k.listed row ≤ since k.listed whole) (put : AppendsListing granule (record { row = row; number = k.next_number; before = last_listing k.listed row }) k.listed new) where
+  module _ (old_last : last_listing k.listed row ≤ since k.listed whole) (put : AppendsListing granule listing k.listed new) where
     longer : (g : ℕ) (a : Listing) → Has (listings_at k.listed g) a → Has (listings_at new g) a
     longer g a h = elim (either_nat g granule) [
       | inl e ↦ subst (λ i. Has (listings_at new i) a) (sym e) (subst (λ l. Has l a) (sym put.log) (has_longer (listings_at k.listed granule) _ a (subst (λ i. Has (listings_at k.listed i) a) e h)))
@@ -386,9 +360,8 @@ module _ (k : Kept) (kept : AreQueuesKept k) (row granule whole : ℕ) (new : Li
     -- the row is listed up to the next push
     entered_put : (low : ℕ) → IsLow k granule low → low < k.next_number → IsListedBy new granule row low k.next_number
     entered_put low lo lt = elim (either_le (last_listing k.listed row) low) [
-      | inl le ↦ subst (AnyIn (λ (a : Listing). (a.row ≡ row) × (a.before ≤ low) × (low < a.number) × (new.exact ≡ true → a.number ≤ k.next_number))) (sym put.log)
-          (any_append_right (λ (a : Listing). (a.row ≡ row) × (a.before ≤ low) × (low < a.number) × (new.exact ≡ true → a.number ≤ k.next_number))
-          (listings_at k.listed granule) (record { row = row; number = k.next_number; before = last_listing k.listed row } ∷ []) (inl (refl, le, lt, λ e. omega arith)))
+      | inl le ↦ subst (AnyIn (IsListingBetween new row low k.next_number)) (sym put.log)
+          (any_append_right (IsListingBetween new row low k.next_number) (listings_at k.listed granule) (listing ∷ []) (inl (refl, le, lt, λ e. omega arith)))
       | inr gt ↦ listed_by k.listed new granule row low (last_listing k.listed row) k.next_number (longer granule) (λ e. (sym put.exact ∙ e, kept.listed.latest (sym put.exact ∙ e) row))
           (subst (λ g. IsListedBy k.listed g row low (last_listing k.listed row)) (sym in_granule)
           (kept.listed.covered row low (last_listing k.listed row) (subst (λ g. IsLow k g low) in_granule lo) (inl refl) (omega (arith, gt))))
@@ -468,6 +441,10 @@ listed_or_not (Err a) k kept row granule whole new lt e before lows ok err = (li
 
 -- ---- what is found
 
+-- this number, or 0 where numbers tell nothing of listings, is that of an entry that takes the granule whole, or 0, and below a top
+abbrev IsLowBelow : Kept → ℕ → ℕ → ℕ → Bool → Type 0
+IsLowBelow k g low top exact = IsLow k g (if exact then low else 0) × ((if exact then low else 0) < top)
+
 -- a row with a mark between what takes the granule whole, or 0, and another number is found
 pub marks_found : (k : Kept) → AreRowsListed k → (g row low high : ℕ) (m : Mark) → IsTakenWhole k g low → granule_at (links k.rows) row ≡ g → IsOfRow k row m → low < m.number → m.number < high
     → Has (rows_between k.listed g low high) row
@@ -476,7 +453,7 @@ marks_found k listed g row low high m taken in_granule of lt less =
     (subst (λ x. IsListedBy k.listed x row (since k.listed low) m.number) in_granule
     (listed.covered row (since k.listed low) m.number (by k.listed.exact refl taken).0 (inr (m, of, refl)) (by k.listed.exact refl taken).1))
   where
-    by : (t : Bool) → k.listed.exact ≡ t → IsTakenWhole k g low → IsLow k (granule_at (links k.rows) row) (if k.listed.exact then low else 0) × ((if k.listed.exact then low else 0) < m.number)
-    by true e taken = subst (λ t. IsLow k (granule_at (links k.rows) row) (if t then low else 0) × ((if t then low else 0) < m.number)) (sym e)
+    by : (t : Bool) → k.listed.exact ≡ t → IsTakenWhole k g low → IsLowBelow k (granule_at (links k.rows) row) low m.number k.listed.exact
+    by true e taken = subst (IsLowBelow k (granule_at (links k.rows) row) low m.number) (sym e)
         (subst (λ x. IsLow k x low) (sym in_granule) (elim taken [ inl zero ↦ inl zero | inr r ↦ inr (e, r) ]), lt)
-    by false e taken = subst (λ t. IsLow k (granule_at (links k.rows) row) (if t then low else 0) × ((if t then low else 0) < m.number)) (sym e) (inl refl, omega (arith, lt))
+    by false e taken = subst (IsLowBelow k (granule_at (links k.rows) row) low m.number) (sym e) (inl refl, omega (arith, lt))

@@ -1,6 +1,6 @@
 -- Rows and granules, by numbers. A row is a key at a home; its granule is the granule of the key at that home. Both are
 -- numbered in the order of their first use, so that what is kept of a row lies in a table (`TableInner`), and names are looked up once at a
--- push. A row's name lies in the table too. Read next: `ListedInner`, for the rows that something waits for.
+-- push. A row's name lies in the table too. Read next: `ListedInner`, for the rows that came to be used between two pushes.
 use Rattle.std.specs.Prelude.{◌≡◌, ℕ, ◌<◌, List, [], get_or, slice_get, length, Some}
 use Rattle.dt_lists.specs.Lists.{Distinct, IsFront}
 use Rattle.dt_access.specs.Granules.{granule_of}

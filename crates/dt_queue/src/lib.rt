@@ -3,7 +3,7 @@
 //! An entry waits at a home for the use of a key. Of the entries of one home and one granule those clash that use one key,
 //! unless both read it, and one that takes the whole granule clashes with all. An entry waits for each earlier one that it
 //! clashes with; `Queues` gives the nearest of these, its neighbours, since they wait for the others. `specs/Queues.antt` has
-//! the words of the contracts; `specs/LanesInner.antt` says how the entries are kept.
+//! the words of the contracts; `specs/KeptInner.antt` says how the entries are kept.
 #![tactic(auto)]
 
 mod cell;

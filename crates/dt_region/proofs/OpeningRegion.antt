@@ -1,18 +1,15 @@
 -- Before anything happens a region is sound, and its scheduler has nothing. A table without rows is one for each number of regions.
-use Rattle.std.proofs.Common.{◌≡◌, ◌<◌, ◌≤◌, ℕ, List, [], replicate, refl, sym, subst, ◌∙◌, arith}
+use Rattle.std.proofs.Common.{◌≡◌, ◌<◌, ◌≤◌, ℕ, [], replicate, refl, sym, subst, ◌∙◌, arith}
 use Rattle.std.specs.Prelude.{slice_index}
 use Rattle.std.proofs.lemmas.List.{length-replicate}
 use Rattle.dt_lists.specs.Lists.{AllIn, Distinct}
 use Rattle.dt_lists.proofs.Callers.{get_of_replicate}
-use Rattle.dt_sched.specs.Views.{View, ids_of}
+use Rattle.dt_sched.specs.Views.{ids_of}
 use Rattle.dt_sched.specs.Decide.{IsSound}
 use Rattle.dt_sched.specs.Sched.{Sched, nothing_yet}
 use Rattle.dt_sched.proofs.Callers.{sound_at_first, empty_log}
 use Rattle.dt_table.specs.Table.{Table, opening}
 use Rattle.dt_table.proofs.Callers.{moves_of-opening}
-use Rattle.dt_txn.specs.declared.txn.Txn.{Txn}
-use Rattle.dt_txn.specs.declared.outcome.Outcome.{Outcome}
-use Rattle.dt_access.specs.declared.TxnId.{TxnId}
 use Rattle.dt_region.specs.Region.{RegionState}
 use Rattle.dt_region.specs.Rules.{opening_state}
 use Rattle.dt_region.specs.Conditions.{IsTableFor}
@@ -52,23 +49,27 @@ pub opening_well : (number regions : ℕ) (table : Table) (seen : Sched) → num
 opening_well number regions table seen below few fits e =
     (opening_sound number regions table below few fits, e ∙ (λ i. record { logs = sym (fronts_none regions) i; resolved = []; done = [] }))
 
--- the state that is kept in these fields
-abbrev pub state_from : ℕ → ℕ → Sched → List Txn → List Txn → List (List TxnId) → List ℕ → View → List ℕ → List (TxnId × Outcome) → Table → RegionState
-state_from number regions seen submitted foreign asked taken logs inserted done table = record {
-  number = number;
-  regions = regions;
-  submitted = submitted;
-  foreign = foreign;
-  logs = logs;
-  here = record { asked = asked; taken = taken; inserted = inserted; resolved = seen.resolved; done = done; table = table };
+-- a region that holds nothing yet
+pub record HoldsNothing (s : RegionState) : Type 0 where
+  pub submitted : s.submitted ≡ []
+  pub foreign : s.foreign ≡ []
+  pub logs : s.logs ≡ replicate s.regions []
+  pub asked : s.here.asked ≡ replicate s.regions []
+  pub taken : s.here.taken ≡ replicate s.regions 0
+  pub inserted : s.here.inserted ≡ replicate s.regions 0
+  pub resolved : s.here.resolved ≡ []
+  pub done : s.here.done ≡ []
+
+-- it is the region before anything happens
+opening_is : (s : RegionState) → HoldsNothing s → s ≡ opening_state s.number s.regions s.here.table
+opening_is s none = λ i. record {
+  number = s.number;
+  regions = s.regions;
+  submitted = none.submitted i;
+  foreign = none.foreign i;
+  logs = none.logs i;
+  here = record { asked = none.asked i; taken = none.taken i; inserted = none.inserted i; resolved = none.resolved i; done = none.done i; table = s.here.table };
 }
 
--- what the call made of its fields is the region before anything happens
-module _ (number regions : ℕ) (table : Table) (below : number < regions) (few : regions ≤ 8) (fits : IsTableFor regions table) (seen : Sched) (is : seen ≡ nothing_yet regions) where
-  pub opening_keeps : (submitted foreign : List Txn) (asked : List (List TxnId)) (taken : List ℕ) (logs : View) (inserted : List ℕ) (done : List (TxnId × Outcome)) →
-      submitted ≡ [] → foreign ≡ [] → asked ≡ replicate regions [] → taken ≡ replicate regions 0 → logs ≡ replicate regions [] → inserted ≡ replicate regions 0 → done ≡ [] →
-      AreWell (state_from number regions seen submitted foreign asked taken logs inserted done table) seen
-  opening_keeps submitted foreign asked taken logs inserted done s f a t l i d =
-      let same : state_from number regions seen submitted foreign asked taken logs inserted done table ≡ opening_state number regions table =
-      λ j. state_from number regions (is j) (s j) (f j) (a j) (t j) (l j) (i j) (d j) table in
-      subst (λ x. AreWell x seen) (sym same) (opening_well number regions table seen below few fits is)
+pub opening_keeps : (s : RegionState) (seen : Sched) → s.number < s.regions → s.regions ≤ 8 → IsTableFor s.regions s.here.table → seen ≡ nothing_yet s.regions → HoldsNothing s → AreWell s seen
+opening_keeps s seen below few fits is none = subst (λ x. AreWell x seen) (sym (opening_is s none)) (opening_well s.number s.regions s.here.table seen below few fits is)

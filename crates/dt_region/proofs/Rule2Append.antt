@@ -151,6 +151,10 @@ module _ (r : RegionView) (s : RegionState) (events : List Stamped) (heard room 
   made foreign logs = record s { foreign = foreign; logs = logs; here = record s.here { taken = set s.here.taken source (number + 1) } }
 
   module _ (foreign : List Txn) (logs : View) (f : foreign ≡ keep s.submitted s.foreign txn) (l : logs ≡ with_part s.logs (part_of txn s.number)) where
+    -- the region afterwards, with these events
+    abbrev region_made : List Stamped → RegionView
+    region_made after = record { state = made foreign logs; events = after; heard = heard; room = room }
+
     append_is : made foreign logs ≡ after_append s source txn
     append_is = λ j. record s { foreign = f j; logs = l j; here = record s.here { taken = set s.here.taken source (turn_here j + 1) } }
 
@@ -159,7 +163,7 @@ module _ (r : RegionView) (s : RegionState) (events : List Stamped) (heard room 
 
     pub append_made : (stamp : ℕ) (is_next : stamp ≡ latest_stamp r + 1) (after : List Stamped)
         → after ≡ events ++ under stamp (Append s.number source number) ∷ []
-        → MakesAppend r source number txn (Ok true) (record { state = made foreign logs; events = after; heard = heard; room = room })
+        → MakesAppend r source number txn (Ok true) (region_made after)
     append_made stamp is_next after kept =
-        subst (λ x. MakesAppend x source number txn (Ok true) (record { state = made foreign logs; events = after; heard = heard; room = room })) stands.view
+        subst (λ x. MakesAppend x source number txn (Ok true) (region_made after)) stands.view
         (turn_here, λ j. record { state = append_is j; events = kept_under stands (Append s.number source number) stamp after is_next kept j; heard = heard; room = room })

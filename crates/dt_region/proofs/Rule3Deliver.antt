@@ -167,6 +167,10 @@ module _ (r : RegionView) (s : RegionState) (events : List Stamped) (heard room 
 
     module _ (foreign : List Txn) (logs : View) (grown : logs ≡ set s.logs home (log_here ++ parts))
         (keeps : (submitted : List Txn) → AreCounted s.number 1 submitted → AllIn (λ txn. txn.id.region ≡ s.number → Has submitted txn) txns → foreign ≡ keep_all submitted s.foreign txns) where
+      -- the region afterwards, with these events
+      abbrev region_made : List Stamped → RegionView
+      region_made after = record { state = made foreign logs; events = after; heard = heard; room = room }
+
       deliver_is : made foreign logs ≡ after_deliver s home first entries
       deliver_is = ap₂ made (keeps s.submitted stands.well.0.counted own ∙ ap (keep_all s.submitted s.foreign) (t ∙ ap (λ (l : List Entry). map (λ e. e.txn) l) news_here))
           (grown ∙ ap (λ x. set s.logs home (log_here ++ x)) (p ∙ ap (λ (l : List Entry). map (λ e. e.part) l) news_here))
@@ -176,11 +180,11 @@ module _ (r : RegionView) (s : RegionState) (events : List Stamped) (heard room 
 
       pub deliver_made : (new : ℕ) → new ≡ length txns → (begin : ℕ) (stamp : ℕ) (is_next : stamp ≡ latest_stamp r + 1) (after : List Stamped)
           → after ≡ events ++ under stamp (Deliver s.number home begin (end + new)) ∷ []
-          → MakesDelivery r home begin first entries (Ok (New new)) (record { state = made foreign logs; events = after; heard = heard; room = room })
+          → MakesDelivery r home begin first entries (Ok (New new)) (region_made after)
       deliver_made new n begin stamp is_next after kept =
           let count : new ≡ length entries - (end - first) = n ∙ ap length t ∙ length-map (drop (end - first) entries) (λ (e : Entry). e.txn) ∙ length-drop (end - first) entries in
           let last : end + new ≡ first + length entries = omega (arith, count, reach, past) in
           let renamed : after ≡ events ++ under stamp (Deliver s.number home begin (first + length entries)) ∷ [] = kept ∙ ap (λ m. events ++ under stamp (Deliver s.number home begin m) ∷ []) last in
           let event = kept_under stands (Deliver s.number home begin (first + length entries)) stamp after is_next renamed in
-          subst (λ x. MakesDelivery x home begin first entries (Ok (New new)) (record { state = made foreign logs; events = after; heard = heard; room = room })) stands.view
+          subst (λ x. MakesDelivery x home begin first entries (Ok (New new)) (region_made after)) stands.view
           (reach_here, subst (λ m. m < first + length entries) ends_here past, subst (λ m. m + new ≡ first + length entries) ends_here last, λ j. record { state = deliver_is j; events = event j; heard = heard; room = room })

@@ -129,6 +129,10 @@ module _ (r : RegionView) (s : RegionState) (events : List Stamped) (heard room 
   made place now = record s { here = record s.here { inserted = set s.here.inserted home (place + 1); resolved = now.resolved } }
 
   module _ (copy : Part) (place : ℕ) (now : Sched) (same : copy ≡ part) (at : place ≡ slice_index s.here.inserted home) (is : now ≡ after_insert seen copy) where
+    -- the region afterwards, with these events
+    abbrev region_made : List Stamped → RegionView
+    region_made after = record { state = made place now; events = after; heard = heard; room = room }
+
     now_is : now ≡ after_insert (sched_of s.logs s.here) part
     now_is = is ∙ ap₂ after_insert stands.well.1 same
 
@@ -140,8 +144,8 @@ module _ (r : RegionView) (s : RegionState) (events : List Stamped) (heard room 
 
     pub insert_made : (stamp : ℕ) (is_next : stamp ≡ latest_stamp r + 1) (after : List Stamped)
         → after ≡ events ++ under stamp (Insert s.number home) ∷ []
-        → MakesStep [] r (Insert r.state.number home) (Ok true) (record { state = made place now; events = after; heard = heard; room = room })
+        → MakesStep [] r (Insert r.state.number home) (Ok true) (region_made after)
     insert_made stamp is_next after kept =
         let may : slice_index s.here.inserted home < length (log_at s.logs home) = slice_get_within (log_at s.logs home) (slice_index s.here.inserted home) part next_here in
-        subst (λ x. MakesStep [] x (Insert x.state.number home) (Ok true) (record { state = made place now; events = after; heard = heard; room = room })) stands.view
+        subst (λ x. MakesStep [] x (Insert x.state.number home) (Ok true) (region_made after)) stands.view
         (may, λ j. record { state = insert_is j; events = kept_under stands (Insert s.number home) stamp after is_next kept j; heard = heard; room = room })

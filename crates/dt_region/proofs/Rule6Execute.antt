@@ -111,6 +111,10 @@ module _ (procs : List ProcTree) (r : RegionView) (s : RegionState) (events : Li
 
     -- The scheduler, the done list and the table are these afterwards.
     module _ (now : Sched) (done : List (TxnId × Outcome)) (table : Table) (is : now ≡ after_finish seen id) (noted : done ≡ s.here.done ++ (id, outcome) ∷ []) (applied : table ≡ apply effect s.here.table) where
+      -- the region afterwards, with these events
+      abbrev region_made : List Stamped → RegionView
+      region_made after = record { state = made now done table; events = after; heard = heard; room = room - 1 }
+
       now_is : now ≡ after_finish (sched_of s.logs s.here) id
       now_is = is ∙ ap (λ x. after_finish x id) stands.well.1
 
@@ -125,10 +129,10 @@ module _ (procs : List ProcTree) (r : RegionView) (s : RegionState) (events : Li
 
       pub finish_made : (stamp : ℕ) (is_next : stamp ≡ latest_stamp r + 1) (after : List Stamped)
           → after ≡ events ++ under stamp (Execute s.number id) ∷ []
-          → record { state = made now done table; events = after; heard = heard; room = room - 1 } ≡ after_finishing procs r id
+          → region_made after ≡ after_finishing procs r id
       finish_made stamp is_next after kept =
           let state : made now done table ≡ after_making procs s (Execute s.number id) = ran_so ∙ ap (λ o. record s { here = executed procs s.here o }) (sym held_here.1) in
-          subst (λ x. record { state = made now done table; events = after; heard = heard; room = room - 1 } ≡ after_finishing procs x id) stands.view
+          subst (λ x. region_made after ≡ after_finishing procs x id) stands.view
           (λ j. record { state = state j; events = kept_under stands (Execute s.number id) stamp after is_next kept j; heard = heard; room = room - 1 })
 
 -- an execution for which room was made, and which was then finished, is the step

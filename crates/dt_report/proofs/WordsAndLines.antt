@@ -31,7 +31,7 @@ pub value_put : (start before after : List ℕ) (vs : List (Option Value)) (k : 
 value_put start before after vs k v within is so_far added =
     let rest : List (List ℕ) = map value_word (drop (k + 1) vs) in
     let one : List (List ℕ) = value_word v ∷ [] in
-    let cut : drop k vs ≡ v ∷ drop (k + 1) vs = from_item vs k v within is in
+    let cut : drop k vs ≡ v ∷ drop (k + 1) vs = from_item vs k v _ within is in
     ap (λ t. t ++ spaced rest) added ∙ append_assoc before (spaced one) (spaced rest) ∙ ap (λ t. before ++ t) (sym (spaced-append one rest)) ∙ ap (λ t. before ++ spaced (map value_word t)) (sym cut) ∙ so_far
 
 -- all values after their first word
@@ -47,7 +47,7 @@ pub table_put : (start before after : List ℕ) (tables : List (List Shown)) (k 
     → before ++ tables_text k (drop k tables) ≡ start → after ≡ before ++ table_text k table → after ++ tables_text (k + 1) (drop (k + 1) tables) ≡ start
 table_put start before after tables k table within is so_far added =
     let rest : List ℕ = tables_text (k + 1) (drop (k + 1) tables) in
-    let cut : drop k tables ≡ table ∷ drop (k + 1) tables = from_item tables k table within is in
+    let cut : drop k tables ≡ table ∷ drop (k + 1) tables = from_item tables k table _ within is in
     ap (λ t. t ++ rest) added ∙ append_assoc before (table_text k table) rest ∙ ap (λ t. before ++ tables_text k t) (sym cut) ∙ so_far
 
 -- all tables
@@ -58,7 +58,7 @@ tables_put old after tables k past so_far =
 
 -- what follows once each item from a place on is such, follows once each item from the next place on is
 pub held_more : {A : Type 0} (P : A → Type 0) {G : Type 0} (xs : List A) (k : ℕ) (x : A) → k < length xs → x ≡ get_or xs k x → P x → (AllIn P (drop k xs) → G) → AllIn P (drop (k + 1) xs) → G
-held_more P xs k x within is one so_far rest = so_far (subst (AllIn P) (sym (from_item xs k x within is)) (one, rest))
+held_more P xs k x within is one so_far rest = so_far (subst (AllIn P) (sym (from_item xs k x _ within is)) (one, rest))
 
 -- and so it holds after the last
 pub held_all : {A : Type 0} (P : A → Type 0) {G : Type 0} (xs : List A) (k : ℕ) → length xs ≤ k → (AllIn P (drop k xs) → G) → G

@@ -1,7 +1,7 @@
 -- Where nothing is outstanding between the nodes of a world and none of them has anything to do by itself, all is done: each log
 -- has all its requests and each region has inserted all logs, so all that was submitted is complete everywhere and executed; and
 -- then a session that still had a call left could go on.
-use Rattle.std.proofs.Common.{◌≡◌, ◌≢◌, ◌<◌, ◌≤◌, ◌⊎◌, ℕ, true, eqb, List, [], length, filter, get_or, take, Option, None, Some, option_map, refl, sym, ap, subst, ◌∙◌, inl}
+use Rattle.std.proofs.Common.{◌≡◌, ◌≢◌, ◌<◌, ◌≤◌, ◌⊎◌, ℕ, true, eqb, List, [], length, get_or, take, Option, None, Some, option_map, refl, sym, ap, subst, ◌∙◌, inl}
 use Rattle.std.proofs.Common.{inr, arith, eq-eqb}
 use Rattle.std.specs.Prelude.{option_and_then, slice_index}
 use Rattle.std.proofs.lemmas.List.{take_all}
@@ -10,7 +10,7 @@ use Rattle.dt_lists.proofs.Callers.{all_any, all_get, all_put, any_at, any_from_
 use Rattle.dt_access.specs.Clash.{Bytes}
 use Rattle.dt_access.specs.declared.Part.{Part}
 use Rattle.dt_access.specs.declared.TxnId.{TxnId}
-use Rattle.dt_sched.specs.Views.{HasPart, HasParts, IsClosed, IsComplete, IsPresent, ids_of, log_at}
+use Rattle.dt_sched.specs.Views.{HasPart, HasParts, IsClosed, IsComplete, IsPresent, View, ids_of, log_at}
 use Rattle.dt_sched.proofs.Callers.{done_where_closed, reach_source}
 use Rattle.dt_events.specs.declared.Event.{Event}
 use Rattle.dt_txn.specs.declared.Outcome.{Outcome}
@@ -54,6 +54,10 @@ pub record AreAtRest (cluster : Cluster) (workload : Workload) (events : List Ev
   pub drained : (region : ℕ) → region < cluster.regions → IsDrained (node_in v region).site.region.state.logs (node_in v region).site.region.state.here
   pub placed : (region : ℕ) → region < cluster.regions → HasPlacedOwn (node_in v region)
   pub arrived : (source target : ℕ) → source < cluster.regions → target < cluster.regions → source ≢ target → HasArrived v source target
+
+-- a log has a part of the transaction, and the logs of that part's homes have theirs in the view
+abbrev HasWhole : View → TxnId → List Part → Type 0
+HasWhole view id = AnyIn (λ (q : Part). (q.id ≡ id) × HasParts view q.homes id)
 
 module _ {cluster : Cluster} {workload : Workload} {events : List Event} (some : 0 < cluster.regions) {v : NodesView} (rest : AreAtRest cluster workload events v) where
   abbrev w : World
@@ -123,7 +127,7 @@ module _ {cluster : Cluster} {workload : Workload} {events : List Event} (some :
   has_part source home ls lh s h at =
       let test : has_home home s.txn ≡ true = test_of_any (λ x. eqb x home) (homes_of s.txn) (any_map _ _ (homes_of s.txn) (λ x e. eq-eqb x home e) at) in
       let asked : Has (asked_of w source home) s.txn.id = subst (λ l. Has l s.txn.id) (sym (good.inv.asked source home ls lh))
-      (has_map (λ (x : Submission). x.txn.id) (filter (λ x. has_home home x.txn) (node_at w source).submitted) s (has_filter (λ x. has_home home x.txn) (node_at w source).submitted s h test)) in
+      (has_map (λ (x : Submission). x.txn.id) _ s (has_filter (λ x. has_home home x.txn) (node_at w source).submitted s h test)) in
       let many : taken_of w home source ≡ length (asked_of w source home) = all_taken home source lh ls in
       let given : given_by source (ids_of (log_of w home)) ≡ asked_of w source home =
       (good.inv.logs home lh).given source ls ∙ take_all (taken_of w home source) (asked_of w source home) (omega (arith, many)) in
@@ -135,15 +139,15 @@ module _ {cluster : Cluster} {workload : Workload} {events : List Event} (some :
   complete region lr id txn e = made (txn_there w id txn e)
     where
       valid : IsValid cluster.procs cluster.version cluster.regions txn
-      valid = (transaction_valid cluster workload w good.order good.inv id txn e).0
+      valid = (transaction_valid good.inv id txn e).0
 
       within : (home : ℕ) → Has (homes_of txn) home → home < cluster.regions
       within home h = all_get (λ x. x < cluster.regions) (homes_of txn) valid.homes home h
 
       made : ((s : Submission) × Has (submissions w) s × (s.txn ≡ txn) × (s.txn.id ≡ id)) → IsComplete (view_at w region) id
       made r =
-          any_from_at (AnyIn (λ (q : Part). (q.id ≡ id) × HasParts (view_at w region) q.homes id)) [] (view_at w region) home.0 (λ x. x)
-          (subst (AnyIn (λ (q : Part). (q.id ≡ id) × HasParts (view_at w region) q.homes id)) (sym (view_log region home.0 lr (within home.0 home.1)))
+          any_from_at (HasWhole (view_at w region) id) [] (view_at w region) home.0 (λ x. x)
+          (subst (HasWhole (view_at w region) id) (sym (view_log region home.0 lr (within home.0 home.1)))
           (any_put _ (log_of w home.0) p.0 p.1 (p.2, subst (λ l. HasParts (view_at w region) l id) (sym homes_are) (all_put _ (homes_of txn) each))))
         where
           stands : (r.0.txn.id.region < cluster.regions) × Has (node_at w r.0.txn.id.region).submitted r.0
@@ -239,7 +243,7 @@ module _ {cluster : Cluster} {workload : Workload} {events : List Event} (some :
       no_wait id is = by (outcome_at w region id) refl
         where
           wait : WaitsAt cluster w session place id
-          wait = waiting_for cluster workload w good.order good.inv session place id (subst (λ q. q < cluster.regions) (sym its.2) lr) its.3 is
+          wait = waiting_for good.inv session place id (subst (λ q. q < cluster.regions) (sym its.2) lr) its.3 is
 
           is_done : Has (done_ids (node_in v region).site.region.state.here) id
           is_done = done_here region lr id wait.submission.txn (ap (option_map (λ (s : Submission). s.txn)) wait.found)

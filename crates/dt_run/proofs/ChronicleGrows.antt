@@ -31,7 +31,7 @@ module _ {cluster : Cluster} (ok : IsValidCluster cluster) {workload : Workload}
       → HasInvariant cluster workload (world_from cluster workload w events) × HaveGrown w (world_from cluster workload w events)
   worlds_grow [] w good legal = (good, λ q. grown_refl (node_at w q))
   worlds_grow (e ∷ events) w good legal =
-      let then : HasInvariant cluster workload (next cluster workload w e) = record { order = ordered good.order e; inv = next_keeps cluster ok workload fits w good.order e legal.0 good.inv } in
+      let then : HasInvariant cluster workload (next cluster workload w e) = record { order = ordered good.order e; inv = next_keeps ok fits w good.order e legal.0 good.inv } in
       let rest = worlds_grow events (next cluster workload w e) then legal.1 in
       (rest.0, λ q. grown_trans (node_at w q) (node_at (next cluster workload w e) q) _ (legal_grows cluster workload w e good legal.0 q) (rest.1 q))
 
@@ -105,8 +105,7 @@ module _ {cluster : Cluster} (ok : IsValidCluster cluster) {workload : Workload}
         go true e f = cc
         go false e f = claim (λ s. let t : eqb mine other ≡ true = eq-eqb mine other s in cc) cc
 
-    pub brought_there : (event : Event) (q stamp : ℕ) → source_of event ≡ Some q → IsBroughtBy (p ∷ []) stamp event
-        → (p.source ≡ q) × (p.stamp < stamp) × ((front rest : List Stamped) → all ≡ front ++ rest → AreLater q p.stamp rest → IsSupplied (world_after cluster workload (events_of front)) event)
+    pub brought_there : (event : Event) (q stamp : ℕ) → source_of event ≡ Some q → IsBroughtBy (p ∷ []) stamp event → IsThere event q stamp
     brought_there (Append home source number) q stamp from b = of_another home source q from (λ n is. by is (b n))
       where
         by : source ≡ q → AnyIn (BringsRequest home source number stamp) (p ∷ []) → IsThere (Append home source number) q stamp
@@ -115,12 +114,13 @@ module _ {cluster : Cluster} (ok : IsValidCluster cluster) {workload : Workload}
           r.from_source ∙ is,
           r.earlier,
           λ front rest cut later.
-              let told : IsToldOf (world_after cluster workload (events_of front)) p = true_packet.told front rest cut (subst (λ s. AreLater s p.stamp rest) (sym (r.from_source ∙ is)) later) in
-              let far : p.asked_at + length p.asked ≤ length (asked_of (world_after cluster workload (events_of front)) p.source p.target) = told.asked_to in
+              let front_world = world_after cluster workload (events_of front) in
+              let told : IsToldOf front_world p = true_packet.told front rest cut (subst (λ s. AreLater s p.stamp rest) (sym (r.from_source ∙ is)) later) in
+              let far : p.asked_at + length p.asked ≤ length (asked_of front_world p.source p.target) = told.asked_to in
               let near : number < p.asked_at + length p.asked = r.to in
-              let lt : number < length (asked_of (world_after cluster workload (events_of front)) p.source p.target) = omega (arith, far, near) in
-              subst (λ s. number < length (asked_of (world_after cluster workload (events_of front)) s home)) r.from_source
-              (subst (λ t. number < length (asked_of (world_after cluster workload (events_of front)) p.source t)) r.to_home lt),
+              let lt : number < length (asked_of front_world p.source p.target) = omega (arith, far, near) in
+              subst (λ s. number < length (asked_of front_world s home)) r.from_source
+              (subst (λ t. number < length (asked_of front_world p.source t)) r.to_home lt),
         )
     brought_there (Deliver region home first last) q stamp from b = of_another region home q from (λ n is. by is (b n))
       where
@@ -130,11 +130,12 @@ module _ {cluster : Cluster} (ok : IsValidCluster cluster) {workload : Workload}
           r.from_home ∙ is,
           r.earlier,
           λ front rest cut later.
-              let told : IsToldOf (world_after cluster workload (events_of front)) p = true_packet.told front rest cut (subst (λ s. AreLater s p.stamp rest) (sym (r.from_home ∙ is)) later) in
-              let far : p.log_at + length p.entries ≤ length (log_of (world_after cluster workload (events_of front)) p.source) = told.entries_to in
+              let front_world = world_after cluster workload (events_of front) in
+              let told : IsToldOf front_world p = true_packet.told front rest cut (subst (λ s. AreLater s p.stamp rest) (sym (r.from_home ∙ is)) later) in
+              let far : p.log_at + length p.entries ≤ length (log_of front_world p.source) = told.entries_to in
               let near : last ≡ p.log_at + length p.entries = r.to in
-              let le : last ≤ length (log_of (world_after cluster workload (events_of front)) p.source) = omega (arith, far, near) in
-              subst (λ s. last ≤ length (log_of (world_after cluster workload (events_of front)) s)) r.from_home le,
+              let le : last ≤ length (log_of front_world p.source) = omega (arith, far, near) in
+              subst (λ s. last ≤ length (log_of front_world s)) r.from_home le,
         )
     brought_there (Submit region name) q stamp from b = cc
     brought_there (Insert region home) q stamp from b = cc

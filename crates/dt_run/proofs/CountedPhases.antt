@@ -139,24 +139,27 @@ module _ {before after : NodesView} (step : AreInStep before) (phase : IsPhase b
   pub is_counted : PhaseIsCounted before after
   is_counted = record { made = made_now; kept = kept_up; quiet = quiet_now }
 
+  -- what is new in a region
+  abbrev new_at : ℕ → List Stamped
+  new_at region = new_items (node_in before region) (node_in after region)
+
   -- a phase is silent where the number of all events stays, and otherwise that rises
   pub silent_of : all_kept_in before ≡ all_kept_in after → IsSilent before after
   silent_of same = record { each = each }
     where
       each : (region : ℕ) → region < before.cluster.regions → kept_by_region after region ≡ kept_by_region before region
-      each region lr = grows ∙ ap (λ l. kept_by_region before region ++ l) (nil_from_length (new_items (node_in before region) (node_in after region)) no_more) ∙ append-nil (kept_by_region before region)
+      each region lr = grows ∙ ap (λ l. kept_by_region before region ++ l) (nil_from_length (new_at region) no_more) ∙ append-nil (kept_by_region before region)
         where
-          grows : kept_by_region after region ≡ kept_by_region before region ++ new_items (node_in before region) (node_in after region)
+          grows : kept_by_region after region ≡ kept_by_region before region ++ new_at region
           grows = (phase.turns region lr).gone.grows
 
           long : length (kept_by_region before region) ≡ length (kept_by_region after region)
           long = sum_stays (λ r. length (kept_by_region before r)) (λ r. length (kept_by_region after r)) before.cluster.regions (keeps_all phase) (same ∙ kept_there) region lr
 
-          no_more : length (new_items (node_in before region) (node_in after region)) ≡ 0
+          no_more : length (new_at region) ≡ 0
           no_more =
-              let e : length (kept_by_region after region) ≡ length (kept_by_region before region ++ new_items (node_in before region) (node_in after region)) = ap length grows in
-              let f : length (kept_by_region before region ++ new_items (node_in before region) (node_in after region)) ≡ length (kept_by_region before region) + length
-              (new_items (node_in before region) (node_in after region)) = length-append (kept_by_region before region) (new_items (node_in before region) (node_in after region)) in
+              let e : length (kept_by_region after region) ≡ length (kept_by_region before region ++ new_at region) = ap length grows in
+              let f : length (kept_by_region before region ++ new_at region) ≡ length (kept_by_region before region) + length (new_at region) = length-append (kept_by_region before region) (new_at region) in
               omega (arith, e, f, long)
 
   pub quiet_more : all_kept_in before ≡ all_kept_in after → quiet_in after ≡ quiet_in before + 1

@@ -23,7 +23,7 @@ use Rattle.dt_session.specs.World.{World, Node, Place, no_node, node_at, opening
 use Rattle.dt_session.specs.Step.{IsLegal, MayAnswer, MaySubmit, answered, next, next_attempt, placed, received}
 use Rattle.dt_session.specs.Run.{AreLegal, world_after, world_from}
 use Rattle.dt_session.specs.Eager.{AllChange}
-use Rattle.dt_agreement.proofs.Callers.{Submits, append_cases, legal_more, submits, world_after_more}
+use Rattle.dt_agreement.proofs.Callers.{Submits, append_cases, legal_more, next_call_submits, world_after_more}
 use Rattle.dt_merge.specs.Merge.{region_at, those_at}
 use Rattle.dt_merge.specs.OwnPart.{Own, own}
 use Rattle.dt_merge.specs.WorldRegions.{HasInvariant}
@@ -49,30 +49,27 @@ still e n m s p x y = record {
 }
 
 module _ {cluster : Cluster} (ok : IsValidCluster cluster) (workload : Workload) (w : World) (g : HasInvariant cluster workload w) (region : ℕ) (lr : region < cluster.regions) where
-  room : region < length w.nodes
-  room = node_there g region lr
-
   by_own : (e : Event) (v : World) (o : Own) → own workload v region ≡ o → Counts e (node_at w region) o.node → Counts e (node_at w region) (node_at v region)
   by_own e v o is c = subst (λ (p : Own). Counts e (node_at w region) p.node) (sym is) c
 
   submit_counts : (name : Bytes) → MaySubmit cluster w region (session_at workload.sessions w.places region name) → Counts (Submit region name) (node_at w region) (node_at (next cluster workload w (Submit region name)) region)
   submit_counts name may =
-      let s : Submits cluster workload w region name = submits cluster ok workload w g.order region name may g.inv in
+      let s : Submits cluster workload w region name = next_call_submits g.inv ok region name may in
       subst (λ v. Counts (Submit region name) (node_at w region) (node_at v region)) (sym s.next)
-      (by_own (Submit region name) _ _ (own_submitted cluster workload w region room s.session s.place s.call) (record {
+      (by_own (Submit region name) _ _ (own_submitted cluster workload w region (node_there g region lr) s.session s.place s.call) (record {
         submitted = length_push (node_at w region).submitted (attempt_of_own cluster region s.session s.place s.call (own workload w region) (next_attempt w s.place.waits));
         placed = let z : length (node_at w region).log ≡ length (node_at w region).log + 0 = omega arith in z;
       }))
 
   append_counts : (source number : ℕ) → IsLegal cluster workload w (Append region source number) → next cluster workload w (Append region source number) ≢ w
       → Counts (Append region source number) (node_at w region) (node_at (next cluster workload w (Append region source number)) region)
-  append_counts source number l changes = elim (append_cases cluster workload w g.order region source number l.regions.0 l.regions.1 l.allowed g.inv) [
+  append_counts source number l changes = elim (append_cases g.inv region source number l.regions.0 l.regions.1 l.allowed) [
     | inl same ↦ absurd (changes same)
     | inr r ↦ subst (λ v. Counts (Append region source number) (node_at w region) (node_at v region)) (sym r.2) (made r.0)
   ]
     where
       made : (txn : Txn) → Counts (Append region source number) (node_at w region) (node_at (placed w region source (Some txn)) region)
-      made txn = by_own (Append region source number) _ _ (own_appended cluster workload w region room source true (Some txn)) (record {
+      made txn = by_own (Append region source number) _ _ (own_appended cluster workload w region (node_there g region lr) source true (Some txn)) (record {
         submitted = let z : length (node_at w region).submitted ≡ length (node_at w region).submitted + 0 = omega arith in z;
         placed = length_push (node_at w region).log (part_of txn region);
       })
@@ -82,7 +79,7 @@ module _ {cluster : Cluster} (ok : IsValidCluster cluster) (workload : Workload)
     where
       go : (b : Bool) → Counts (Deliver region home first last) (node_at w region) (node_at (cond b (received w region home last) w) region)
       go false = still (Deliver region home first last) (node_at w region) (node_at w region) refl refl refl refl
-      go true = by_own (Deliver region home first last) _ _ (own_delivered cluster workload w region room home last true) (still (Deliver region home first last) (node_at w region) _ refl refl refl refl)
+      go true = by_own (Deliver region home first last) _ _ (own_delivered cluster workload w region (node_there g region lr) home last true) (still (Deliver region home first last) (node_at w region) _ refl refl refl refl)
 
   answer_counts : (name : Bytes) → MayAnswer cluster w region (session_at workload.sessions w.places region name) → Counts (Answer region name) (node_at w region) (node_at (next cluster workload w (Answer region name)) region)
   answer_counts name may = go (session_at workload.sessions w.places region name) may
@@ -106,15 +103,15 @@ module _ {cluster : Cluster} (ok : IsValidCluster cluster) (workload : Workload)
   event_counts (Insert r home) is l c =
       subst (λ q. Counts (Insert r home) (node_at w q) (node_at (next cluster workload w (Insert r home)) q)) is
       (subst (λ q. Counts (Insert q home) (node_at w q) (node_at (next cluster workload w (Insert q home)) q)) (sym is)
-      (by_own (Insert region home) _ _ (own_moved cluster workload w region room _) (still (Insert region home) (node_at w region) _ refl refl refl refl)))
+      (by_own (Insert region home) _ _ (own_moved cluster workload w region (node_there g region lr) _) (still (Insert region home) (node_at w region) _ refl refl refl refl)))
   event_counts (Resolve r ids) is l c =
       subst (λ q. Counts (Resolve r ids) (node_at w q) (node_at (next cluster workload w (Resolve r ids)) q)) is
       (subst (λ q. Counts (Resolve q ids) (node_at w q) (node_at (next cluster workload w (Resolve q ids)) q)) (sym is)
-      (by_own (Resolve region ids) _ _ (own_moved cluster workload w region room _) (still (Resolve region ids) (node_at w region) _ refl refl refl refl)))
+      (by_own (Resolve region ids) _ _ (own_moved cluster workload w region (node_there g region lr) _) (still (Resolve region ids) (node_at w region) _ refl refl refl refl)))
   event_counts (Execute r id) is l c =
       subst (λ q. Counts (Execute r id) (node_at w q) (node_at (next cluster workload w (Execute r id)) q)) is
       (subst (λ q. Counts (Execute q id) (node_at w q) (node_at (next cluster workload w (Execute q id)) q)) (sym is)
-      (by_own (Execute region id) _ _ (own_moved cluster workload w region room _) (still (Execute region id) (node_at w region) _ refl refl refl refl)))
+      (by_own (Execute region id) _ _ (own_moved cluster workload w region (node_there g region lr) _) (still (Execute region id) (node_at w region) _ refl refl refl refl)))
   event_counts (Answer r name) is l c =
       subst (λ q. Counts (Answer r name) (node_at w q) (node_at (next cluster workload w (Answer r name)) q)) is
       (subst (λ q. IsLegal cluster workload w (Answer q name) → Counts (Answer q name) (node_at w q) (node_at (next cluster workload w (Answer q name)) q)) (sym is) (λ k. answer_counts name k.allowed) l)
@@ -157,18 +154,26 @@ module _ {cluster : Cluster} (ok : IsValidCluster cluster) {workload : Workload}
       none (suc n) zero lt = refl
       none (suc n) (suc k) lt = none n k (omega (arith, lt))
 
-  counted_step : (items : List Stamped) (x : Stamped) → AreLegal cluster workload (events_of items) → IsLegal cluster workload (world_after cluster workload (events_of items)) x.event
-      → next cluster workload (world_after cluster workload (events_of items)) x.event ≢ world_after cluster workload (events_of items)
+  -- the world after these
+  abbrev after : List Stamped → World
+  after items = world_after cluster workload (events_of items)
+
+  -- each of these changes the world in which it happens
+  abbrev AllChangeOf : List Stamped → Type 0
+  AllChangeOf items = AllChange cluster workload (opening_world cluster workload) (events_of items)
+
+  counted_step : (items : List Stamped) (x : Stamped) → AreLegal cluster workload (events_of items) → IsLegal cluster workload (after items) x.event
+      → next cluster workload (after items) x.event ≢ after items
       → RegionIsCounted cluster workload items q → RegionIsCounted cluster workload (items ++ x ∷ []) q
   counted_step items x legal l changes c = by (either_nat (region_at x) q)
     where
-      later : world_after cluster workload (events_of (items ++ x ∷ [])) ≡ next cluster workload (world_after cluster workload (events_of items)) x.event
+      later : after (items ++ x ∷ []) ≡ next cluster workload (after items) x.event
       later = ap (world_after cluster workload) (map-append (λ (y : Stamped). y.event) items (x ∷ [])) ∙ world_after_more cluster workload (events_of items) x.event
 
       split : those_at q (items ++ x ∷ []) ≡ those_at q items ++ those_at q (x ∷ [])
       split = filter-append (λ y. eqb (region_at y) q) items (x ∷ [])
 
-      good : HasInvariant cluster workload (world_after cluster workload (events_of items))
+      good : HasInvariant cluster workload (after items)
       good = good_after ok fits items legal
 
       sum_is : (test : Event → Bool) → those_at q (x ∷ []) ≡ x ∷ []
@@ -179,24 +184,22 @@ module _ {cluster : Cluster} (ok : IsValidCluster cluster) {workload : Workload}
 
       by : Either (region_at x ≡ q) → RegionIsCounted cluster workload (items ++ x ∷ []) q
       by (inl is) =
-          let e : Counts x.event (node_at (world_after cluster workload (events_of items)) q) (node_at (next cluster workload (world_after cluster workload
-          (events_of items)) x.event) q) = event_counts ok workload (world_after cluster workload (events_of items)) good q lq x.event is l changes in
+          let e : Counts x.event (node_at (after items) q) (node_at (next cluster workload (after items) x.event) q) = event_counts ok workload (after items) good q lq x.event is l changes in
           let one : those_at q (x ∷ []) ≡ x ∷ [] = those_one q x is in
           record {
             submitted = ap (λ v. length (node_at v q).submitted) later ∙ e.submitted ∙ ap (λ n. n + one_if (is_submission x.event)) c.submitted ∙ sym (sum_is is_submission one);
             placed = ap (λ v. length (node_at v q).log) later ∙ e.placed ∙ ap (λ n. n + one_if (places x.event)) c.placed ∙ sym (sum_is places one);
           }
       by (inr n) =
-          let same : node_at (next cluster workload (world_after cluster workload (events_of items)) x.event) q ≡ node_at (world_after cluster workload
-          (events_of items)) q = ap (λ (o : Own). o.node) (frame cluster workload (world_after cluster workload (events_of items)) q x.event n) in
+          let same : node_at (next cluster workload (after items) x.event) q ≡ node_at (after items) q = ap (λ (o : Own). o.node) (frame cluster workload (after items) q x.event n) in
           let none : those_at q (items ++ x ∷ []) ≡ those_at q items = split ∙ ap (λ l. those_at q items ++ l) (those_none q x n) ∙ append-nil (those_at q items) in
           record {
             submitted = ap (λ v. length (node_at v q).submitted) later ∙ ap (λ (m : Node). length m.submitted) same ∙ c.submitted ∙ ap submissions_in (sym none);
             placed = ap (λ v. length (node_at v q).log) later ∙ ap (λ (m : Node). length m.log) same ∙ c.placed ∙ ap placings_in (sym none);
           }
 
-  pub all_counted : (items : List Stamped) → AreLegal cluster workload (events_of items) → AllChange cluster workload (opening_world cluster workload) (events_of items) → RegionIsCounted cluster workload items q
-  all_counted items = from_right (λ l. AreLegal cluster workload (events_of l) → AllChange cluster workload (opening_world cluster workload) (events_of l) → RegionIsCounted cluster workload l q)
+  pub all_counted : (items : List Stamped) → AreLegal cluster workload (events_of items) → AllChangeOf items → RegionIsCounted cluster workload items q
+  all_counted items = from_right (λ l. AreLegal cluster workload (events_of l) → AllChangeOf l → RegionIsCounted cluster workload l q)
       (λ legal changing. opening_counted)
       (λ xs x counted legal changing.
       let parts : events_of (xs ++ x ∷ []) ≡ events_of xs ++ x.event ∷ [] = map-append (λ (y : Stamped). y.event) xs (x ∷ []) in

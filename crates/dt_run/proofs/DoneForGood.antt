@@ -69,7 +69,7 @@ module _ {cluster : Cluster} (ok : IsValidCluster cluster) {workload : Workload}
         go : (waits : Option TxnId) → place.waits ≡ waits → ¬ (MayTry cluster.tries (length session.calls) place.answered (awaited_at w region waits)) × ¬ (MayEnd cluster.tries (awaited_at w region waits))
         go None is = (λ lt. omega (arith, lt, all), λ m. m)
         go (Some id) is =
-            let wait : WaitsAt cluster w session place id = waiting_for cluster workload w good.order good.inv session place id (subst (λ q. q < cluster.regions) (sym r.2) lr) r.3 is in
+            let wait : WaitsAt cluster w session place id = waiting_for good.inv session place id (subst (λ q. q < cluster.regions) (sym r.2) lr) r.3 is in
             let left : place.answered < length session.calls = wait.left in
             absurd (omega (arith, left, all))
 
@@ -100,7 +100,7 @@ module _ {cluster : Cluster} (ok : IsValidCluster cluster) {workload : Workload}
     executes procs here (Some txn) = front_append here.done _
 
     appends : (source number : ℕ) → IsLegal cluster workload w (Append region source number) → GoesQuietly w (next cluster workload w (Append region source number))
-    appends source number l = elim (append_cases cluster workload w good.order region source number l.regions.0 l.regions.1 l.allowed good.inv) [
+    appends source number l = elim (append_cases good.inv region source number l.regions.0 l.regions.1 l.allowed) [
       | inl same ↦ subst (GoesQuietly w) (sym same) still
       | inr r ↦ subst (GoesQuietly w) (sym r.2) (changed _ refl (front_refl (node_at w region).here.done))
     ]
@@ -127,7 +127,7 @@ module _ {cluster : Cluster} (ok : IsValidCluster cluster) {workload : Workload}
   quietly [] w good a legal mine = still w good a
   quietly (e ∷ events) w good a legal mine =
       let one = step w good a e legal.0 mine.0 in
-      let then : HasInvariant cluster workload (next cluster workload w e) = record { order = ordered good.order e; inv = next_keeps cluster ok workload fits w good.order e legal.0 good.inv } in
+      let then : HasInvariant cluster workload (next cluster workload w e) = record { order = ordered good.order e; inv = next_keeps ok fits w good.order e legal.0 good.inv } in
       let answered : AreAnsweredAt workload (next cluster workload w e) region = subst (λ p. (name : Bytes) (session : Session) (place : Place)
       → session_at workload.sessions p region name ≡ Some (session, place) → place.answered ≡ length session.calls) (sym one.places) a in
       let rest = quietly events (next cluster workload w e) then answered legal.1 mine.1 in

@@ -1,20 +1,15 @@
 -- All is done where all seats say so; and then the events of the nodes are a finished list.
-use Rattle.std.proofs.Common.{◌≡◌, ◌<◌, ◌≤◌, ◌+◌, ◌↔◌, ℕ, zero, suc, Bool, IsTrue, List, [], ◌∷◌, length, sym, subst, arith}
+use Rattle.std.proofs.Common.{◌≡◌, ◌<◌, ◌+◌, ◌↔◌, ℕ, zero, suc, Bool, IsTrue, List, [], ◌∷◌, length, sym, subst, arith}
 use Rattle.dt_lists.specs.Lists.{AllIn}
-use Rattle.dt_events.specs.Stamps.{events_of}
 use Rattle.dt_cluster.specs.declared.Cluster.{Cluster}
 use Rattle.dt_workload.specs.declared.Workload.{Workload}
 use Rattle.dt_session.specs.Sessions.{EachNameIsAnswered}
-use Rattle.dt_session.specs.World.{node_at}
-use Rattle.dt_session.specs.Run.{world_after}
-use Rattle.dt_site.proofs.Callers.{HasShortLists, legal_short, many_here}
-use Rattle.dt_node.specs.NodeInWorld.{NodeFits}
-use Rattle.dt_node.specs.NodeView.{NodeView, number_of}
+use Rattle.dt_node.specs.NodeView.{NodeView}
 use Rattle.dt_run.specs.EndOfRun.{IsAllDone, HasDone}
 use Rattle.dt_run.specs.HelpersInner.{HaveAllDone}
 use Rattle.dt_run.specs.NodesView.{NodesView, node_in}
 use Rattle.dt_run.specs.SeatsInner.{AreSeated, HasFewSubmitted, SeatView, nodes_view, seat_at}
-use Rattle.dt_run.proofs.Laws.{few_events, reached}
+use Rattle.dt_run.proofs.SitesAfter.{submitted_few}
 use Rattle.dt_run.proofs.WaitingPackets.{node_at_seat, region_there, seat_there}
 
 -- each seat, or each item
@@ -60,18 +55,5 @@ module _ {cluster : Cluster} {workload : Workload} {seats : List SeatView} {brok
 
   -- submissions are counted by 32 bits
   pub few_submitted : AllIn HasFewSubmitted seats
-  few_submitted = all_seats HasFewSubmitted seats (λ region lt. few region (region_there a lt))
-    where
-      few : (region : ℕ) → region < cluster.regions → HasFewSubmitted (seat_at seats region)
-      few region lr = subst (λ (n : NodeView). length n.site.region.state.submitted + 1 < 4294967296) (node_at_seat a region) here
-        where
-          f : NodeFits cluster workload (events_of a.nodes.all) (node_in v region)
-          f = (a.nodes.stand region lr).fits
-
-          here : length (node_in v region).site.region.state.submitted + 1 < 4294967296
-          here =
-              let short : HasShortLists (world_after cluster workload (events_of a.nodes.all)) (length (events_of a.nodes.all)) = legal_short cluster f.run.sound workload f.run.fits (events_of a.nodes.all) f.run.legal in
-              let s : length (node_at (world_after cluster workload (events_of a.nodes.all)) (number_of (node_in v region))).submitted ≤ length (events_of a.nodes.all) = short.submitted (number_of (node_in v region)) in
-              let e : length (node_at (world_after cluster workload (events_of a.nodes.all)) (number_of (node_in v region))).submitted ≡ length (node_in v region).site.region.state.submitted = many_here (reached f) f.site in
-              let l : length (events_of a.nodes.all) ≤ 24640000 = few_events f in
-              omega (arith, s, e, l)
+  few_submitted = all_seats HasFewSubmitted seats (λ region lt.
+      subst (λ (n : NodeView). length n.site.region.state.submitted + 1 < 4294967296) (node_at_seat a region) (submitted_few (a.nodes.stand region (region_there a lt)).fits))

@@ -11,6 +11,10 @@ use Rattle.dt_run.specs.SeatsInner.{AreBeside, AreLinkedBy, AreNew, HaveEnds, Se
 use Rattle.dt_run.proofs.EachItem.{all_by_place}
 use Rattle.dt_run.proofs.LinkNumbers.{LinkOf, link_above, link_below, link_of, link_within, links_apart}
 
+-- nothing waits on the links that lead to a seat
+abbrev pub HasEmptyLinks : SeatView → Type 0
+HasEmptyLinks s = AllIn (λ (i : RingInView). i.waits ≡ []) s.ins
+
 -- the two ends of a ring that was just made are those of a new link
 pub made_fresh : {out : RingOutView} {inlet : RingInView} → AreEnds out inlet → (out.put ≡ []) × (inlet.waits ≡ []) → (out.places ≡ 8) × (out.free ≡ 8) → AreFresh out inlet
 unfolding places_of_link
@@ -284,9 +288,9 @@ module _ {before now : List SeatView} {regions : ℕ} (s : LinkedSoFar regions 0
       let at : inlet ≡ in_at now k.other t inlet = is ∙ ap (λ l. get_or l p inlet) same ∙ ap (λ n. get_or (seat_at now t).ins n inlet) (sym k.is) in
       ap (λ (i : RingInView). i.waits) at ∙ ((all_pairs k.other t k.there lt k.apart).fresh (out_of inlet) inlet).empty
 
-  pub are_empty : AllIn (λ (q : SeatView). AllIn (λ (i : RingInView). i.waits ≡ []) q.ins) now
+  pub are_empty : AllIn HasEmptyLinks now
   are_empty =
-      all_by_place (λ (q : SeatView). AllIn (λ (i : RingInView). i.waits ≡ []) q.ins) now
+      all_by_place HasEmptyLinks now
       (λ t seat lt is. all_by_place (λ (i : RingInView). i.waits ≡ []) seat.ins (none_waits t seat lt (is ∙ get_or_default now t seat no_seat lt)))
 
   unlinked : AreNew (map without_links now)

@@ -9,6 +9,10 @@ use Rattle.dt_region.specs.Sound.{IsSoundRegion}
 use Rattle.dt_node.specs.NodeView.{NodeView}
 use Rattle.dt_run.specs.SeatsInner.{SeatView, new_seat}
 
+-- the region of a seat is sound
+abbrev pub HasSoundRegion : SeatView → Type 0
+HasSoundRegion s = IsSoundRegion s.node.site.region.state
+
 module _ (seats seats' : List SeatView) (seat : SeatView) (node : NodeView) (more : seats' ≡ seats ++ seat ∷ []) (seat_is : seat ≡ new_seat node) where
   pub seats_more : (opening : ℕ → NodeView) (region : ℕ) → seats ≡ map (λ r. new_seat (opening r)) (range_with_len 0 region) → node ≡ opening region
       → seats' ≡ map (λ r. new_seat (opening r)) (range_with_len 0 (region + 1))
@@ -19,9 +23,8 @@ module _ (seats seats' : List SeatView) (seat : SeatView) (node : NodeView) (mor
       map-range_with_len_more (λ r. new_seat (opening r)) 0 region region (omega arith) in
       more ∙ front ∙ ap (λ s. map (λ r. new_seat (opening r)) (range_with_len 0 region) ++ s ∷ []) last ∙ sym back
 
-  pub sound_more : {region : RegionView} → region ≡ node.site.region → IsSoundRegion region.state → AllIn (λ (s : SeatView). IsSoundRegion s.node.site.region.state) seats
-      → AllIn (λ (s : SeatView). IsSoundRegion s.node.site.region.state) seats'
+  pub sound_more : {region : RegionView} → region ≡ node.site.region → IsSoundRegion region.state → AllIn HasSoundRegion seats → AllIn HasSoundRegion seats'
   sound_more is sound all =
-      subst (AllIn (λ (s : SeatView). IsSoundRegion s.node.site.region.state)) (sym more)
-      (all_more (λ (s : SeatView). IsSoundRegion s.node.site.region.state) seats seat all
-      (subst (λ (s : SeatView). IsSoundRegion s.node.site.region.state) (sym seat_is) (subst (λ (r : RegionView). IsSoundRegion r.state) is sound)))
+      subst (AllIn HasSoundRegion) (sym more)
+      (all_more HasSoundRegion seats seat all
+      (subst HasSoundRegion (sym seat_is) (subst (λ (r : RegionView). IsSoundRegion r.state) is sound)))

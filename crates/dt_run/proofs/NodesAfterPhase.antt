@@ -2,7 +2,8 @@
 use Rattle.std.proofs.Common.{◌≡◌, ◌<◌, ◌≤◌, ◌+◌, ℕ, suc, false, Bool, List, [], ◌∷◌, ◌++◌, length, get_or, refl, sym, ap, subst, ◌∙◌, inl, inr, arith, append-nil, append_assoc, eqb, eq-eqb}
 use Rattle.std.proofs.lemmas.List.{map-append, nil_from_length}
 use Rattle.dt_lists.specs.Lists.{Either, Has, IsFront}
-use Rattle.dt_lists.proofs.Callers.{Spot, all_get, any_get, either_le, either_nat, has_filter, has_of_filtered, spot}
+use Rattle.dt_lists.proofs.Callers.{Spot, all_get, any_get, either_le, either_nat, has_filter, has_of_filtered, none_in_empty, spot}
+use Rattle.dt_access.specs.declared.TxnId.{TxnId}
 use Rattle.dt_events.specs.declared.Event.{Event}
 use Rattle.dt_events.specs.declared.Event.TheVariants.{Submit, Append, Deliver, Insert, Resolve, Execute, Answer}
 use Rattle.dt_events.specs.declared.Stamped.{Stamped}
@@ -53,6 +54,10 @@ no_item : {A : Type 0} (xs : List A) → ((x : A) → Has xs x → ⊥) → xs �
 no_item [] f = refl
 no_item (x ∷ xs) f = absurd (f x (inl refl))
 
+-- the requests that the region of a node asked of a home
+abbrev asked_in : NodesView → ℕ → ℕ → List TxnId
+asked_in v source home = get_or (node_in v source).site.region.state.here.asked home []
+
 module _ {cluster : Cluster} {workload : Workload} {seats seats' seats'' : List SeatView} {broken : Bool} (a : AreSeated cluster workload seats broken) (sound : broken ≡ false) (g : EachGoes cluster.procs seats seats')
     (whole : (region : ℕ) → region < length seats → SeatTurned cluster.procs (seat_at seats region) (seat_at seats' region)) (b : BesideSoFar (length seats') seats' seats'') where
   abbrev v : NodesView
@@ -79,37 +84,38 @@ module _ {cluster : Cluster} {workload : Workload} {seats seats' seats'' : List 
   abbrev later : World
   later = world_after cluster workload (events_of (all_now a sound turned false))
 
-  legal_parts : AreLegal cluster workload (events_of n.all) × AreLegalFrom cluster workload w (events_of (new_below (node_in v) (node_in v') cluster.regions))
-  legal_parts = legal_append cluster workload (opening_world cluster workload) (events_of n.all) (events_of (new_below (node_in v) (node_in v') cluster.regions))
-      (subst (AreLegal cluster workload) (map-append (λ (x : Stamped). x.event) n.all (new_below (node_in v) (node_in v') cluster.regions)) (chronicle_now a sound turned false).legal)
+  -- what is new of all regions
+  abbrev added : List Stamped
+  added = new_below (node_in v) (node_in v') cluster.regions
 
-  some : 0 < cluster.regions
-  some = let one = n.cluster.some in omega (arith, one)
+  legal_parts : AreLegal cluster workload (events_of n.all) × AreLegalFrom cluster workload w (events_of added)
+  legal_parts = legal_append cluster workload (opening_world cluster workload) (events_of n.all) (events_of added)
+      (subst (AreLegal cluster workload) (map-append (λ (x : Stamped). x.event) n.all added) (chronicle_now a sound turned false).legal)
 
   good : HasInvariant cluster workload w
-  good = good_world (n.stand 0 some).fits
+  good = good_world (n.stand 0 n.cluster.some).fits
 
-  later_is : later ≡ world_from cluster workload w (events_of (new_below (node_in v) (node_in v') cluster.regions))
-  later_is = ap (world_after cluster workload) (map-append (λ (x : Stamped). x.event) n.all (new_below (node_in v) (node_in v') cluster.regions))
-      ∙ world_from_append cluster workload (opening_world cluster workload) (events_of n.all) (events_of (new_below (node_in v) (node_in v') cluster.regions))
+  later_is : later ≡ world_from cluster workload w (events_of added)
+  later_is = ap (world_after cluster workload) (map-append (λ (x : Stamped). x.event) n.all added)
+      ∙ world_from_append cluster workload (opening_world cluster workload) (events_of n.all) (events_of added)
 
   grown : HaveGrown w later
-  grown = subst (HaveGrown w) (sym later_is) (worlds_grow n.cluster n.workload (events_of (new_below (node_in v) (node_in v') cluster.regions)) w good legal_parts.1).1
+  grown = subst (HaveGrown w) (sym later_is) (worlds_grow n.cluster n.workload (events_of added) w good legal_parts.1).1
 
   good_later : HasInvariant cluster workload later
-  good_later = good_world (stand_now a sound turned false 0 some).fits
+  good_later = good_world (stand_now a sound turned false 0 n.cluster.some).fits
 
   fronts : (source home : ℕ) → source < cluster.regions → home < cluster.regions
-      → IsFront (get_or (node_in v source).site.region.state.here.asked home []) (get_or (node_in v' source).site.region.state.here.asked home [])
-  fronts source home ls lh = subst (λ l. IsFront l (get_or (node_in v' source).site.region.state.here.asked home [])) before
+      → IsFront (asked_in v source home) (asked_in v' source home)
+  fronts source home ls lh = subst (λ l. IsFront l (asked_in v' source home)) before
       (subst (IsFront (asked_of w source home)) now (asked_front w later good good_later source home ls lh (grown source)))
     where
-      before : asked_of w source home ≡ get_or (node_in v source).site.region.state.here.asked home []
+      before : asked_of w source home ≡ asked_in v source home
       before =
           let s : StandsAmong v n.all source = n.stand source ls in
           ap (λ k. asked_of w k home) (sym s.number) ∙ ap (λ (x : Node). get_or x.here.asked home []) (sym s.fits.site.node)
 
-      now : asked_of later source home ≡ get_or (node_in v' source).site.region.state.here.asked home []
+      now : asked_of later source home ≡ asked_in v' source home
       now =
           let s : StandsAmong v' (all_now a sound turned false) source = stand_now a sound turned false source ls in
           ap (λ k. asked_of later k home) (sym s.number) ∙ ap (λ (x : Node). get_or x.here.asked home []) (sym s.fits.site.node)
@@ -153,8 +159,8 @@ module _ {cluster : Cluster} {workload : Workload} {seats seats' seats'' : List 
     asked_planned : (home source number stamp : ℕ) → home < cluster.regions → BringsRequest home source number stamp p → WasAskedBefore v' (suc step.made) source home number
     asked_planned home source number stamp lh r =
         let same : source ≡ number_of (node_in v snapshot.source) = sym r.from_source ∙ source_is in
-        let front : IsFront (get_or (node_in v snapshot.source).site.region.state.here.asked home []) (get_or (node_in v' (number_of (node_in v snapshot.source))).site.region.state.here.asked home []) =
-        subst (λ q. IsFront (get_or (node_in v snapshot.source).site.region.state.here.asked home []) (get_or (node_in v' q).site.region.state.here.asked home [])) (sym from.number) (fronts snapshot.source home snapshot.there lh) in
+        let front : IsFront (asked_in v snapshot.source home) (asked_in v' (number_of (node_in v snapshot.source)) home) =
+        subst (λ q. IsFront (asked_in v snapshot.source home) (asked_in v' q home)) (sym from.number) (fronts snapshot.source home snapshot.there lh) in
         subst (λ q. WasAskedBefore v' (suc step.made) q home number) (sym same)
         (request_planned n.all from.fits kept_is v' p told source_is step.made before home number stamp lh (subst (λ q. BringsRequest home q number stamp p) same r) front)
 
@@ -205,11 +211,7 @@ module _ {cluster : Cluster} {workload : Workload} {seats seats' seats'' : List 
               let last : mark_at v (region_at x) step.made ≡ length (kept_by_region v (region_at x)) = (step.each (region_at x) lr).marks.last in
               let zero_mark : mark_at v (region_at x) step.made ≡ 0 = ap (mark_at v (region_at x)) first in
               let here : Has (kept_by_region v (region_at x)) x = subst (λ l. Has l x) (waiting.kept_is a sound (region_at x)) kept in
-              some_long (kept_by_region v (region_at x)) here (omega (arith, last, zero_mark))
-            where
-              some_long : (xs : List Stamped) → Has xs x → length xs ≡ 0 → ⊥
-              some_long [] k e = k
-              some_long (y ∷ ys) k e = omega (arith, e)
+              none_in_empty (kept_by_region v (region_at x)) x here (omega (arith, last, zero_mark))
           by (inr far) = subst (λ l. Has l x) (none_kept v.nodes (region_at x) (let m = n.many in omega (arith, far, m))) kept
 
   begun : (region : ℕ) → region < cluster.regions → Either (step.made ≡ 0) → BeganEagerly cluster workload region (kept_by_region v' region)

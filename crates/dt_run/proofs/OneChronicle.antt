@@ -81,9 +81,6 @@ module _ {cluster : Cluster} {workload : Workload} {all : List Stamped} {kept ke
   pub fits_now : (region : ℕ) → region < cluster.regions → NodeFits cluster workload (events_of all') (node' region)
   fits_now region lr = whole.turned region lr lr
 
-  some : 0 < cluster.regions
-  some = let one = turned.sound.some in omega (arith, one)
-
   mine : (region : ℕ) → region < cluster.regions → AllIn (λ x. region_at x ≡ region) (new region)
   mine region lr = subst (λ r. AllIn (λ x. region_at x ≡ r) (new region)) (turned.number region lr) (turned.turns region lr).gone.mine
 
@@ -161,7 +158,7 @@ module _ {cluster : Cluster} {workload : Workload} {all : List Stamped} {kept ke
   ]
 
   first : NodeFits cluster workload (events_of all') (node' 0)
-  first = fits_now 0 some
+  first = fits_now 0 turned.sound.some
 
   caused : AllIn (λ x. (q : ℕ) → source_of x.event ≡ Some q → IsFed cluster workload all' x q) all'
   caused = all_append _ all (made_by cluster.regions)

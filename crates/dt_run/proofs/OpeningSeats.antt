@@ -27,6 +27,8 @@ use Rattle.dt_run.specs.NodesStand.{AreNodes}
 use Rattle.dt_run.specs.NodesView.{kept_by, no_running_node, opening_nodes}
 use Rattle.dt_run.specs.SeatsInner.{AreBeside, AreLinkedBy, AreNew, AreSeated, SeatView, new_seat, no_seat, nodes_view, seat_at, waits_in}
 use Rattle.dt_run.proofs.FinishedRun.{all_seats, each_seat}
+use Rattle.dt_run.proofs.NewLinks.{HasEmptyLinks}
+use Rattle.dt_run.proofs.NextSeat.{HasSoundRegion}
 use Rattle.dt_run.proofs.PhaseOfTurns.{put_back, put_back_is}
 use Rattle.dt_run.proofs.OpeningNodes.{AreOpening, opening_nodes_stand}
 
@@ -117,7 +119,7 @@ module _ {cluster : Cluster} (ok : IsValidCluster cluster) {workload : Workload}
 
   -- nodes at their seats, on whose links nothing waits
   module _ {seats : List SeatView} (nodes_are : map (λ (s : SeatView). s.node) seats ≡ map opened (range_with_len 0 cluster.regions)) (unmarked : AllIn (λ s. s.marks ≡ []) seats)
-      (linked : AreLinkedBy AreBeside seats) (empty : AllIn (λ s. AllIn (λ inlet. inlet.waits ≡ []) s.ins) seats) where
+      (linked : AreLinkedBy AreBeside seats) (empty : AllIn HasEmptyLinks seats) where
     many : length seats ≡ cluster.regions
     many = sym (length-map seats (λ (s : SeatView). s.node)) ∙ ap length nodes_are ∙ length-map-range_with_len opened 0 cluster.regions
 
@@ -128,7 +130,7 @@ module _ {cluster : Cluster} (ok : IsValidCluster cluster) {workload : Workload}
     no_waits region lt =
         let ends : length (seat_at seats region).ins + 1 ≡ length seats = linked.ends.ins region lt in
         let links : length (seat_at seats region).ins ≡ cluster.regions - 1 = omega (arith, ends, many) in
-        same_each waits_in [] (seat_at seats region).ins (each_seat (λ s. AllIn (λ inlet. inlet.waits ≡ []) s.ins) seats empty region lt) ∙ ap (λ n. replicate n []) links
+        same_each waits_in [] (seat_at seats region).ins (each_seat HasEmptyLinks seats empty region lt) ∙ ap (λ n. replicate n []) links
 
     waits_are : map (λ (s : SeatView). map waits_in s.ins) seats ≡ replicate cluster.regions (replicate (cluster.regions - 1) [])
     waits_are =
@@ -156,34 +158,46 @@ nodes_of_new : (f : ℕ → NodeView) (xs : List ℕ) → map (λ (s : SeatView)
 nodes_of_new f [] = refl
 nodes_of_new f (x ∷ xs) = ap (λ l. f x ∷ l) (nodes_of_new f xs)
 
-module _ {cluster : Cluster} (ok : IsValidCluster cluster) {workload : Workload} (fits : IsValidWorkload cluster workload) {given : List SeatView}
-    (given_is : given ≡ map (λ region. new_seat (opening_node_of cluster workload region)) (range_with_len 0 cluster.regions)) (sound : AllIn (λ s. IsSoundRegion s.node.site.region.state) given)
-    (len : ℕ) (full : len ≡ length given) {lent : List SeatView} (lent_is : lent ≡ given) where
-  pub lent_new : AreNew lent
-  lent_new = subst AreNew (sym (lent_is ∙ given_is)) (new_seats (opening_node_of cluster workload) (range_with_len 0 cluster.regions))
+-- the seats that were made for the nodes of a cluster, in a list of this length
+pub record AreSeatsMade (cluster : Cluster) (workload : Workload) (given : List SeatView) (len : ℕ) : Type 0 where
+  pub valid : IsValidCluster cluster
+  pub fits : IsValidWorkload cluster workload
+  pub new : given ≡ map (λ region. new_seat (opening_node_of cluster workload region)) (range_with_len 0 cluster.regions)
+  pub sound : AllIn HasSoundRegion given
+  pub full : len ≡ length given
 
+-- these seats are those, linked to each other, with nothing on the links
+pub record AreSeatsLinked (given seats : List SeatView) : Type 0 where
+  pub bare : map (λ (s : SeatView). new_seat s.node) seats ≡ given
+  pub unmarked : AllIn (λ s. s.marks ≡ []) seats
+  pub linked : AreLinkedBy AreBeside seats
+  pub empty : AllIn HasEmptyLinks seats
+
+module _ {cluster : Cluster} {workload : Workload} {given : List SeatView} {len : ℕ} (made : AreSeatsMade cluster workload given len) where
   abbrev opened_seats : ℕ → SeatView
   opened_seats region = new_seat (opening_node_of cluster workload region)
 
+  pub lent_new : {lent : List SeatView} → lent ≡ given → AreNew lent
+  lent_new lent_is = subst AreNew (sym (lent_is ∙ made.new)) (new_seats (opening_node_of cluster workload) (range_with_len 0 cluster.regions))
+
   sound_at : (region : ℕ) → region < cluster.regions → IsSoundRegion (opening_state region cluster.regions (opening_table cluster))
   sound_at region lr =
-      let all : AllIn (λ s. IsSoundRegion s.node.site.region.state) (map opened_seats (range_with_len 0 cluster.regions)) = subst (AllIn (λ s. IsSoundRegion s.node.site.region.state)) given_is sound in
+      let all : AllIn HasSoundRegion (map opened_seats (range_with_len 0 cluster.regions)) = subst (AllIn HasSoundRegion) made.new made.sound in
       let within : region < length (map opened_seats (range_with_len 0 cluster.regions)) = subst (λ m. region < m) (sym (length-map-range_with_len opened_seats 0 cluster.regions)) lr in
-      subst (λ (s : SeatView). IsSoundRegion s.node.site.region.state) (get_or-map-range_with_len opened_seats 0 cluster.regions region region no_seat lr (omega arith))
-      (each_seat (λ s. IsSoundRegion s.node.site.region.state) (map opened_seats (range_with_len 0 cluster.regions)) all region within)
+      subst HasSoundRegion (get_or-map-range_with_len opened_seats 0 cluster.regions region region no_seat lr (omega arith))
+      (each_seat HasSoundRegion (map opened_seats (range_with_len 0 cluster.regions)) all region within)
 
-  module _ {seats : List SeatView} (bare : map (λ (s : SeatView). new_seat s.node) seats ≡ lent) (unmarked : AllIn (λ s. s.marks ≡ []) seats) (linked : AreLinkedBy AreBeside seats)
-      (empty : AllIn (λ s. AllIn (λ inlet. inlet.waits ≡ []) s.ins) seats) where
+  module _ {seats : List SeatView} (linked : AreSeatsLinked given seats) where
     nodes_same : map (λ (s : SeatView). s.node) seats ≡ map (opening_node_of cluster workload) (range_with_len 0 cluster.regions)
     nodes_same =
-        sym (same_nodes seats) ∙ ap (map (λ (s : SeatView). s.node)) (bare ∙ lent_is ∙ given_is)
+        sym (same_nodes seats) ∙ ap (map (λ (s : SeatView). s.node)) (linked.bare ∙ made.new)
         ∙ nodes_of_new (opening_node_of cluster workload) (range_with_len 0 cluster.regions)
 
     back : put_back len given seats ≡ seats
-    back = put_back_is len given seats full (sym (length-map seats (λ (s : SeatView). new_seat s.node)) ∙ ap length (bare ∙ lent_is))
+    back = put_back_is len given seats made.full (sym (length-map seats (λ (s : SeatView). new_seat s.node)) ∙ ap length linked.bare)
 
     pub opened_is : nodes_view cluster workload (put_back len given seats) false ≡ opening_nodes cluster workload
-    opened_is = (λ i. nodes_view cluster workload (back i) false) ∙ opening_is ok fits sound_at nodes_same unmarked linked empty
+    opened_is = (λ i. nodes_view cluster workload (back i) false) ∙ opening_is made.valid made.fits sound_at nodes_same linked.unmarked linked.linked linked.empty
 
     pub opened_seated : AreSeated cluster workload (put_back len given seats) false
-    opened_seated = subst (λ l. AreSeated cluster workload l false) (sym back) (opening_seated ok fits sound_at nodes_same unmarked linked empty)
+    opened_seated = subst (λ l. AreSeated cluster workload l false) (sym back) (opening_seated made.valid made.fits sound_at nodes_same linked.unmarked linked.linked linked.empty)

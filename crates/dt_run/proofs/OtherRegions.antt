@@ -1,23 +1,21 @@
 -- What other regions do leaves a node where it stands, and what packets say stays so.
-use Rattle.std.proofs.Common.{◌≡◌, ◌≢◌, ◌<◌, ◌≤◌, ◌+◌, ℕ, List, [], ◌∷◌, length, set, drop, take, Some, option_map, refl, sym, ap, subst, ◌∙◌, arith}
+use Rattle.std.proofs.Common.{◌≡◌, ◌≢◌, ◌<◌, ◌≤◌, ◌+◌, ℕ, List, [], ◌∷◌, length, drop, take, Some, option_map, refl, sym, ap, subst, ◌∙◌, arith}
 use Rattle.std.proofs.lemmas.List.{take-append-le}
 use Rattle.dt_lists.specs.Lists.{AllIn, IsFront}
 use Rattle.dt_lists.proofs.Callers.{all_map}
-use Rattle.dt_access.specs.Clash.{Bytes}
 use Rattle.dt_access.specs.declared.TxnId.{TxnId}
 use Rattle.dt_events.specs.declared.Event.{Event}
 use Rattle.dt_events.specs.Events.{region_of}
 use Rattle.dt_txn.specs.declared.Txn.{Txn}
-use Rattle.dt_txn.specs.Replica.{fronts}
 use Rattle.dt_packet.specs.declared.packet.Packet.{Packet}
 use Rattle.dt_cluster.specs.declared.Cluster.{Cluster}
 use Rattle.dt_workload.specs.declared.Workload.{Workload}
 use Rattle.dt_session.specs.Sessions.{SessionsView}
-use Rattle.dt_session.specs.World.{World, Node, node_at, asked_of, log_of, logs_of, received_lengths, received_logs, received_of, session_at, taken_of, txn_of}
+use Rattle.dt_session.specs.World.{World, node_at, asked_of, log_of, received_of, session_at, taken_of, txn_of}
 use Rattle.dt_session.specs.Step.{next}
 use Rattle.dt_session.specs.Run.{AreLegalFrom, world_from}
 use Rattle.dt_agreement.proofs.Callers.{next_txns, next_keeps, ordered}
-use Rattle.dt_merge.specs.OwnPart.{HaveGrown, Own, own}
+use Rattle.dt_merge.specs.OwnPart.{HaveGrown, own}
 use Rattle.dt_merge.specs.WorldRegions.{HasInvariant}
 use Rattle.dt_cluster.specs.Valid.{IsValidCluster}
 use Rattle.dt_workload.specs.Valid.{IsValidWorkload}
@@ -26,7 +24,7 @@ use Rattle.dt_site.specs.Site.{SiteView}
 use Rattle.dt_site.specs.StandsIn.{StandsIn}
 use Rattle.dt_site.proofs.Callers.{seat_alike}
 use Rattle.dt_node.specs.Packets.{IsToldOf}
-use Rattle.dt_run.proofs.Laws.{asked_front, attempt_same, found_own, frame, front_length, grown_refl, grown_trans, legal_grows, local, received_up}
+use Rattle.dt_run.proofs.Laws.{asked_front, attempt_same, frame, front_length, grown_refl, grown_trans, legal_grows, logs_same, node_same, session_same}
 
 -- some world goes on to another by legal events of one region
 pub record WorldGoesOn (cluster : Cluster) (workload : Workload) (region : ℕ) (w v : World) : Type 0 where
@@ -41,49 +39,41 @@ module _ {cluster : Cluster} (ok : IsValidCluster cluster) {workload : Workload}
       → WorldGoesOn cluster workload region w (world_from cluster workload w events)
   goes_on region [] w good legal mine = record { before = good; after = good; grown = λ q. grown_refl (node_at w q); txns = λ id txn e. e; others = λ q n. refl }
   goes_on region (e ∷ events) w good legal mine =
-      let then : HasInvariant cluster workload (next cluster workload w e) = record { order = ordered good.order e; inv = next_keeps cluster ok workload fits w good.order e legal.0 good.inv } in
+      let then : HasInvariant cluster workload (next cluster workload w e) = record { order = ordered good.order e; inv = next_keeps ok fits w good.order e legal.0 good.inv } in
       let rest = goes_on region events (next cluster workload w e) then legal.1 mine.1 in
       record {
         before = good;
         after = rest.after;
         grown = λ q. grown_trans (node_at w q) (node_at (next cluster workload w e) q) (node_at (world_from cluster workload (next cluster workload w e) events) q)
             (legal_grows cluster workload w e good legal.0 q) (rest.grown q);
-        txns = λ id txn f. rest.txns id txn (next_txns cluster ok workload fits w good.order e legal.0 good.inv id txn f);
+        txns = λ id txn f. rest.txns id txn (next_txns ok fits w good.order e legal.0 good.inv id txn f);
         others = λ q n. rest.others q n ∙ frame cluster workload w q e (λ is. n (sym is ∙ mine.0));
       }
 
 -- where a region's own part is as it was, its site and its sessions stand as they stood
 module _ {cluster : Cluster} {workload : Workload} {w v : World} {changed region : ℕ} (goes : WorldGoesOn cluster workload changed w v) (lr : region < cluster.regions) (apart : region ≢ changed) where
-  node_same : node_at v region ≡ node_at w region
-  node_same = ap (λ o. o.node) (goes.others region apart)
+  own_is : own workload w region ≡ own workload v region
+  own_is = sym (goes.others region apart)
 
-  lengths_same : received_lengths w region ≡ received_lengths v region
-  lengths_same = ap (λ (n : Node). set n.received region (length n.log)) (sym node_same)
-
-  logs_same : received_logs v region ≡ received_logs w region
-  logs_same = sym (received_up w v goes.before goes.after goes.grown region lr ∙ ap (λ l. fronts l (logs_of v)) lengths_same)
+  node_is : node_at w region ≡ node_at v region
+  node_is = node_same workload w v region own_is
 
   pub site_stays : {p : SiteView} → StandsIn cluster.regions w region p → StandsIn cluster.regions v region p
   site_stays s = record {
     number = s.number;
     many = s.many;
     sound = s.sound;
-    logs = s.logs ∙ sym logs_same;
+    logs = s.logs ∙ logs_same w v v goes.before goes.after goes.after goes.grown (λ q. grown_refl (node_at v q)) region lr node_is;
     origins = s.origins;
     known = λ id txn h. goes.txns id txn (s.known id txn h);
-    node = s.node ∙ sym node_same;
+    node = s.node ∙ node_is;
   }
-
-  found_same : (name : Bytes) → session_at workload.sessions w.places region name ≡ session_at workload.sessions v.places region name
-  found_same name =
-      found_own workload.sessions w.places region name ∙ ap (λ (o : Own). session_at (local region workload.sessions) o.places region name) (sym (goes.others region apart))
-      ∙ sym (found_own workload.sessions v.places region name)
 
   pub sessions_still : {s : SessionsView} → SessionsStandIn cluster workload w region s → SessionsStandIn cluster workload v region s
   sessions_still s = record {
     tries = s.tries;
-    seats = λ name. s.seats name ∙ seat_alike goes.before.inv v lr (λ id x found own. attempt_same w v region (sym node_same) id own) name (session_at workload.sessions w.places region name) refl
-        ∙ ap (option_map (seat_in v)) (found_same name);
+    seats = λ name. s.seats name ∙ seat_alike goes.before.inv v lr (λ id x found own. attempt_same w v region node_is id own) name (session_at workload.sessions w.places region name) refl
+        ∙ ap (option_map (seat_in v)) (session_same workload w v region own_is name);
   }
 
 -- what a packet says stays so

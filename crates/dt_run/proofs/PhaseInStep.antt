@@ -1,7 +1,7 @@
 -- A phase that did not fail: after the turns the ends of each link are brought beside each other, and all is in step again.
 use Rattle.std.proofs.Common.{◌≡◌, ◌≢◌, ◌<◌, ◌+◌, ℕ, zero, suc, false, Bool, List, [], ◌∷◌, ◌++◌, length, map, get_or, refl, sym, ap, subst, ◌∙◌, arith}
 use Rattle.std.specs.Prelude.{flat_map}
-use Rattle.std.proofs.lemmas.List.{length-map}
+use Rattle.std.proofs.lemmas.List.{get_or-map as read_map, length-map}
 use Rattle.std.proofs.Math.ListN.{get_or-map}
 use Rattle.dt_lists.specs.Lists.{Pairwise}
 use Rattle.dt_lists.proofs.Callers.{pairwise_length}
@@ -37,11 +37,6 @@ pair_at R [] ys p k d e lt = absurd (omega (arith, lt))
 pair_at R (x ∷ xs) [] p k d e lt = absurd p
 pair_at R (x ∷ xs) (y ∷ ys) p zero d e lt = p.0
 pair_at R (x ∷ xs) (y ∷ ys) p (suc k) d e lt = pair_at R xs ys p.1 k d e (omega (arith, lt))
-
-seen_at : (outs : List RingOutView) (k : ℕ) (d : RingOutView) → k < length outs → get_or (map seen_out outs) k no_outlet ≡ seen_out (get_or outs k d)
-seen_at [] k d lt = absurd (omega (arith, lt))
-seen_at (o ∷ outs) zero d lt = refl
-seen_at (o ∷ outs) (suc k) d lt = seen_at outs k d (omega (arith, lt))
 
 front_nothing : {A : Type 0} (xs ys : List A) → xs ++ ys ≡ [] → xs ≡ []
 front_nothing [] ys e = refl
@@ -132,9 +127,6 @@ module _ {cluster : Cluster} {workload : Workload} {seats seats' seats'' : List 
 
   -- what one node sent another waits
   module _ (source target : ℕ) (ls : source < length seats) (lt : target < length seats) (n : source ≢ target) where
-    link : ℕ
-    link = link_to source target
-
     d : RingOutView
     d = item_at (seat_at seats source).outs (link_to source target) (link_out linked g source target ls lt (λ i. n (sym i)))
 
@@ -167,8 +159,8 @@ module _ {cluster : Cluster} {workload : Workload} {seats seats' seats'' : List 
         (seen_out (out_at seats source target d)) (seen_out (out_at seats' source target d))
     sent =
         let s = (whole source ls).sent.each (link_to source target) (subst (λ k. link_to source target < k) (sym (length-map (seat_at seats source).outs seen_out)) within) in
-        subst (λ x. IsSentBy plan turns packet x (seen_out (out_at seats' source target d))) (seen_at (seat_at seats source).outs (link_to source target) d within)
-        (subst (λ y. IsSentBy plan turns packet (get_or (map seen_out (seat_at seats source).outs) (link_to source target) no_outlet) y) (seen_at (seat_at seats' source).outs (link_to source target) d within') s)
+        subst (λ x. IsSentBy plan turns packet x (seen_out (out_at seats' source target d))) (read_map seen_out (seat_at seats source).outs (link_to source target) d no_outlet within)
+        (subst (λ y. IsSentBy plan turns packet (get_or (map seen_out (seat_at seats source).outs) (link_to source target) no_outlet) y) (read_map seen_out (seat_at seats' source).outs (link_to source target) d no_outlet within') s)
 
     waits : (in_at seats'' source target e).waits ≡ copies_of sent.verdict packet
     waits =

@@ -10,7 +10,7 @@ use Rattle.dt_run.specs.Phase.{EndsInStep, IsPhase}
 use Rattle.dt_run.specs.SeatsInner.{EndsAreApart, AreLinkedBy, AreSeated, EachGoes, SeatCan, SeatTurned, SeatView, no_seat, nodes_view, seat_at}
 use Rattle.dt_run.proofs.NodesAfterPhase.{phase_seated}
 use Rattle.dt_run.proofs.FinishedRun.{each_seat}
-use Rattle.dt_run.proofs.NodesAfterTurns.{broken_seated, phase_is, turns_of}
+use Rattle.dt_run.proofs.NodesAfterTurns.{phase_is, turns_of}
 use Rattle.dt_run.proofs.PhaseInStep.{apart_now, ends_in_step, turns_now}
 use Rattle.dt_run.proofs.WaitingPackets as waiting
 
@@ -22,9 +22,6 @@ module _ {cluster : Cluster} {workload : Workload} {seats : List SeatView} {brok
   -- a turn was made at each
   module _ {seats' : List SeatView} (g : EachGoes cluster.procs seats seats') where
     -- some turn failed
-    pub failed_seated : AreSeated cluster workload seats' true
-    failed_seated = broken_seated a sound g
-
     pub failed_phase : IsPhase (nodes_view cluster workload seats broken) (nodes_view cluster workload seats' true)
     failed_phase = phase_is a sound (turns_of g) true
 
@@ -52,34 +49,39 @@ put_back len items now = take len (now ++ drop (length now) items)
 pub put_back_is : {A : Type 0} (len : ℕ) (items now : List A) → len ≡ length items → length now ≡ length items → put_back len items now ≡ now
 put_back_is len items now full same = ap (λ n. take n (now ++ drop (length now) items)) (full ∙ sym same) ∙ take-append_seam now (drop (length now) items)
 
+-- no turn failed at these seats, which fill their vector, and the ends of all links were brought beside each other
+pub record AreTurnedWhole (turned beside : List SeatView) (len : ℕ) : Type 0 where
+  pub full : len ≡ length turned
+  pub none : AllIn (λ s. s.failed ≡ false) turned
+  pub so_far : BesideSoFar (length turned) turned beside
+
+-- as the seats were lent, and asked
+pub turned_whole : {turned lent asked beside : List SeatView} {len : ℕ} → len ≡ length turned → lent ≡ turned → asked ≡ turned → AllIn (λ s. s.failed ≡ false) asked → BesideSoFar (length lent) lent beside
+    → AreTurnedWhole turned beside len
+turned_whole {turned} {lent} {asked} {beside} full lent_is asked_is none so_far = record {
+  full = full;
+  none = subst (AllIn (λ s. s.failed ≡ false)) asked_is none;
+  so_far = subst (λ l. BesideSoFar (length l) l beside) lent_is so_far;
+}
+
 -- the same of seats in their vector
 module _ {cluster : Cluster} {workload : Workload} {seats : List SeatView} {broken : Bool} (a : AreSeated cluster workload seats broken) (sound : broken ≡ false) {turned : List SeatView}
     (g : EachGoes cluster.procs seats turned) where
-  pub failed_seats : AreSeated cluster workload turned true
-  failed_seats = failed_seated a sound g
-
   pub phase_failed : IsPhase (nodes_view cluster workload seats broken) (nodes_view cluster workload turned true)
   phase_failed = failed_phase a sound g
 
-  module _ (len : ℕ) (full : len ≡ length turned) {lent : List SeatView} (lent_is : lent ≡ turned) where
-    pub ends_apart : AreLinkedBy EndsAreApart lent
-    ends_apart = subst (AreLinkedBy EndsAreApart) (sym lent_is) (links_apart a sound g)
+  pub ends_apart : {lent : List SeatView} → lent ≡ turned → AreLinkedBy EndsAreApart lent
+  ends_apart lent_is = subst (AreLinkedBy EndsAreApart) (sym lent_is) (links_apart a sound g)
 
-    module _ {asked : List SeatView} (asked_is : asked ≡ turned) (none : AllIn (λ s. s.failed ≡ false) asked) {beside : List SeatView} (so_far : BesideSoFar (length lent) lent beside) where
-      n : AllIn (λ s. s.failed ≡ false) turned
-      n = subst (AllIn (λ s. s.failed ≡ false)) asked_is none
+  module _ {beside : List SeatView} {len : ℕ} (w : AreTurnedWhole turned beside len) where
+    beside_is : put_back len turned beside ≡ beside
+    beside_is = put_back_is len turned beside w.full w.so_far.many
 
-      b : BesideSoFar (length turned) turned beside
-      b = subst (λ l. BesideSoFar (length l) l beside) lent_is so_far
+    pub seats_made : AreSeated cluster workload (put_back len turned beside) broken
+    seats_made = subst (λ l. AreSeated cluster workload l broken) (sym beside_is) (made_seated a sound g w.none w.so_far)
 
-      beside_is : put_back len turned beside ≡ beside
-      beside_is = put_back_is len turned beside full b.many
+    pub phase_made : IsPhase (nodes_view cluster workload seats broken) (nodes_view cluster workload (put_back len turned beside) broken)
+    phase_made = subst (λ l. IsPhase (nodes_view cluster workload seats broken) (nodes_view cluster workload l broken)) (sym beside_is) (made_phase a sound g w.none w.so_far)
 
-      pub seats_made : AreSeated cluster workload (put_back len turned beside) broken
-      seats_made = subst (λ l. AreSeated cluster workload l broken) (sym beside_is) (made_seated a sound g n b)
-
-      pub phase_made : IsPhase (nodes_view cluster workload seats broken) (nodes_view cluster workload (put_back len turned beside) broken)
-      phase_made = subst (λ l. IsPhase (nodes_view cluster workload seats broken) (nodes_view cluster workload l broken)) (sym beside_is) (made_phase a sound g n b)
-
-      pub in_step_made : EndsInStep (nodes_view cluster workload seats broken) (nodes_view cluster workload (put_back len turned beside) broken)
-      in_step_made = subst (λ l. EndsInStep (nodes_view cluster workload seats broken) (nodes_view cluster workload l broken)) (sym beside_is) (made_in_step a sound g n b)
+    pub in_step_made : EndsInStep (nodes_view cluster workload seats broken) (nodes_view cluster workload (put_back len turned beside) broken)
+    in_step_made = subst (λ l. EndsInStep (nodes_view cluster workload seats broken) (nodes_view cluster workload l broken)) (sym beside_is) (made_in_step a sound g w.none w.so_far)

@@ -58,7 +58,7 @@ module _ {cluster : Cluster} {workload : Workload} (all : List Stamped) {n : Nod
       → (id : TxnId) × (slice_get (asked_of w (number_of n) home) number ≡ Some id) × (id.seq ≤ submissions_in n.site.region.events)
   asked_early home number lh lt =
       let g : (id : TxnId) × (slice_get (asked_of w (number_of n) home) number ≡ Some id) = at_place (asked_of w (number_of n) home) number lt in
-      let r : IsRequest w home (number_of n) g.0 = request_is cluster workload w good.order home (number_of n) lh f.number good.inv g.0 (has_place (asked_of w (number_of n) home) number g.0 g.1) in
+      let r : IsRequest w home (number_of n) g.0 = request_is good.inv home (number_of n) lh f.number g.0 (has_place (asked_of w (number_of n) home) number g.0 g.1) in
       let at : (i : ℕ) × (slice_get (node_at w (number_of n)).submitted i ≡ Some r.submission) = place_of (node_at w (number_of n)).submitted r.submission r.there in
       let numbered : r.submission.txn.id.seq ≡ at.0 + 1 = ap (λ i. i.seq) (good.inv.ids (number_of n) f.number at.0 r.submission at.1) in
       let is : r.submission.txn.id.seq ≡ g.0.seq = ap (λ i. i.seq) r.same in

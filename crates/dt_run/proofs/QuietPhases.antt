@@ -47,12 +47,9 @@ module _ {before after : NodesView} (n : AreNodes before) (sound : before.broken
   abbrev step : AreInStep before
   step = n.in_step sound
 
-  one : 0 < before.cluster.regions
-  one = let s = n.cluster.some in omega (arith, s)
-
   -- where packets wait, one waits on each link that its source would send now
   waits : PacketsWait before → (source target : ℕ) → source < before.cluster.regions → target < before.cluster.regions → source ≢ target → Has (waiting_between before source target) (packet_for (node_in before source) target)
-  waits p source target ls lt apart = by step.made (made_is step phase ends one) (step.links source target ls lt apart)
+  waits p source target ls lt apart = by step.made (made_is step phase ends n.cluster.some) (step.links source target ls lt apart)
     where
       by : (made : ℕ) → made_in before ≡ made → LinkTells before made source target → Has (waiting_between before source target) (packet_for (node_in before source) target)
       by zero e t = let s = p.some in absurd (omega (arith, s, e))
@@ -70,8 +67,8 @@ module _ {before after : NodesView} (n : AreNodes before) (sound : before.broken
 
   put_now : ¬ (IsVerdict (plan_of before.cluster) (made_in before + 1) Lost) → PacketsWait after
   put_now put = record {
-    some = let e = made_now step phase ends one in omega (arith, e);
-    put = λ l. put (subst (λ c. IsVerdict (plan_of c) (made_in before + 1) Lost) phase.cluster (subst (λ m. IsVerdict (plan_of after.cluster) m Lost) (made_now step phase ends one) l));
+    some = let e = made_now step phase ends n.cluster.some in omega (arith, e);
+    put = λ l. put (subst (λ c. IsVerdict (plan_of c) (made_in before + 1) Lost) phase.cluster (subst (λ m. IsVerdict (plan_of after.cluster) m Lost) (made_now step phase ends n.cluster.some) l));
   }
 
   module _ (silent : IsSilent before after) where
@@ -99,8 +96,8 @@ module _ {before after : NodesView} (n : AreNodes before) (sound : before.broken
     -- where nothing is outstanding after it, all is done
     pub done_arrived : ((source target : ℕ) → source < before.cluster.regions → target < before.cluster.regions → source ≢ target → HasArrived after source target) → IsAllDone after
     done_arrived arrived = record {
-      answered = λ region lr. all_answered one rest region (down phase lr) ((ends.each region (down phase lr)).settled.still (inl (none_new n told phase silent region (down phase lr))));
-      executed = λ region source lr ls. all_executed one rest region source (down phase lr) (down phase ls);
+      answered = λ region lr. all_answered n.cluster.some rest region (down phase lr) ((ends.each region (down phase lr)).settled.still (inl (none_new n told phase silent region (down phase lr))));
+      executed = λ region source lr ls. all_executed n.cluster.some rest region source (down phase lr) (down phase ls);
     }
       where
         rest : AreAtRest before.cluster before.workload (events_of n.all) after

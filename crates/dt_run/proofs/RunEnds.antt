@@ -90,11 +90,8 @@ module _ {before after : NodesView} (n : AreNodes before) (sound : before.broken
   abbrev step : AreInStep before
   step = n.in_step sound
 
-  one : 0 < before.cluster.regions
-  one = let s = n.cluster.some in omega (arith, s)
-
   made : made_in after ≡ made_in before + 1
-  made = made_now step phase ends one
+  made = made_now step phase ends n.cluster.some
 
   unfinished : ¬ (IsAllDone after) → ¬ (IsAllDone before)
   unfinished left d = left (stays_done n told phase d)
@@ -109,13 +106,13 @@ module _ {before after : NodesView} (n : AreNodes before) (sound : before.broken
     few_made = λ left.
         let a : quiet_in before ≤ 3 = c.few_quiet (unfinished left) in
         let b : made_in before ≤ 4 * all_kept_in before + quiet_in before = c.few_made (unfinished left) in
-        let up : all_kept_in before ≤ all_kept_in after = kept_up step phase ends one in
+        let up : all_kept_in before ≤ all_kept_in after = kept_up step phase ends n.cluster.some in
         omega (arith, a, b, up, other, made, quiet);
     few_kept = kept_few later;
   }
     where
       quiet : quiet_in after ≡ 0
-      quiet = quiet_none step phase ends one other
+      quiet = quiet_none step phase ends n.cluster.some other
 
   -- a silent phase
   kept_none : all_kept_in before ≡ all_kept_in after → ComesToAnEnd after
@@ -129,10 +126,10 @@ module _ {before after : NodesView} (n : AreNodes before) (sound : before.broken
   }
     where
       silent : IsSilent before after
-      silent = silent_of step phase ends one same
+      silent = silent_of step phase ends n.cluster.some same
 
       quiet : quiet_in after ≡ quiet_in before + 1
-      quiet = quiet_more step phase ends one same
+      quiet = quiet_more step phase ends n.cluster.some same
 
       -- after three silent ones the next phase would finish
       by : ¬ (IsAllDone after) → quiet_in before ≤ 3 → Either (quiet_in before ≡ 3) → quiet_in after ≤ 3

@@ -59,11 +59,8 @@ module _ {v : NodesView} (n : AreNodes v) (sound : v.broken ≡ false) (some : 1
   abbrev whole : World
   whole = world_after v.cluster v.workload (events_of n.all)
 
-  one : 0 < v.cluster.regions
-  one = let s = n.cluster.some in omega (arith, s)
-
   first : NodeFits v.cluster v.workload (events_of n.all) (node_in v 0)
-  first = (n.stand 0 one).fits
+  first = (n.stand 0 n.cluster.some).fits
 
   good : HasInvariant v.cluster v.workload whole
   good = good_world first
@@ -72,7 +69,7 @@ module _ {v : NodesView} (n : AreNodes v) (sound : v.broken ≡ false) (some : 1
   legal = subst (AreLegal v.cluster v.workload) (sym m.events_are) (merge_legal n.chronicle m.merged m.is n.cluster n.workload)
 
   changing : AllChange v.cluster v.workload (opening_world v.cluster v.workload) events
-  changing = subst (AllChange v.cluster v.workload (opening_world v.cluster v.workload)) (sym m.events_are) (merge_changes n.chronicle m.merged m.is n.cluster n.workload)
+  changing = subst (AllChange v.cluster v.workload _) (sym m.events_are) (merge_changes n.chronicle m.merged m.is n.cluster n.workload)
 
   same_world : world_after v.cluster v.workload events ≡ whole
   same_world = ap (world_after v.cluster v.workload) m.events_are ∙ merge_world n.chronicle m.merged m.is n.cluster n.workload
@@ -90,14 +87,14 @@ module _ {v : NodesView} (n : AreNodes v) (sound : v.broken ≡ false) (some : 1
           ∙ ap events_of (merge_keeps (kept_by v.nodes) (are_kept n.chronicle) m.merged m.is region ∙ get_or-map (λ (x : NodeView). x.site.region.events) v.nodes region no_running_node)
 
       phases : step.made ≢ 0
-      phases e = let k : length (marks_at v 0) ≡ step.made = (step.each 0 one).marks.many in absurd (omega (arith, k, e, some))
+      phases e = let k : length (marks_at v 0) ≡ step.made = (step.each 0 n.cluster.some).marks.many in absurd (omega (arith, k, e, some))
 
       begun : BeganEagerly v.cluster v.workload region (kept_by_region v region)
       begun = (step.each region lr).begun phases
 
   answered : AreAnswered v.workload.sessions whole.places
   answered = all_answered v.workload.sessions whole.places
-      (each_found (λ t p. p.answered ≡ length t.calls) v.workload.sessions whole.places (sym (places_parallel v.cluster v.workload whole good.order good.inv)) n.workload.names_once each)
+      (each_found (λ t p. p.answered ≡ length t.calls) v.workload.sessions whole.places (sym (places_parallel good.inv)) n.workload.names_once each)
     where
       each : (t : Session) → Has v.workload.sessions t → (p : Place) → session_at v.workload.sessions whole.places t.region t.name ≡ Some (t, p) → p.answered ≡ length t.calls
       each t h p e =

@@ -55,6 +55,14 @@ module _ (cluster : Cluster) (workload : Workload) (seats : List SeatView) (brok
       ∙ sum_below_same _ _ (length seats) (λ r lt. ap (λ (n : NodeView). length n.site.region.events) (sym (node_is cluster workload seats broken r)))
       ∙ ap (sum_below (λ r. length (kept_by_region seen r))) many
 
+-- what the seats keep can be counted
+pub kept_fits : {cluster : Cluster} {workload : Workload} {seats : List SeatView} {broken : Bool} → AreSeated cluster workload seats broken → sum_by events_at seats < 2 ^ 64
+kept_fits {cluster} {workload} {seats} {broken} a =
+    let seen : sum_by events_at seats ≡ all_kept_in (nodes_view cluster workload seats broken) = kept_seen cluster workload seats broken (one_for_each a) in
+    let few : all_kept_in (nodes_view cluster workload seats broken) ≤ most_events cluster workload = kept_few a.nodes in
+    let most : most_events cluster workload ≤ 24640000 = most_few cluster a.nodes.cluster workload a.nodes.workload in
+    omega (arith, seen, few, most)
+
 -- before the first phase
 pub opening_counted : (cluster : Cluster) (workload : Workload) (v : NodesView) (counts : Counts) → v ≡ opening_nodes cluster workload → counts ≡ record { made = 0; kept = 0; quiet = 0 } → HasCounts v counts
 opening_counted cluster workload v counts is none = subst (λ u. HasCounts u counts) (sym is) (record { are = none ∙ sym (opening_counts cluster workload); ends = opening_ends cluster workload })
@@ -75,23 +83,13 @@ module _ {cluster : Cluster} {workload : Workload} {seats seats' : List SeatView
     told = all_map _ _ (waiting_at v region) (λ p t. t.told a.nodes.all [] (sym (append-nil a.nodes.all)) tt) (waiting.trues a sound lr);
   }
 
-  one : 0 < cluster.regions
-  one = let s = a.nodes.cluster.some in omega (arith, s)
-
   pub phase_counted : PhaseIsCounted v v'
-  phase_counted = is_counted (a.nodes.in_step sound) phase ends one
+  phase_counted = is_counted (a.nodes.in_step sound) phase ends a.nodes.cluster.some
 
   pub phase_ends : ComesToAnEnd v'
   phase_ends = ends_on a.nodes sound told phase ends later.nodes k.ends
 
   -- so it can be counted
-
-  pub kept_fits : sum_by events_at seats' < 2 ^ 64
-  kept_fits =
-      let e : sum_by events_at seats' ≡ all_kept_in v' = kept_seen cluster workload seats' broken (one_for_each later) in
-      let b : all_kept_in v' ≤ most_events cluster workload = kept_few later.nodes in
-      let m : most_events cluster workload ≤ 24640000 = most_few cluster a.nodes.cluster workload a.nodes.workload in
-      omega (arith, e, b, m)
 
   pub quiet_fits : counts.quiet < length (seat_at seats' 0).marks
   quiet_fits =

@@ -99,8 +99,8 @@ txns_still : {cluster : Cluster} → IsValidCluster cluster → {workload : Work
     → AreLegalFrom cluster workload w events → (id : TxnId) (txn : Txn) → txn_of w id ≡ Some txn → txn_of (world_from cluster workload w events) id ≡ Some txn
 txns_still ok fits [] w good legal id txn e = e
 txns_still {cluster} ok {workload} fits (x ∷ events) w good legal id txn e =
-    txns_still ok fits events (next cluster workload w x) (record { order = ordered good.order x; inv = next_keeps cluster ok workload fits w good.order x legal.0 good.inv }) legal.1 id txn
-    (next_txns cluster ok workload fits w good.order x legal.0 good.inv id txn e)
+    txns_still ok fits events (next cluster workload w x) (record { order = ordered good.order x; inv = next_keeps ok fits w good.order x legal.0 good.inv }) legal.1 id txn
+    (next_txns ok fits w good.order x legal.0 good.inv id txn e)
 
 module _ {cluster : Cluster} {workload : Workload} (all : List Stamped) {n : NodeView} (f : NodeFits cluster workload (events_of all) n) (kept_is : those_at (number_of n) all ≡ n.site.region.events)
     (rising : EachThen HasLowerStamp n.site.region.events) (target : ℕ) (there : target < cluster.regions) (apart : target ≢ number_of n) where
@@ -133,7 +133,7 @@ module _ {cluster : Cluster} {workload : Workload} (all : List Stamped) {n : Nod
     where
       one : (id : TxnId) → Has (asked_of whole me target) id → IsHeld s id
       one id h =
-          let r : IsRequest whole target me id = request_is cluster workload whole good.order target me there f.number good.inv id h in
+          let r : IsRequest whole target me id = request_is good.inv target me there f.number id h in
           let t = r.submission.txn in
           let found : txn_of whole t.id ≡ Some t = subst (λ i. txn_of whole i ≡ Some t) (sym r.same) r.found in
           let mine : Has s.submitted t = own_of (reached f) f.site t found (ap (λ i. i.region) r.same ∙ r.region) in
@@ -248,7 +248,7 @@ module _ {cluster : Cluster} {workload : Workload} (all : List Stamped) {n : Nod
           where
             own_ids : AllIn (λ (i : TxnId). i.region ≡ me) asked
             own_ids = subst (AllIn (λ (i : TxnId). i.region ≡ me)) asked_is
-                (all_put _ (asked_of whole me target) (λ i k. (request_is cluster workload whole good.order target me there f.number good.inv i k).region))
+                (all_put _ (asked_of whole me target) (λ i k. (request_is good.inv target me there f.number i k).region))
 
         entry_one : (e : Entry) → Has p.entries e → txn_of w e.part.id ≡ Some e.txn
         entry_one e h =

@@ -19,11 +19,12 @@ use Rattle.dt_run.specs.NodesView.{NodesView, no_running_node, node_in}
 use Rattle.dt_run.proofs.Laws.{few_events, reached}
 
 -- what a node submitted is counted by 32 bits
-submitted_few : {cluster : Cluster} {workload : Workload} {events : List Event} {n : NodeView} → NodeFits cluster workload events n → length n.site.region.state.submitted < 4294967296
+pub submitted_few : {cluster : Cluster} {workload : Workload} {events : List Event} {n : NodeView} → NodeFits cluster workload events n → length n.site.region.state.submitted + 1 < 4294967296
 submitted_few {cluster} {workload} {events} {n} f =
     let short : HasShortLists (world_after cluster workload events) (length events) = legal_short cluster f.run.sound workload f.run.fits events f.run.legal in
-    let s : length (node_at (world_after cluster workload events) (number_of n)).submitted ≤ length events = short.submitted (number_of n) in
-    let e : length (node_at (world_after cluster workload events) (number_of n)).submitted ≡ length n.site.region.state.submitted = many_here (reached f) f.site in
+    let node = node_at (world_after cluster workload events) (number_of n) in
+    let s : length node.submitted ≤ length events = short.submitted (number_of n) in
+    let e : length node.submitted ≡ length n.site.region.state.submitted = many_here (reached f) f.site in
     let l : length events ≤ 24640000 = few_events f in
     omega (arith, s, e, l)
 
@@ -39,7 +40,7 @@ module _ {v : NodesView} (n : AreNodes v) {sites : List SiteView} (all : sites �
     legal = legal;
     many = ap length all ∙ length-map v.nodes (λ (x : NodeView). x.site) ∙ n.many;
     stands = λ region lr. subst (λ p. StandsIn v.cluster.regions (world_after v.cluster v.workload events) region p) (sym (site_is region)) (here region lr);
-    few = λ region lr. subst (λ (p : SiteView). length p.region.state.submitted < 4294967296) (sym (site_is region)) (submitted_few (n.stand region lr).fits);
+    few = λ region lr. subst (λ (p : SiteView). length p.region.state.submitted < 4294967296) (sym (site_is region)) (let s = submitted_few (n.stand region lr).fits in omega (arith, s));
   }
     where
       here : (region : ℕ) → region < v.cluster.regions → StandsIn v.cluster.regions (world_after v.cluster v.workload events) region (node_in v region).site

@@ -3,6 +3,7 @@
 use Rattle.std.proofs.Common.{◌≡◌, ◌<◌, ◌≤◌, ◌+◌, ◌^◌, ℕ, Bool, false, cond, List, [], ◌∷◌, length, map, get_or, refl, sym, ap, ◌∙◌, arith}
 use Rattle.std.proofs.Common.{Result, Ok, Err, IfOk, Vec}
 use Rattle.std.specs.Prelude.{sum_by}
+use Rattle.std.proofs.lemmas.List.{get_or-map}
 use Rattle.std.proofs.lemmas.List.Sums.{count_by-le-length, sum_by-cons}
 use Rattle.std.proofs.lemmas.Simd.{map-map}
 use Rattle.dt_lists.proofs.Callers.{sum_mapped}
@@ -16,7 +17,6 @@ use Rattle.dt_table.specs.Table.{shown}
 use Rattle.dt_cluster.specs.declared.Cluster.{Cluster}
 use Rattle.dt_workload.specs.declared.Workload.{Workload}
 use Rattle.dt_merge.specs.Merge.{IsMerge}
-use Rattle.dt_merge.specs.Weight.{most_events}
 use Rattle.dt_site.specs.Site.{SiteView}
 use Rattle.dt_gen.specs.Summary.{answer_count, is_answer, kept_answers, row_sum, summary_text}
 use Rattle.dt_world.specs.WorldReport.{report_of, tables_of}
@@ -26,11 +26,9 @@ use Rattle.dt_run.specs.NodesStand.{AreNodes}
 use Rattle.dt_run.specs.NodesView.{NodesView, kept_by, marks_at, no_running_node, node_in}
 use Rattle.dt_run.specs.Run.{AreMerged, IsRunSummary}
 use Rattle.dt_run.specs.SeatsInner.{AreSeated, SeatView, answers_at, events_at, nodes_view, seat_at}
-use Rattle.dt_run.specs.Silence.{all_kept_in}
-use Rattle.dt_run.proofs.Laws.{are_kept, merge_exists, merge_sums, most_few, tables_are}
-use Rattle.dt_run.proofs.RunEnds.{kept_few}
+use Rattle.dt_run.proofs.Laws.{are_kept, merge_exists, merge_sums, tables_are}
 use Rattle.dt_run.proofs.RunLaws.{run_report, sites_after}
-use Rattle.dt_run.proofs.SeatCounts.{kept_seen}
+use Rattle.dt_run.proofs.SeatCounts.{kept_fits}
 use Rattle.dt_run.proofs.WaitingPackets.{node_is, one_for_each}
 
 -- the answers among events, with or without their stamps
@@ -39,11 +37,6 @@ count_answers [] = refl
 count_answers (x ∷ xs) =
     sum_by-cons (λ event. cond (is_answer event) 1 0) x.event (events_of xs) ∙ ap (λ n. cond (is_answer x.event) 1 0 + n) (count_answers xs)
     ∙ sym (sum_by-cons (λ (y : Stamped). cond (is_answer y.event) 1 0) x xs)
-
--- what a list has first, seen through something
-first_seen : {X Y : Type 0} (f : X → List Y) (xs : List X) (d : X) → 0 < length xs → get_or (map f xs) 0 [] ≡ f (get_or xs 0 d)
-first_seen f [] d lt = absurd (omega (arith, lt))
-first_seen f (x ∷ xs) d lt = refl
 
 -- the nodes that are done
 module _ {v : NodesView} (n : AreNodes v) (sound : v.broken ≡ false) (some : 1 ≤ length (marks_at v 0)) (d : IsAllDone v) where
@@ -69,7 +62,7 @@ module _ {v : NodesView} (n : AreNodes v) (sound : v.broken ≡ false) (some : 1
       let one : 0 < v.cluster.regions = n.cluster.some in
       let many : length v.nodes ≡ v.cluster.regions = n.many in
       ap (λ t. get_or t 0 []) (sym tables ∙ map-map (λ (p : SiteView). shown p.region.state.here.table) (λ (x : NodeView). x.site) v.nodes)
-      ∙ first_seen (λ (x : NodeView). shown x.site.region.state.here.table) v.nodes no_running_node (omega (arith, one, many))
+      ∙ get_or-map (λ (x : NodeView). shown x.site.region.state.here.table) v.nodes 0 no_running_node [] (omega (arith, one, many))
 
   summary_is : (calls answers : ℕ) (rows : List Shown) → answers ≡ sum_by kept_answers (kept_by v.nodes) → rows ≡ shown (node_in v 0).site.region.state.here.table
       → (text : Bytes) → text ≡ summary_text calls answers (row_sum rows) → IsRunSummary v calls text
@@ -100,17 +93,10 @@ answers_within (s ∷ seats) =
 
 -- seats, as the code goes through them
 module _ {cluster : Cluster} {workload : Workload} {seats : List SeatView} {broken : Bool} (a : AreSeated cluster workload seats broken) where
-  kept_fits : sum_by events_at seats < 2 ^ 64
-  kept_fits =
-      let seen : sum_by events_at seats ≡ all_kept_in (nodes_view cluster workload seats broken) = kept_seen cluster workload seats broken (one_for_each a) in
-      let few : all_kept_in (nodes_view cluster workload seats broken) ≤ most_events cluster workload = kept_few a.nodes in
-      let most : most_events cluster workload ≤ 24640000 = most_few cluster a.nodes.cluster workload a.nodes.workload in
-      omega (arith, seen, few, most)
-
   pub answers_fit : sum_by answers_at seats < 2 ^ 64
   answers_fit =
       let few : sum_by answers_at seats ≤ sum_by events_at seats = answers_within seats in
-      let fits : sum_by events_at seats < 2 ^ 64 = kept_fits in
+      let fits : sum_by events_at seats < 2 ^ 64 = kept_fits a in
       omega (arith, few, fits)
 
   pub some_seat : 0 < length seats

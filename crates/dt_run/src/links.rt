@@ -1,13 +1,13 @@
 //! The links between all regions: how they are made, and how their ends are brought beside each other.
-ghost use Rattle.std.specs.Prelude.{◌≡◌, ◌≢◌, ◌<◌, ◌+◌, ◌^◌, [], get_or, length, map, OnOk};
+ghost use Rattle.std.specs.Prelude.{◌≡◌, ◌≢◌, ◌<◌, [], get_or, length, map, OnOk};
 ghost use Rattle.dt_lists.specs.Lists.{AllIn};
-ghost use Rattle.dt_node.specs.NodeView.{other_at};
 ghost use Rattle.dt_ring.specs.Rings.{RingInView};
 ghost use Rattle.dt_run.specs.LinksInner.{BesideSoFar, InletGoes, LinkAdded, LinkGoes, LinksGo, RowApart, RowSoFar};
 ghost use Rattle.dt_run.specs.NodesView.{link_to};
 ghost use Rattle.dt_run.specs.SeatsInner.{EndsAreApart, AreBeside, AreLinkedBy, AreNew, new_seat, seat_at};
 
 use crate::seat::Seat;
+use dt_node::other_region;
 use dt_ring::{RingIn, RingOut, beside, ring};
 use dt_sched::Scheduler;
 use dt_text::NoMemory;
@@ -83,14 +83,6 @@ fn beside_row<S: Scheduler + Drop>(row: &mut [RingOut], seats: &mut [Seat<S>], s
             link_number(target, source),
         );
     }
-}
-
-/// The region at the other end of a region's link of this number.
-fn other_region(region: usize, link: usize) -> usize
-    requires { link + 1 < 2 ^ 64 }
-    ensures { result ≡ other_at region link }
-{
-    if link < region { link } else { link + 1 }
 }
 
 /// The number, at a region, of its link to another one, or of its link from it.

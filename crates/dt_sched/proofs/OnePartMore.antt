@@ -2,7 +2,7 @@
 use Rattle.std.proofs.Common.{◌≡◌, ◌⊎◌, ℕ, zero, suc, List, [], ◌∷◌, ◌++◌, set, replicate, refl, sym, ap, subst, ◌∙◌, inl, inr}
 use Rattle.std.proofs.lemmas.List.{map-append}
 use Rattle.dt_lists.specs.Lists.{AllIn, Has, Distinct, IsFront}
-use Rattle.dt_lists.proofs.Callers.{any_append, any_of_image, all_get, all_put, all_append, all_at, distinct_push, front_refl, front_append}
+use Rattle.dt_lists.proofs.Callers.{any_append, any_of_image, all_get, all_put, all_append, all_at, distinct_push, front_refl, front_append, get_of_replicate}
 use Rattle.dt_access.specs.declared.Part.{Part}
 use Rattle.dt_sched.specs.Views.{View, ids_of, log_at, HasPart, IsLonger, IsWellFormed}
 use Rattle.dt_sched.specs.Sched.{CanInsert, with_part}
@@ -83,9 +83,7 @@ with_part_well_formed view part w c = record { once = once; homed = homed; alike
     ranked = all_alike view part (λ p. p.rank) w.ranked c.ranked
 
 pub empty_log : (regions home : ℕ) → log_at (replicate regions []) home ≡ []
-empty_log zero home = refl
-empty_log (suc regions) zero = refl
-empty_log (suc regions) (suc home) = empty_log regions home
+empty_log regions home = get_of_replicate regions home []
 
 -- a view of empty logs is well formed
 pub empty_well_formed : (regions : ℕ) → IsWellFormed (replicate regions [])

@@ -2,6 +2,7 @@
 -- strict total order is made, which breaks ties.
 use Rattle.std.proofs.Common.{◌≡◌, ◌≢◌, ◌<◌, ◌⊎◌, ℕ, true, List, [], ◌∷◌, map, get_or, refl, sym, subst, ◌∙◌, inl, inr, arith}
 use Rattle.std.specs.List.{filter}
+use Rattle.std.proofs.lemmas.Bool.{cases_order}
 use Rattle.dt_lists.specs.Lists.{AnyIn, Has, IsFront}
 use Rattle.dt_lists.proofs.Callers.{any_at, any_get, any_append, any_append_left, any_append_right, any_front, all_get, pairwise_any, has_filter, of_filter, either_or, either_and, either_nat}
 use Rattle.dt_access.specs.Ids.{Before, same_id}
@@ -72,16 +73,10 @@ sooner_transitive q r s u v t (inl a) (inr b) = inl (subst (λ x. q < x) b.0 a)
 sooner_transitive q r s u v t (inr a) (inl b) = inl (subst (λ x. x < s) (sym a.0) b)
 sooner_transitive q r s u v t (inr a) (inr b) = inr (a.0 ∙ b.0, before_transitive u v t a.1 b.1)
 
-ranks_compare : (r s : ℕ) → (r < s) ⊎ ((r ≡ s) ⊎ (s < r))
-ranks_compare r s = grind arith
-
 sooner_total : (r s : ℕ) (u t : TxnId) → u ≢ t → Sooner r s u t ⊎ Sooner s r t u
-sooner_total r s u t ne = elim (ranks_compare r s) [
-  | inl lt ↦ inl (inl lt)
-  | inr e ↦ elim e [
-    | inl same ↦ elim (before_total u t ne) [ inl b ↦ inl (inr (same, b)) | inr b ↦ inr (inr (sym same, b)) ]
-    | inr gt ↦ inr (inl gt)
-  ]
+sooner_total r s u t ne = elim (cases_order r s) [
+  | inl same ↦ elim (before_total u t ne) [ inl b ↦ inl (inr (same, b)) | inr b ↦ inr (inr (sym same, b)) ]
+  | inr other ↦ elim other [ inl lt ↦ inl (inl lt) | inr gt ↦ inr (inl gt) ]
 ]
 
 -- the store's own order breaks ties

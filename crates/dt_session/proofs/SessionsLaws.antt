@@ -133,32 +133,36 @@ module _ {X : Type 0} (region : ℕ) (sessions : List Session) (once : Distinct 
   after : suc n ≡ length sessions - length so_far
   after = omega (arith, some_left)
 
-  parts : drop (length sessions - length (so_far ++ one ∷ [])) sessions ≡ s ∷ drop (length sessions - length so_far) sessions
+  -- the sessions of as many turns as these: the last ones
+  abbrev taken_in : List X → List Session
+  taken_in turns = drop (length sessions - length turns) sessions
+
+  parts : taken_in (so_far ++ one ∷ []) ≡ s ∷ taken_in so_far
   parts =
       let here : length sessions - length (so_far ++ one ∷ []) ≡ n = omega (arith, some_left, length-append so_far (one ∷ [])) in
       let next : n + 1 ≡ length sessions - length so_far = omega (arith, after) in
       ap (λ k. drop k sessions) here ∙ drop_more sessions n s within ∙ ap (λ x. x ∷ drop (n + 1) sessions) (sym is) ∙ ap (λ k. s ∷ drop k sessions) next
 
   -- it is one of the region's
-  pub gathered : s.region ≡ region → insert_entry (slice_cmp nat_cmp) (map idle_seat (sessions_at region (drop (length sessions - length so_far) sessions))) s.name (idle_seat s).1
-      ≡ map idle_seat (sessions_at region (drop (length sessions - length (so_far ++ one ∷ [])) sessions))
+  pub gathered : s.region ≡ region → insert_entry (slice_cmp nat_cmp) (map idle_seat (sessions_at region (taken_in so_far))) s.name (idle_seat s).1
+      ≡ map idle_seat (sessions_at region (taken_in (so_far ++ one ∷ [])))
   gathered here =
-      let new : AllIn (λ t. s.name ≢ t.name) (drop (length sessions - length so_far) sessions) =
+      let new : AllIn (λ t. s.name ≢ t.name) (taken_in so_far) =
       subst (λ k. AllIn (λ t. s.name ≢ t.name) (drop k sessions)) after
       (subst (λ x. AllIn (λ t. x.name ≢ t.name) (drop (suc n) sessions)) (sym is) (names_after sessions n s once within)) in
-      inserted s (sessions_at region (drop (length sessions - length so_far) sessions)) (sessions_at_all (λ t. s.name ≢ t.name) region (drop (length sessions - length so_far) sessions) new)
+      inserted s (sessions_at region (taken_in so_far)) (sessions_at_all (λ t. s.name ≢ t.name) region (taken_in so_far) new)
       ∙ sym (ap (λ l. map idle_seat (sessions_at region l)) parts ∙ rw (eq-eqb s.region region here) refl)
 
   -- with a copy of it put among them, the seats are those of one session more
-  pub put_among : (put old : List (Bytes × Seat)) (name : Bytes) (calls : List Ranked) → s.region ≡ region → old ≡ map idle_seat (sessions_at region (drop (length sessions - length so_far) sessions))
+  pub put_among : (put old : List (Bytes × Seat)) (name : Bytes) (calls : List Ranked) → s.region ≡ region → old ≡ map idle_seat (sessions_at region (taken_in so_far))
       → name ≡ s.name → calls ≡ s.calls → put ≡ insert_entry (slice_cmp nat_cmp) old name (record { calls = calls; answered = 0; waits = None })
-      → put ≡ map idle_seat (sessions_at region (drop (length sessions - length (so_far ++ one ∷ [])) sessions))
+      → put ≡ map idle_seat (sessions_at region (taken_in (so_far ++ one ∷ [])))
   put_among put old name calls here same named copied more =
       more ∙ (λ j. insert_entry (slice_cmp nat_cmp) (same j) (named j) (record { calls = copied j; answered = 0; waits = None })) ∙ gathered here
 
   -- it is not
   pub passed_over : s.region ≢ region
-      → sessions_at region (drop (length sessions - length so_far) sessions) ≡ sessions_at region (drop (length sessions - length (so_far ++ one ∷ [])) sessions)
+      → sessions_at region (taken_in so_far) ≡ sessions_at region (taken_in (so_far ++ one ∷ []))
   passed_over away =
       let not : eqb s.region region ≡ false = false_from_ne_true (eqb s.region region) (λ e. away (eqb-true s.region region e)) in
       sym (ap (sessions_at region) parts ∙ rw not refl)

@@ -12,7 +12,7 @@ use Rattle.dt_agreement.proofs.Callers.{IsRequest, request_is, txn_id}
 use Rattle.dt_site.specs.Site.{SiteView}
 use Rattle.dt_site.specs.StandsIn.{IsReached, StandsIn}
 use Rattle.dt_site.proofs.Lists.{attempts_have, find_some}
-use Rattle.dt_site.proofs.SitesInWorlds.{inv, order}
+use Rattle.dt_site.proofs.SitesInWorlds.{inv}
 
 -- by its request of this number a source asked a home to place a transaction of the world
 pub record AsksFor (w : World) (source home number : ℕ) (txn : Txn) : Type 0 where
@@ -24,7 +24,7 @@ module _ {cluster : Cluster} {workload : Workload} {w : World} (k : IsReached cl
   -- what is asked for is held where it was submitted
   pub request_held : (id : TxnId) → Has (asked_of w source home) id → (txn : Txn) × (held p.region.state id ≡ Some txn)
   request_held id h =
-      let request : IsRequest w home source id = request_is cluster workload w (order k) home source lh ls (inv k) id h in
+      let request : IsRequest w home source id = request_is (inv k) home source lh ls id h in
       subst (λ x. (txn : Txn) × (held p.region.state x ≡ Some txn)) request.same
       (find_some p.region.state.submitted p.region.state.foreign request.submission.txn
       (attempts_have p.region.state.submitted p.origins request.submission (subst (λ (n : Node). Has n.submitted request.submission) (sym s.node) request.there)))

@@ -12,4 +12,5 @@ pub use Rattle.dt_site.proofs.Rule3Deliver.{apart, can_deliver, deliver_legal, d
 pub use Rattle.dt_site.proofs.OwnSteps.{insert_made, insert_refused, resolve_made, resolve_refused, execute_made, execute_refused}
 pub use Rattle.dt_site.proofs.Rule7Answer.{Answers, answer_elsewhere, answer_legal, answer_made}
 pub use Rattle.dt_site.proofs.SessionsStand.{last_in, may_answer, may_be_answered, may_go, may_submit, numbers_are, kept_here, opening_sessions_stand, places_are}
+pub use Rattle.dt_site.proofs.NextAttempt.{name_at, no_name_at}
 pub use Rattle.dt_site.proofs.SessionsStand.{StandsElsewhere, others_sessions, seat_alike, seat_changed, sessions_changed, sessions_stay}

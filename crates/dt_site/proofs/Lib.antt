@@ -11,4 +11,5 @@ pub mod Rule3Deliver
 pub mod OwnSteps
 pub mod Rule7Answer
 pub mod Callers
+pub mod NextAttempt
 pub mod SessionsStand

@@ -27,7 +27,7 @@ use Rattle.dt_session.specs.Step.{IsLegal, MayAnswer, answered, next, node_submi
 use Rattle.dt_session.specs.Run.{AreLegal, order_of, world_after}
 use Rattle.dt_agreement.specs.Invariant.{Inv}
 use Rattle.dt_agreement.specs.LegalRun.{IsLegalRun}
-use Rattle.dt_agreement.proofs.Callers.{append_cases, logs_placed, legal_keeps, legal_more, world_after_more, Submits, submits}
+use Rattle.dt_agreement.proofs.Callers.{append_cases, logs_placed, legal_keeps, legal_more, world_after_more, Submits, next_call_submits}
 use Rattle.dt_site.proofs.Lists.{parts_set}
 
 -- a world whose lists are that short
@@ -115,7 +115,7 @@ module _ (cluster : Cluster) (ok : IsValidCluster cluster) (workload : Workload)
 
   next_short : (w : World) (order : List TxnId) (n : ℕ) (event : Event) → IsLegal cluster workload w event → Inv cluster workload w order → HasShortLists w n → HasShortLists (next cluster workload w event) (n + 1)
   next_short w order n (Submit region name) l i s =
-      let r : Submits cluster workload w region name = submits cluster ok workload w order region name l.allowed i in
+      let r : Submits cluster workload w region name = next_call_submits i ok region name l.allowed in
       subst (λ v. HasShortLists v (n + 1)) (sym r.next) (record {
         submitted = λ q. subm r q (either_nat q region);
         parts = let few : parts_in (logs_of w) ≤ n = s.parts in subst (λ v. parts_in v ≤ n + 1)
@@ -136,12 +136,12 @@ module _ (cluster : Cluster) (ok : IsValidCluster cluster) (workload : Workload)
       subm r q (inr m) =
           let few : length (node_at w q).submitted ≤ n = s.submitted q in
           subst (λ x. length x.submitted ≤ n + 1) (sym (get_or-set_other w.nodes region q (with_attempt r) no_node m)) (omega arith)
-  next_short w order n (Append home source number) l i s = elim (append_cases cluster workload w order home source number l.regions.0 l.regions.1 l.allowed i) [
+  next_short w order n (Append home source number) l i s = elim (append_cases i home source number l.regions.0 l.regions.1 l.allowed) [
     | inl same ↦ subst (λ v. HasShortLists v (n + 1)) (sym same) (still_short w n s)
     | inr r ↦ subst (λ v. HasShortLists v (n + 1)) (sym r.2) (record {
       submitted = λ q. let same : (node_at (placed w home source (Some r.0)) q).submitted ≡ (node_at w q).submitted = field_of_set (λ y. y.submitted) w.nodes home _ no_node refl q in
           let few : length (node_at w q).submitted ≤ n = s.submitted q in subst (λ x. length x ≤ n + 1) (sym same) (omega arith);
-      parts = let few : parts_in (logs_of w) ≤ n = s.parts in subst (λ v. parts_in v ≤ n + 1) (sym (logs_placed cluster workload w order home source l.regions.0 l.regions.1 i r.0 r.1.number r.1.request r.1.found))
+      parts = let few : parts_in (logs_of w) ≤ n = s.parts in subst (λ v. parts_in v ≤ n + 1) (sym (logs_placed i home source l.regions.0 l.regions.1 r.0 r.1.number r.1.request r.1.found))
           (omega (arith, parts_set (logs_of w) home));
       done = all_set _ w.nodes home _ (done_longer w n s) (let few : length (node_at w home).here.done ≤ n = done_at w n s home in omega arith);
       answered = places_short w n s;

@@ -35,27 +35,31 @@ parts_set (l ∷ logs) zero part = let a : length (l ++ part ∷ []) ≡ length 
 parts_set (l ∷ logs) (suc home) part = let a : parts_in (set logs home (log_at logs home ++ part ∷ [])) ≤ parts_in logs + 1 =
     parts_set logs home part in let b : parts_in (l ∷ set logs home (log_at logs home ++ part ∷ [])) ≤ parts_in (l ∷ logs) + 1 = omega (arith, parts_cons l (set logs home (log_at logs home ++ part ∷ [])), parts_cons l logs) in b
 
+-- the transaction of the id is found in a list, or is this one
+abbrev IsFoundOr : List Txn → TxnId → Txn → Txn → Type 0
+IsFoundOr txns id u t = (find_txn txns id ≡ Some u) ⊎ ((t ≡ u) × (t.id ≡ id))
+
 -- what is found with one more transaction between two lists is found without it, or is that one
-pub find_more : (xs ys : List Txn) (t : Txn) (id : TxnId) (u : Txn) → find_txn (xs ++ t ∷ ys) id ≡ Some u → (find_txn (xs ++ ys) id ≡ Some u) ⊎ ((t ≡ u) × (t.id ≡ id))
+pub find_more : (xs ys : List Txn) (t : Txn) (id : TxnId) (u : Txn) → find_txn (xs ++ t ∷ ys) id ≡ Some u → IsFoundOr (xs ++ ys) id u t
 find_more [] ys t id u e = go (cases_Bool (same_id t.id id))
   where
-    go : (same_id t.id id ≡ true) ⊎ (same_id t.id id ≡ false) → (find_txn ys id ≡ Some u) ⊎ ((t ≡ u) × (t.id ≡ id))
+    go : (same_id t.id id ≡ true) ⊎ (same_id t.id id ≡ false) → IsFoundOr ys id u t
     go (inl y) = let is : Some t ≡ Some u = rw y at e in let same : t ≡ u = cc in inr (same, id_of_test t.id id y)
     go (inr n) = inl (rw n at e)
 find_more (x ∷ xs) ys t id u e = go (cases_Bool (same_id x.id id)) (find_more xs ys t id u)
   where
-    go : (same_id x.id id ≡ true) ⊎ (same_id x.id id ≡ false) → (find_txn (xs ++ t ∷ ys) id ≡ Some u → (find_txn (xs ++ ys) id ≡ Some u) ⊎ ((t ≡ u) × (t.id ≡ id)))
-        → (find_txn (x ∷ xs ++ ys) id ≡ Some u) ⊎ ((t ≡ u) × (t.id ≡ id))
+    go : (same_id x.id id ≡ true) ⊎ (same_id x.id id ≡ false) → (find_txn (xs ++ t ∷ ys) id ≡ Some u → IsFoundOr (xs ++ ys) id u t)
+        → IsFoundOr (x ∷ xs ++ ys) id u t
     go (inl y) f = let is : Some x ≡ Some u = rw y at e in inl (rw y is)
     go (inr n) f = elim (f (rw n at e)) [ inl h ↦ inl (rw n h) | inr h ↦ inr h ]
 
 -- what is held with one more transaction of another was held before, or is that one
-pub held_more : (submitted foreign : List Txn) (t : Txn) (id : TxnId) (u : Txn) → find_txn (submitted ++ keep submitted foreign t) id ≡ Some u → (find_txn (submitted ++ foreign) id ≡ Some u) ⊎ ((t ≡ u) × (t.id ≡ id))
+pub held_more : (submitted foreign : List Txn) (t : Txn) (id : TxnId) (u : Txn) → find_txn (submitted ++ keep submitted foreign t) id ≡ Some u → IsFoundOr (submitted ++ foreign) id u t
 held_more submitted foreign t id u e = go (is_some (find_txn (submitted ++ foreign) t.id)) e
   where
-    go : (b : Bool) → find_txn (submitted ++ cond b foreign (foreign ++ t ∷ [])) id ≡ Some u → (find_txn (submitted ++ foreign) id ≡ Some u) ⊎ ((t ≡ u) × (t.id ≡ id))
+    go : (b : Bool) → find_txn (submitted ++ cond b foreign (foreign ++ t ∷ [])) id ≡ Some u → IsFoundOr (submitted ++ foreign) id u t
     go true h = inl h
-    go false h = subst (λ l. (find_txn l id ≡ Some u) ⊎ ((t ≡ u) × (t.id ≡ id))) (append-nil (submitted ++ foreign))
+    go false h = subst (λ l. IsFoundOr l id u t) (append-nil (submitted ++ foreign))
         (find_more (submitted ++ foreign) [] t id u (subst (λ l. find_txn l id ≡ Some u) (sym (append_assoc submitted foreign (t ∷ []))) h))
 
 pub held_all : (submitted foreign txns : List Txn) (id : TxnId) (u : Txn) → find_txn (submitted ++ keep_all submitted foreign txns) id ≡ Some u → (find_txn (submitted ++ foreign) id ≡ Some u) ⊎ (Has txns u × (u.id ≡ id))

@@ -89,7 +89,7 @@ module _ {cluster : Cluster} {workload : Workload} {w : World} (k : IsReached cl
   new_attempt : submission_of (next cluster workload w (Submit region name)) new.txn.id ≡ Some new
   new_attempt =
       let later = next cluster workload w (Submit region name) in
-      let kept = next_keeps cluster k.run.sound workload k.run.fits w (order k) (Submit region name) submit_legal (inv k) in
+      let kept = next_keeps k.run.sound k.run.fits w (order k) (Submit region name) submit_legal (inv k) in
       let node_new : node_at (world_submitted workload w region session place new) region ≡ node_submitted (node_at w region) new =
       get_or-set_same w.nodes region (node_submitted (node_at w region) new) no_node (subst (λ n. region < n) (sym (inv k).nodes) lr) in
       submission_is_found cluster.regions later kept.nodes kept.ids new (from_region later region new

@@ -34,7 +34,7 @@ use Rattle.dt_site.specs.Site.{SiteView, in_region, node_of}
 use Rattle.dt_site.specs.StandsIn.{IsReached, StandsIn}
 use Rattle.dt_site.proofs.AskedRequests.{AsksFor}
 use Rattle.dt_site.proofs.Lists.{fronts_set, held_more, parts_set}
-use Rattle.dt_site.proofs.SitesInWorlds.{Steps, inv, node_then, order, own_log, own_of, txns_stay, valid_txn}
+use Rattle.dt_site.proofs.SitesInWorlds.{Steps, inv, node_then, own_log, own_of, txns_stay, valid_txn}
 
 module _ {cluster : Cluster} {workload : Workload} {w : World} (k : IsReached cluster workload w) {home : ℕ} (lh : home < cluster.regions) {p : SiteView} (s : StandsIn cluster.regions w home p)
     {source : ℕ} (ls : source < cluster.regions) {number : ℕ} {txn : Txn} (asks : AsksFor w source home number txn) where
@@ -42,7 +42,7 @@ module _ {cluster : Cluster} {workload : Workload} {w : World} (k : IsReached cl
   append_legal = record { regions = (lh, ls); allowed = slice_get_within (asked_of w source home) number txn.id asks.wants }
 
   request : IsRequest w home source txn.id
-  request = request_is cluster workload w (order k) home source lh ls (inv k) txn.id (has_place (asked_of w source home) number txn.id asks.wants)
+  request = request_is (inv k) home source lh ls txn.id (has_place (asked_of w source home) number txn.id asks.wants)
 
   taken_is : taken_of w home source ≡ taken_from p.region.state.here source
   taken_is = ap (λ n. taken_from n.here source) (sym s.node)
@@ -90,7 +90,7 @@ module _ {cluster : Cluster} {workload : Workload} {w : World} (k : IsReached cl
     node_now = record (node_at w home) { log = log_of w home ++ part_of txn home ∷ []; here = after_taking (node_at w home).here source }
 
     logs_now : logs_of (placed w home source (Some txn)) ≡ set (logs_of w) home log_then
-    logs_now = logs_placed cluster workload w (order k) home source lh ls (inv k) txn next_one request asks.found
+    logs_now = logs_placed (inv k) home source lh ls txn next_one request asks.found
 
     own : log_at p.region.state.logs home ≡ log_at (logs_of w) home
     own = own_log k s ∙ sym (log_is w home)
@@ -135,7 +135,7 @@ module _ {cluster : Cluster} {workload : Workload} {w : World} (k : IsReached cl
     -- the id is not in the log yet
     fresh : ¬ (HasPart (log_at p.region.state.logs p.region.state.number) txn.id)
     fresh h =
-        let formed : IsWellFormed (logs_of (placed w home source (Some txn))) = placed_well_formed cluster workload w (order k) home source lh ls (inv k) txn next_one request asks.found in
+        let formed : IsWellFormed (logs_of (placed w home source (Some txn))) = placed_well_formed (inv k) home source lh ls txn next_one request asks.found in
         let fits : home < length (logs_of w) = subst (λ n. home < n) (sym (logs_length w ∙ (inv k).nodes)) lh in
         let log_there : log_at (logs_of (placed w home source (Some txn))) home ≡ log_then = ap (λ l. log_at l home) logs_now ∙ get_or-set_same (logs_of w) home log_then [] fits in
         let once : Distinct (ids_of (log_at (logs_of w) home) ++ txn.id ∷ []) =
@@ -167,7 +167,7 @@ module _ {cluster : Cluster} {workload : Workload} {w : World} (k : IsReached cl
       others : (q : ℕ) → q ≢ home → q < cluster.regions → received_logs (next cluster workload w (Append home source number)) q ≡ received_logs w q
       others q n lq =
           let node_q : node_at (placed w home source (Some txn)) q ≡ node_at w q = get_or-set_other w.nodes home q node_now no_node n in
-          let within : received_of w q home ≤ length (log_at (logs_of w) home) = subst (λ l. received_of w q home ≤ length l) (sym (log_is w home)) (received_within cluster workload w (order k) (inv k) q home lq lh) in
+          let within : received_of w q home ≤ length (log_at (logs_of w) home) = subst (λ l. received_of w q home ≤ length l) (sym (log_is w home)) (received_within (inv k) q home lq lh) in
           ap (λ v. received_logs v q) placed_is
           ∙ ap (λ x. fronts (set x.received q (length x.log)) (logs_of (placed w home source (Some txn)))) node_q
           ∙ ap (fronts (received_lengths w q)) logs_now

@@ -36,7 +36,7 @@ use Rattle.dt_agreement.proofs.Callers.{log_distinct, part_homed, received_withi
 use Rattle.dt_site.specs.Site.{SiteView, in_region, node_of}
 use Rattle.dt_site.specs.StandsIn.{IsReached, StandsIn}
 use Rattle.dt_site.proofs.Lists.{fronts_set, held_all}
-use Rattle.dt_site.proofs.SitesInWorlds.{Steps, inv, node_then, order, own_of, txns_stay, valid_txn}
+use Rattle.dt_site.proofs.SitesInWorlds.{Steps, inv, node_then, own_of, txns_stay, valid_txn}
 
 -- a list up to one place, and from there to a later one
 
@@ -93,7 +93,7 @@ module _ {cluster : Cluster} {workload : Workload} {w : World} (k : IsReached cl
   has_log = ap (λ l. log_at l home) s.logs ∙ received_log w region home
 
   in_log : received_of w region home ≤ length (log_of w home)
-  in_log = received_within cluster workload w (order k) (inv k) region home lr lh
+  in_log = received_within (inv k) region home lr lh
 
   pub has_received : length has_of ≡ received_of w region home
   has_received = ap length has_log ∙ length-take-le (received_of w region home) (log_of w home) in_log
@@ -118,21 +118,21 @@ module _ {cluster : Cluster} {workload : Workload} {w : World} (k : IsReached cl
     -- entries of the home's log, with the world's transactions
 
     module _ (entries : List Entry) (parts : map (λ e. e.part) entries ≡ drop first (take last (log_of w home))) (txns : AllIn (λ e. txn_of w e.part.id ≡ Some e.txn) entries) where
+      -- past what the region has, they are the log's
+      past : (far : ℕ) → length has_of ≡ far → first ≤ far → map (λ e. e.part) (drop (length has_of - first) entries) ≡ drop far (take last (log_of w home))
+      past far long le =
+          sym (drop-map (λ e. e.part) (length has_of - first) entries) ∙ ap (drop (length has_of - first)) parts ∙ ap (λ n. drop (n - first) (drop first (take last (log_of w home)))) long
+          ∙ drop_twice first (far - first) far (take last (log_of w home)) (omega arith)
+
       -- where there is no gap, the region has a longer front of the log with them
 
       joined : (far : ℕ) → has_of ≡ take far (log_of w home) → length has_of ≡ far → first ≤ far → (last ≤ far) ⊎ (far ≤ last)
           → (n : ℕ) × (n ≤ length (log_of w home)) × (far ≤ last → n ≡ last) × (with_entries has_of first entries ≡ take n (log_of w home))
       joined far is long le (inl shorter) =
-          let none : map (λ e. e.part) (drop (length has_of - first) entries) ≡ [] =
-          sym (drop-map (λ e. e.part) (length has_of - first) entries) ∙ ap (drop (length has_of - first)) parts ∙ ap (λ n. drop (n - first) (drop first (take last (log_of w home)))) long
-          ∙ drop_twice first (far - first) far (take last (log_of w home)) (omega arith) ∙ nothing_between far last (log_of w home) shorter in
+          let none : map (λ e. e.part) (drop (length has_of - first) entries) ≡ [] = past far long le ∙ nothing_between far last (log_of w home) shorter in
           let few : far ≤ length (log_of w home) = subst (λ n. n ≤ length (log_of w home)) (sym has_received ∙ long) in_log in
           (far, few, λ longer. omega arith, ap (λ l. has_of ++ l) none ∙ append-nil has_of ∙ is)
-      joined far is long le (inr longer) =
-          let rest : map (λ e. e.part) (drop (length has_of - first) entries) ≡ drop far (take last (log_of w home)) =
-          sym (drop-map (λ e. e.part) (length has_of - first) entries) ∙ ap (drop (length has_of - first)) parts ∙ ap (λ n. drop (n - first) (drop first (take last (log_of w home)))) long
-          ∙ drop_twice first (far - first) far (take last (log_of w home)) (omega arith) in
-          (last, within, λ longer. refl, ap₂ (λ a b. a ++ b) is rest ∙ front_and_rest far last (log_of w home) longer)
+      joined far is long le (inr longer) = (last, within, λ longer. refl, ap₂ (λ a b. a ++ b) is (past far long le) ∙ front_and_rest far last (log_of w home) longer)
 
       either_way : (a b : ℕ) → (a ≤ b) ⊎ (b ≤ a)
       either_way a b = elim (either_le a b) [ inl y ↦ inl y | inr n ↦ inr (omega arith) ]
@@ -202,7 +202,7 @@ module _ {cluster : Cluster} {workload : Workload} {w : World} (k : IsReached cl
         });
         distinct = λ le. subst (λ l. Distinct (ids_of l)) (sym (log_then le).3)
             (each_front _ (ids_of (take (log_then le).0 (log_of w home))) (ids_of (log_of w home)) (front_map (λ p. p.id) (take (log_then le).0 (log_of w home)) (log_of w home) (front_take (log_then le).0 (log_of w home)))
-            (log_distinct cluster workload w (order k) (inv k) home lh));
+            (log_distinct (inv k) home lh));
         few = λ le. let a : parts_in logs_with ≤ parts_in (logs_of w) = few other le in omega (arith, a, short);
       }
 

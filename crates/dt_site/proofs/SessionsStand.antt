@@ -137,15 +137,18 @@ numbers_are w session place = go place.waits
 -- the places of sessions, one of which is changed
 
 module _ (region : ℕ) (name : Bytes) (place : Place) where
-  -- it stands there
-  pub at_changed : (sessions : List Session) (places : List Place) (session : Session) (was : Place) → session_at sessions places region name ≡ Some (session, was)
-      → session_at sessions (with_place sessions places region name place) region name ≡ Some (session, place)
+  -- where a session of the name stands, it stands at the place after the change
+  abbrev StandsThen : List Session → List Place → Session → Place → Type 0
+  StandsThen sessions places session was =
+      session_at sessions places region name ≡ Some (session, was) → session_at sessions (with_place sessions places region name place) region name ≡ Some (session, place)
+
+  pub at_changed : (sessions : List Session) (places : List Place) (session : Session) (was : Place) → StandsThen sessions places session was
   at_changed [] places session was e = cc
   at_changed (t ∷ sessions) [] session was e = cc
   at_changed (t ∷ sessions) (x ∷ places) session was e = go (cases_Bool (is_session region name t)) (at_changed sessions places session was)
     where
       go : (is_session region name t ≡ true) ⊎ (is_session region name t ≡ false)
-          → (session_at sessions places region name ≡ Some (session, was) → session_at sessions (with_place sessions places region name place) region name ≡ Some (session, place))
+          → StandsThen sessions places session was
           → session_at (t ∷ sessions) (with_place (t ∷ sessions) (x ∷ places) region name place) region name ≡ Some (session, place)
       go (inl y) f =
           let is : ◌≡◌ {A = Option (Session × Place)} (Some (t, x)) (Some (session, was)) = rw y at e in
@@ -189,7 +192,7 @@ seat_alike {cluster} {workload} {w} {order} i v {region} lr attempts name (Some 
         → ◌≡◌ {A = Option Seat} (Some (seat_in w (session, record place { waits = waits }))) (Some (seat_in v (session, record place { waits = waits })))
     go None is = refl
     go (Some id) is =
-        let wait : WaitsAt cluster w session place id = waiting_for cluster workload w order i session place id (subst (λ q. q < cluster.regions) (sym r.2) lr) r.3 is in
+        let wait : WaitsAt cluster w session place id = waiting_for i session place id (subst (λ q. q < cluster.regions) (sym r.2) lr) r.3 is in
         let stays : attempt_of w id ≡ attempt_of v id = attempts id wait.submission wait.found (wait.region ∙ r.2) in
         λ i. Some (record { calls = session.calls; answered = place.answered; waits = Some (record { id = id; attempt = stays i }) })
 
@@ -205,7 +208,7 @@ module _ {cluster : Cluster} {workload : Workload} {w : World} (k : IsReached cl
   later = next cluster workload w event
 
   attempt_stays : (id : TxnId) (x : Submission) → submission_of w id ≡ Some x → attempt_of later id ≡ attempt_of w id
-  attempt_stays id x found = attempt_found later id x (next_found cluster k.run.sound workload k.run.fits w (order k) event legal (inv k) id x found) ∙ sym (attempt_found w id x found)
+  attempt_stays id x found = attempt_found later id x (next_found k.run.sound k.run.fits w (order k) event legal (inv k) id x found) ∙ sym (attempt_found w id x found)
 
   -- a session that stands where it stood is kept as it was
   seat_stays : (region : ℕ) → region < cluster.regions → (name : Bytes) (o : Option (Session × Place)) → session_at workload.sessions w.places region name ≡ o
@@ -238,14 +241,17 @@ module _ {cluster : Cluster} {workload : Workload} {w : World} (k : IsReached cl
         kept : seat_of s name ≡ Some (seat_in w (session, place))
         kept = kept_here k' name goes.found
 
+        by_name : (called : Bytes) {b : Bool} → is_named name called ≡ b
+            → seat_of (with_changed change s name (Some (seat_in w (session, place)))) called ≡ cond b (Some (change (seat_in w (session, place)))) (seat_of s called)
+        by_name called e = seat_changed change s name (seat_in w (session, place)) kept called ∙ ap (λ b. cond b (Some (change (seat_in w (session, place)))) (seat_of s called)) e
+
         at : (called : Bytes) → (is_named name called ≡ true) ⊎ (is_named name called ≡ false)
             → seat_of (with_changed change s name (Some (seat_in w (session, place)))) called ≡ option_map (seat_in later) (session_at workload.sessions later.places region called)
         at called (inl y) =
-            seat_changed change s name (seat_in w (session, place)) kept called ∙ ap (λ b. cond b (Some (change (seat_in w (session, place)))) (seat_of s called)) y ∙ ap Some is
+            by_name called y ∙ ap Some is
             ∙ ap (option_map (seat_in later)) (sym (ap₂ (λ p n. session_at workload.sessions p region n) goes.moved (sym (same_name name called y)) ∙ at_changed region name now workload.sessions w.places session place goes.found))
         at called (inr z) =
-            seat_changed change s name (seat_in w (session, place)) kept called ∙ ap (λ b. cond b (Some (change (seat_in w (session, place)))) (seat_of s called)) z
-            ∙ k'.seats called ∙ seat_stays region lr called (session_at workload.sessions w.places region called) refl
+            by_name called z ∙ k'.seats called ∙ seat_stays region lr called (session_at workload.sessions w.places region called) refl
             ∙ ap (option_map (seat_in later)) (sym (ap (λ p. session_at workload.sessions p region called) goes.moved
             ∙ at_others region name now workload.sessions w.places region called (λ _ e. other (is_it name called (sym e)))))
           where
@@ -279,17 +285,19 @@ module _ {cluster : Cluster} {workload : Workload} {w : World} (once : Distinct 
 -- before anything happens
 
 module _ (w : World) (region : ℕ) (name : Bytes) where
-  idle_as : (sessions : List Session)
-      → option_map (λ (x : Session × Place). (idle_seat x.0).1) (session_at sessions (map (λ s. idle_place) sessions) region name)
-      ≡ option_map (seat_in w) (session_at sessions (map (λ s. idle_place) sessions) region name)
+  -- the session, with where it stands
+  abbrev idle_at : List Session → Option (Session × Place)
+  idle_at sessions = session_at sessions (map (λ s. idle_place) sessions) region name
+
+  -- its seat is the idle one
+  abbrev IdleAs : List Session → Type 0
+  IdleAs sessions = option_map (λ (x : Session × Place). (idle_seat x.0).1) (idle_at sessions) ≡ option_map (seat_in w) (idle_at sessions)
+
+  idle_as : (sessions : List Session) → IdleAs sessions
   idle_as [] = refl
   idle_as (s ∷ sessions) = go (cases_Bool (is_session region name s)) (idle_as sessions)
     where
-      go : (is_session region name s ≡ true) ⊎ (is_session region name s ≡ false)
-          → option_map (λ (x : Session × Place). (idle_seat x.0).1) (session_at sessions (map (λ t. idle_place) sessions) region name)
-          ≡ option_map (seat_in w) (session_at sessions (map (λ t. idle_place) sessions) region name)
-          → option_map (λ (x : Session × Place). (idle_seat x.0).1) (session_at (s ∷ sessions) (map (λ t. idle_place) (s ∷ sessions)) region name)
-          ≡ option_map (seat_in w) (session_at (s ∷ sessions) (map (λ t. idle_place) (s ∷ sessions)) region name)
+      go : (is_session region name s ≡ true) ⊎ (is_session region name s ≡ false) → IdleAs sessions → IdleAs (s ∷ sessions)
       go (inl y) ih = rw y refl
       go (inr n) ih = rw n ih
 

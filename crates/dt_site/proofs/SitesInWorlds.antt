@@ -76,10 +76,10 @@ module _ {cluster : Cluster} {workload : Workload} {w : World} (k : IsReached cl
   after_more event = ap (λ v. next cluster workload v event) k.after ∙ sym (world_after_more cluster workload k.events event)
 
   pub txns_stay : (event : Event) → IsLegal cluster workload w event → (id : TxnId) (txn : Txn) → txn_of w id ≡ Some txn → txn_of (next cluster workload w event) id ≡ Some txn
-  txns_stay event l id txn e = next_txns cluster k.run.sound workload k.run.fits w order event l inv id txn e
+  txns_stay event l id txn e = next_txns k.run.sound k.run.fits w order event l inv id txn e
 
   pub valid_txn : (id : TxnId) (txn : Txn) → txn_of w id ≡ Some txn → IsValid cluster.procs cluster.version cluster.regions txn
-  valid_txn id txn e = (transaction_valid cluster workload w order inv id txn e).0
+  valid_txn id txn e = (transaction_valid inv id txn e).0
 
   -- a site that stands in it
 

@@ -1,6 +1,7 @@
 pub mod Site
 pub mod StandsIn
 pub mod SessionsStandIn
+pub mod NextAttempt
 pub mod SiteCode
 pub use Rattle.dt_session.specs.World
 pub use Rattle.dt_session.specs.Step

@@ -13,7 +13,7 @@
 //! - after its call answers that it was made, it stands in the world after the event, and so do all other sites.
 //!
 //! What the tables of all regions have at first, they share ([`opening_of`], [`first_site`]). What became of a
-//! session's attempt, its region says ([`last_outcome_at`]).
+//! session's attempt, its region says ([`last_outcome_at`]), and so what the session submits next ([`next_attempt`]).
 //!
 //! The proofs speak of one site and a world, not of how the others are held. So they serve a world that holds all sites, as
 //! well as a node that has only its own and learns of the others by packets.
@@ -23,6 +23,6 @@ mod outcome;
 mod site;
 mod tables;
 
-pub use outcome::last_outcome_at;
+pub use outcome::{last_outcome_at, next_attempt};
 pub use site::{Origin, Site, first_site};
 pub use tables::opening_of;

@@ -3,7 +3,7 @@
 -- grammar: what the first token of a part says of the part.
 pub use Rattle.dt_syntax.proofs.FirstPassEnds.{FirstPassEnds, first_pass_ends}
 pub use Rattle.dt_syntax.proofs.LimitsKept.{procs_small}
-pub use Rattle.dt_syntax.proofs.OneReading.{one_reading}
+pub use Rattle.dt_syntax.proofs.OneReading.{none_spelled, one_reading}
 pub use Rattle.dt_syntax.proofs.OneStop.{Read, Stop, end, many, one_stop, same_many, same_wrong, wrong}
 pub use Rattle.dt_syntax.proofs.Shapes.{AreItems, begins_other, chain_cut, chain_shape, cut_first, front_token, inner, items_cut, items_stop}
 pub use Rattle.dt_syntax.proofs.Shapes.{key_first, key_none, after_first, link_first, links_stop, more_end, more_next, next_item, no_comma_close, no_else}

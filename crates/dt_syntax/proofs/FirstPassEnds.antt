@@ -57,6 +57,11 @@ end_comes text before stack t None is (inr other) =
       },
     ))
 
+-- what is expected after one token more
+read_one : (before : List Placed) (one : Placed) (stack : List Sym) {next : Option (List Sym)} → run (expect.Procs ∷ []) before ≡ Some stack → advance stack one.token ≡ next →
+    run (expect.Procs ∷ []) (before ++ one ∷ []) ≡ onward next (λ s. Some s)
+read_one before one stack read is = run_more before one stack read ∙ ap (λ o. onward o (λ s. Some s)) is
+
 -- a token comes next: it is refused, or is one too many, or the others are tried after it
 token_comes : (text : List ℕ) (before : List Placed) (one : Placed) (after : List Placed) (stack : List Sym) → Tried text before (one ∷ after) stack →
     (next : Option (List Sym)) → advance stack one.token ≡ next → (many : Bool) → is_too_many (backwards before []) one.token ≡ many →
@@ -72,7 +77,7 @@ token_comes text before one after stack t None is many same onward_from =
           refl,
           λ begins.
               let goes = beginning_read (before ++ one ∷ []) begins in
-              none_some (run_more before one stack t.read ∙ ap (λ o. onward o (λ s. Some s)) is) goes.1,
+              none_some (read_one before one stack t.read is) goes.1,
         );
       },
     ))
@@ -84,7 +89,7 @@ token_comes text before one after stack t (Some next) is true same onward_from =
         token = one;
         after = after;
         well = starts_well text before (one ∷ after) stack t;
-        goes_on = read_begins (before ++ one ∷ []) next (run_more before one stack t.read ∙ ap (λ o. onward o (λ s. Some s)) is);
+        goes_on = read_begins (before ++ one ∷ []) next (read_one before one stack t.read is);
         too_many = same;
         stands = refl;
       },
@@ -92,7 +97,7 @@ token_comes text before one after stack t (Some next) is true same onward_from =
 token_comes text before one after stack t (Some next) is false same onward_from =
     onward_from next (record {
       cut = t.cut ∙ sym (append_assoc before (one ∷ []) after);
-      read = run_more before one stack t.read ∙ ap (λ o. onward o (λ s. Some s)) is;
+      read = read_one before one stack t.read is;
       few = few_more [] before one t.few same;
     })
 

@@ -19,7 +19,7 @@ use Rattle.dt_syntax.specs.Fronts.{comma_param, joined_part}
 use Rattle.dt_syntax.specs.Limits.{IsSmall}
 use Rattle.dt_syntax.specs.FirstPass.{is_proc, is_mode, is_comma, is_close, procs_begun, in_proc, is_proc_too_many, is_param_too_many, is_key_too_many}
 use Rattle.dt_syntax.specs.FirstPass.{is_token_too_many, is_bracket_too_many, is_too_many, NoneTooMany, backwards}
-use Rattle.dt_lists.proofs.Callers.{all_append}
+use Rattle.dt_lists.proofs.Callers.{all_append, all_more}
 
 few_left : (e xs ys : List Placed) → NoneTooMany e (xs ++ ys) → NoneTooMany e xs
 few_left e [] ys h = tt
@@ -53,8 +53,8 @@ maker_quiet makes_text = (refl, refl)
 bracketed_quiet : (b : Bracketed) → AllIn Quiet (bracketed_tokens b)
 bracketed_quiet b = ((refl, refl), ((refl, refl), ((refl, refl), tt)))
 
-last_quiet : (xs : List Placed) (t : Placed) → AllIn Quiet xs → Quiet t → AllIn Quiet (xs ++ t ∷ [])
-last_quiet xs t h q = all_append Quiet xs (t ∷ []) h (q, tt)
+closed_quiet : (x : Syntax) (p q : ℕ) → AllIn Quiet (syntax_tokens x) → AllIn Quiet (at p tok.Open ∷ (syntax_tokens x ++ at q tok.Close ∷ []))
+closed_quiet x p q quiet = ((refl, refl), all_more Quiet (syntax_tokens x) (at q tok.Close) quiet (refl, refl))
 
 mutual
   syntax_quiet : (x : Syntax) → AllIn Quiet (syntax_tokens x)
@@ -65,9 +65,9 @@ mutual
   syntax_quiet (text p t) = ((refl, refl), tt)
   syntax_quiet (truth p b) = ((refl, refl), tt)
   syntax_quiet (name p n) = ((refl, refl), tt)
-  syntax_quiet (parens p x q) = ((refl, refl), last_quiet (syntax_tokens x) (at q tok.Close) (syntax_quiet x) (refl, refl))
+  syntax_quiet (parens p x q) = closed_quiet x p q (syntax_quiet x)
   syntax_quiet (of_key p r b) = (reader_quiet r, bracketed_quiet b)
-  syntax_quiet (made p m o x q) = (maker_quiet m, ((refl, refl), last_quiet (syntax_tokens x) (at q tok.Close) (syntax_quiet x) (refl, refl)))
+  syntax_quiet (made p m o x q) = (maker_quiet m, closed_quiet x o q (syntax_quiet x))
 
   links_quiet : (ls : Links) → AllIn Quiet (links_tokens ls)
   links_quiet no_link = tt
@@ -93,7 +93,7 @@ more_items_quiet (m ∷ more) =
 
 -- what a `let` and a `set` have in common
 setting_quiet : (q : ℕ) (n : List ℕ) (i : ℕ) (x : Syntax) (e : ℕ) → AllIn Quiet (at q (tok.Name n) ∷ at i tok.Is ∷ (syntax_tokens x ++ at e tok.Semicolon ∷ []))
-setting_quiet q n i x e = ((refl, refl), ((refl, refl), last_quiet (syntax_tokens x) (at e tok.Semicolon) (syntax_quiet x) (refl, refl)))
+setting_quiet q n i x e = ((refl, refl), ((refl, refl), all_more Quiet (syntax_tokens x) (at e tok.Semicolon) (syntax_quiet x) (refl, refl)))
 
 mutual
   statement_quiet : (s : Statement) → AllIn Quiet (statement_tokens s)
@@ -103,20 +103,20 @@ mutual
   statement_quiet (when p x b ss e) = (
     (refl, refl),
     all_append Quiet (syntax_tokens x) (at b tok.Begin ∷ (statements_tokens ss ++ at e tok.End ∷ [])) (syntax_quiet x)
-        ((refl, refl), last_quiet (statements_tokens ss) (at e tok.End) (statements_quiet ss) (refl, refl)),
+        ((refl, refl), all_more Quiet (statements_tokens ss) (at e tok.End) (statements_quiet ss) (refl, refl)),
   )
   statement_quiet (choose p x b ss e w c rs f) = (
     (refl, refl),
     all_append Quiet (syntax_tokens x) (at b tok.Begin ∷ (statements_tokens ss ++ at e tok.End ∷ at w tok.Else ∷ at c tok.Begin ∷ (statements_tokens rs ++ at f tok.End ∷ []))) (syntax_quiet x) (
       (refl, refl),
       all_append Quiet (statements_tokens ss) (at e tok.End ∷ at w tok.Else ∷ at c tok.Begin ∷ (statements_tokens rs ++ at f tok.End ∷ [])) (statements_quiet ss)
-          ((refl, refl), ((refl, refl), ((refl, refl), last_quiet (statements_tokens rs) (at f tok.End) (statements_quiet rs) (refl, refl)))),
+          ((refl, refl), ((refl, refl), ((refl, refl), all_more Quiet (statements_tokens rs) (at f tok.End) (statements_quiet rs) (refl, refl)))),
     ),
   )
   statement_quiet (abort p q t e) = ((refl, refl), ((refl, refl), ((refl, refl), tt)))
   statement_quiet (give p i more e) = (
     (refl, refl),
-    last_quiet (items_tokens i more) (at e tok.Semicolon)
+    all_more Quiet (items_tokens i more) (at e tok.Semicolon)
         (all_append Quiet (item_tokens i) (flat_map (λ m. at m.0 tok.Comma ∷ item_tokens m.1) more) (item_quiet i) (more_items_quiet more)) (refl, refl),
   )
 
@@ -147,7 +147,7 @@ key_rest_quiet : (k : KeySyntax) → AllIn Quiet (key_rest k)
 key_rest_quiet k = (
   (refl, refl),
   all_append Quiet (part_tokens k.first) (flat_map joined_part k.more ++ at k.end_at tok.Semicolon ∷ []) (part_quiet k.first)
-      (last_quiet (flat_map joined_part k.more) (at k.end_at tok.Semicolon) (parts_quiet k.more) (refl, refl)),
+      (all_more Quiet (flat_map joined_part k.more) (at k.end_at tok.Semicolon) (parts_quiet k.more) (refl, refl)),
 )
 
 mode_no_proc : (w : Bool) → is_proc (mode_token w) ≡ false
@@ -260,8 +260,9 @@ proc_small e p h =
     let start = at p.open_at tok.Open ∷ at p.name_at (tok.Name p.name) ∷ at p.word_at tok.Proc ∷ e in
     let keys = flat_map key_tokens (p.key ∷ p.more_keys) in
     let body = at p.begin_at tok.Begin ∷ (statements_tokens p.body ++ at p.end_at tok.End ∷ []) in
-    let inside : NoneTooMany start (params_tokens p.params ++ at p.close_at tok.Close ∷ (key_tokens p.key ++ (flat_map key_tokens p.more_keys ++ body))) = h.1.1.1 in
-    let heads = few_right start (params_tokens p.params) (at p.close_at tok.Close ∷ (key_tokens p.key ++ (flat_map key_tokens p.more_keys ++ body))) inside in
+    let behind_params = key_tokens p.key ++ (flat_map key_tokens p.more_keys ++ body) in
+    let inside : NoneTooMany start (params_tokens p.params ++ at p.close_at tok.Close ∷ behind_params) = h.1.1.1 in
+    let heads = few_right start (params_tokens p.params) (at p.close_at tok.Close ∷ behind_params) inside in
     let closed = at p.close_at tok.Close ∷ backwards (params_tokens p.params) start in
     let joined : NoneTooMany closed (keys ++ body) = subst (NoneTooMany closed) (sym (append_assoc (key_tokens p.key) (flat_map key_tokens p.more_keys) body)) heads.1 in
     let modes : in_proc is_mode closed ≡ 0 = modes_same (params_tokens p.params) start (params_quiet p.params) in (

@@ -21,7 +21,7 @@ use Rattle.dt_syntax.specs.Grammar.{KeySyntax, key_tokens, mode_token, Item, row
 use Rattle.dt_syntax.specs.Grammar.{clear_key, when, choose, abort, give, Statements, nothing, first, statement_tokens, statements_tokens, IsItem, IsStatement}
 use Rattle.dt_syntax.specs.Grammar.{AreStatements, ProcSyntax, proc_tokens, procs_tokens, IsProc, AreProcSyntaxes, InGrammar, Begins}
 use Rattle.dt_syntax.specs.Fronts.{Stops, FrontStops, comma_param, joined_part}
-use Rattle.dt_syntax.proofs.Shapes.{links_stop, six_stop, next_item, items_stop}
+use Rattle.dt_syntax.proofs.Shapes.{from_more_parts, links_stop, six_stop, next_item, items_stop}
 
 some_front : (n : ℕ) (ts : List Placed) → FrontStops n ts → 0 < length ts
 some_front n [] h = absurd h
@@ -174,27 +174,30 @@ more_parts_read (m ∷ more) e st us =
     ∙ part_read m.1 (expect.MoreParts ∷ st) (flat_map joined_part more ++ at e tok.Semicolon ∷ us)
     ∙ more_parts_read more e st us
 
+-- what is expected after the word of a declaration
+abbrev after_mode : List Sym → List Sym
+after_mode st = expect.Name ∷ expect.Is ∷ expect.Part ∷ expect.MoreParts ∷ st
+
 -- a declaration, from its word on
 key_goes : (k : KeySyntax) (st : List Sym) (us : List Placed) →
-    run (expect.Name ∷ expect.Is ∷ expect.Part ∷ expect.MoreParts ∷ st)
-    (at k.name_at (tok.Name k.name) ∷ at k.is_at tok.Is ∷ ((part_tokens k.first ++ (flat_map joined_part k.more ++ at k.end_at tok.Semicolon ∷ [])) ++ us)) ≡ run st us
+    run (after_mode st) (at k.name_at (tok.Name k.name) ∷ at k.is_at tok.Is ∷ ((part_tokens k.first ++ from_more_parts k []) ++ us)) ≡ run st us
 key_goes k st us =
     ap (run (expect.Part ∷ expect.MoreParts ∷ st))
-    (append_assoc (part_tokens k.first) (flat_map joined_part k.more ++ at k.end_at tok.Semicolon ∷ []) us
+    (append_assoc (part_tokens k.first) (from_more_parts k []) us
     ∙ ap (λ v. part_tokens k.first ++ v) (append_assoc (flat_map joined_part k.more) (at k.end_at tok.Semicolon ∷ []) us))
-    ∙ part_read k.first (expect.MoreParts ∷ st) (flat_map joined_part k.more ++ at k.end_at tok.Semicolon ∷ us)
+    ∙ part_read k.first (expect.MoreParts ∷ st) (from_more_parts k us)
     ∙ more_parts_read k.more k.end_at st us
 
 mode_read : (w : Bool) (p : ℕ) (st : List Sym) (us : List Placed) →
-    (run (expect.Keys ∷ st) (at p (mode_token w) ∷ us) ≡ run (expect.Name ∷ expect.Is ∷ expect.Part ∷ expect.MoreParts ∷ expect.MoreKeys ∷ st) us)
-    × (run (expect.MoreKeys ∷ st) (at p (mode_token w) ∷ us) ≡ run (expect.Name ∷ expect.Is ∷ expect.Part ∷ expect.MoreParts ∷ expect.MoreKeys ∷ st) us)
+    (run (expect.Keys ∷ st) (at p (mode_token w) ∷ us) ≡ run (after_mode (expect.MoreKeys ∷ st)) us)
+    × (run (expect.MoreKeys ∷ st) (at p (mode_token w) ∷ us) ≡ run (after_mode (expect.MoreKeys ∷ st)) us)
 mode_read true p st us = (refl, refl)
 mode_read false p st us = (refl, refl)
 
 key_read : (k : KeySyntax) (st : List Sym) (us : List Placed) →
     run (expect.Keys ∷ st) (key_tokens k ++ us) ≡ run (expect.MoreKeys ∷ st) us
 key_read k st us =
-    (mode_read k.write k.word_at st (at k.name_at (tok.Name k.name) ∷ at k.is_at tok.Is ∷ ((part_tokens k.first ++ (flat_map joined_part k.more ++ at k.end_at tok.Semicolon ∷ [])) ++ us))).0
+    (mode_read k.write k.word_at st (at k.name_at (tok.Name k.name) ∷ at k.is_at tok.Is ∷ ((part_tokens k.first ++ from_more_parts k []) ++ us))).0
     ∙ key_goes k (expect.MoreKeys ∷ st) us
 
 more_keys_read : (ks : List KeySyntax) (b : ℕ) (st : List Sym) (us : List Placed) →
@@ -203,7 +206,7 @@ more_keys_read [] b st us = refl
 more_keys_read (k ∷ ks) b st us =
     ap (run (expect.MoreKeys ∷ st)) (append_assoc (key_tokens k) (flat_map key_tokens ks) (at b tok.Begin ∷ us))
     ∙ (mode_read k.write k.word_at st (at k.name_at (tok.Name k.name) ∷ at k.is_at tok.Is ∷
-    ((part_tokens k.first ++ (flat_map joined_part k.more ++ at k.end_at tok.Semicolon ∷ [])) ++ (flat_map key_tokens ks ++ at b tok.Begin ∷ us)))).1
+    ((part_tokens k.first ++ from_more_parts k []) ++ (flat_map key_tokens ks ++ at b tok.Begin ∷ us)))).1
     ∙ key_goes k (expect.MoreKeys ∷ st) (flat_map key_tokens ks ++ at b tok.Begin ∷ us)
     ∙ more_keys_read ks b st us
 
@@ -266,30 +269,36 @@ after_statement (choose p x b ts f w c rs g) ss e st us = refl
 after_statement (abort p q t f) ss e st us = refl
 after_statement (give p i more f) ss e st us = refl
 
+-- the value of a `let` or a `set`
+value_read : (x : Syntax) (e : ℕ) (st : List Sym) (us : List Placed) → IsLevel 0 x →
+    run (expect.Level 0 ∷ expect.Semicolon ∷ expect.Statements ∷ st) ((syntax_tokens x ++ at e tok.Semicolon ∷ []) ++ us) ≡ run (expect.Statements ∷ st) us
+value_read x e st us h =
+    ap (run (expect.Level 0 ∷ expect.Semicolon ∷ expect.Statements ∷ st)) (append_assoc (syntax_tokens x) (at e tok.Semicolon ∷ []) us)
+    ∙ sound x 0 (expect.Semicolon ∷ expect.Statements ∷ st) (at e tok.Semicolon ∷ us) h tt
+
+-- what is expected after an `if`
+abbrev after_if : List Sym → List Sym
+after_if st = expect.Begin ∷ expect.Statements ∷ expect.AfterIf ∷ st
+
 mutual
   statement_read : (s : Statement) (st : List Sym) (us : List Placed) → IsStatement s →
       run (expect.Statements ∷ st) (statement_tokens s ++ us) ≡ run (after s ∷ st) us
-  statement_read (let_new p q n i x e) st us h =
-      ap (run (expect.Level 0 ∷ expect.Semicolon ∷ expect.Statements ∷ st)) (append_assoc (syntax_tokens x) (at e tok.Semicolon ∷ []) us)
-      ∙ sound x 0 (expect.Semicolon ∷ expect.Statements ∷ st) (at e tok.Semicolon ∷ us) h tt
-  statement_read (set_key p q n i x e) st us h =
-      ap (run (expect.Level 0 ∷ expect.Semicolon ∷ expect.Statements ∷ st)) (append_assoc (syntax_tokens x) (at e tok.Semicolon ∷ []) us)
-      ∙ sound x 0 (expect.Semicolon ∷ expect.Statements ∷ st) (at e tok.Semicolon ∷ us) h tt
+  statement_read (let_new p q n i x e) st us h = value_read x e st us h
+  statement_read (set_key p q n i x e) st us h = value_read x e st us h
   statement_read (clear_key p q n e) st us h = refl
   statement_read (when p x b ss e) st us h =
-      ap (run (expect.Level 0 ∷ expect.Begin ∷ expect.Statements ∷ expect.AfterIf ∷ st))
+      ap (run (expect.Level 0 ∷ after_if st))
       (append_assoc (syntax_tokens x) (at b tok.Begin ∷ (statements_tokens ss ++ at e tok.End ∷ [])) us
       ∙ ap (λ v. syntax_tokens x ++ at b tok.Begin ∷ v) (append_assoc (statements_tokens ss) (at e tok.End ∷ []) us))
-      ∙ sound x 0 (expect.Begin ∷ expect.Statements ∷ expect.AfterIf ∷ st) (at b tok.Begin ∷ (statements_tokens ss ++ at e tok.End ∷ us)) h.0 tt
+      ∙ sound x 0 (after_if st) (at b tok.Begin ∷ (statements_tokens ss ++ at e tok.End ∷ us)) h.0 tt
       ∙ statements_read ss e (expect.AfterIf ∷ st) us h.1
   statement_read (choose p x b ss e w c rs f) st us h =
-      ap (run (expect.Level 0 ∷ expect.Begin ∷ expect.Statements ∷ expect.AfterIf ∷ st))
+      ap (run (expect.Level 0 ∷ after_if st))
       (append_assoc (syntax_tokens x) (at b tok.Begin ∷ (statements_tokens ss ++ at e tok.End ∷ at w tok.Else ∷ at c tok.Begin ∷ (statements_tokens rs ++ at f tok.End ∷ []))) us
       ∙ ap (λ v. syntax_tokens x ++ at b tok.Begin ∷ v)
       (append_assoc (statements_tokens ss) (at e tok.End ∷ at w tok.Else ∷ at c tok.Begin ∷ (statements_tokens rs ++ at f tok.End ∷ [])) us
       ∙ ap (λ v. statements_tokens ss ++ at e tok.End ∷ at w tok.Else ∷ at c tok.Begin ∷ v) (append_assoc (statements_tokens rs) (at f tok.End ∷ []) us)))
-      ∙ sound x 0 (expect.Begin ∷ expect.Statements ∷ expect.AfterIf ∷ st)
-      (at b tok.Begin ∷ (statements_tokens ss ++ at e tok.End ∷ at w tok.Else ∷ at c tok.Begin ∷ (statements_tokens rs ++ at f tok.End ∷ us))) h.0 tt
+      ∙ sound x 0 (after_if st) (at b tok.Begin ∷ (statements_tokens ss ++ at e tok.End ∷ at w tok.Else ∷ at c tok.Begin ∷ (statements_tokens rs ++ at f tok.End ∷ us))) h.0 tt
       ∙ statements_read ss e (expect.AfterIf ∷ st) (at w tok.Else ∷ at c tok.Begin ∷ (statements_tokens rs ++ at f tok.End ∷ us)) h.1
       ∙ statements_read rs f (expect.Statements ∷ st) us h.2
   statement_read (abort p q t e) st us h = refl

@@ -13,7 +13,7 @@ use Rattle.dt_syntax.specs.declared.token.Placed.{Placed}
 use Rattle.dt_syntax.specs.declared.machine.Sym.{Sym}
 use Rattle.dt_syntax.specs.declared.machine.Sym.TheVariants as expect
 use Rattle.dt_syntax.specs.MachineInner.{Turn, takes, passes, refuses, tails, after_operator, operand, operator, statement, turn, after_turn, advance, onward, run}
-use Rattle.dt_syntax.specs.Grammar.{at, Syntax, chain, minus, denial, int, text, truth, name, parens, of_key, made, Links, no_link, link, syntax_tokens}
+use Rattle.dt_syntax.specs.Grammar.{at, Bracketed, Syntax, chain, minus, denial, int, text, truth, name, parens, of_key, made, Links, no_link, link, syntax_tokens}
 use Rattle.dt_syntax.specs.Grammar.{links_tokens, level_of, IsLevel, AreLinks, reads_int, reads_text, reads_presence, makes_length, makes_text, Param}
 use Rattle.dt_syntax.specs.Grammar.{kind_token, Params, no_param, params, params_tokens, KeyPart, text_part, name_part, show_part, part_tokens}
 use Rattle.dt_syntax.specs.Grammar.{KeySyntax, key_tokens, Item, row_item, value_item, item_tokens, let_new, set_key, clear_key, when, choose, abort, give}
@@ -160,6 +160,15 @@ prefix_back true n t x e spells fits = λ st tree.
     let y = climb n (x tree.0.0) (fits tree.0.0 tree.0.1) (λ h. let five : 5 ≡ n = omega arith in subst (λ m. IsLevel m (x tree.0.0)) five (fits tree.0.0 tree.0.1)) st tree.1 in
     ((y.0, y.1), y.2, y.3 ∙ ap (λ v. v ++ all_spelled (tails n ++ st) tree.1) (spells tree.0.0))
 
+-- a name in brackets
+abbrev in_brackets : ℕ → ℕ × List ℕ → ℕ → Bracketed
+in_brackets o m c = record { open_at = o; name_at = m.0; name = m.1; close_at = c }
+
+-- an operand up to its `)`, and what stands behind it
+closed : (n : ℕ) (x : Syntax) (q : ℕ) (st : List Sym) (tree : Trees (tails n ++ st)) →
+    (syntax_tokens x ++ at q tok.Close ∷ []) ++ all_spelled (tails n ++ st) tree ≡ syntax_tokens x ++ at q tok.Close ∷ all_spelled (tails n ++ st) tree
+closed n x q st tree = append_assoc (syntax_tokens x) (at q tok.Close ∷ []) (all_spelled (tails n ++ st) tree)
+
 operand_back : (n : ℕ) (t : Token) (p : ℕ) → Back (expect.Level n) (at p t) (operand n t)
 operand_back n (tok.Int z) p = λ st tree. let y = climb n (int p z) (omega arith) (λ h. h) st tree in ((y.0, y.1), y.2, y.3)
 operand_back n (tok.Text b) p = λ st tree. let y = climb n (text p b) (omega arith) (λ h. h) st tree in ((y.0, y.1), y.2, y.3)
@@ -167,19 +176,19 @@ operand_back n (tok.Truth b) p = λ st tree. let y = climb n (truth p b) (omega 
 operand_back n (tok.Name b) p = λ st tree. let y = climb n (name p b) (omega arith) (λ h. h) st tree in ((y.0, y.1), y.2, y.3)
 operand_back n tok.Open p = λ st (x, (q, tree)).
     let y = climb n (parens p x.0 q) (omega arith, x.1) (λ h. (h, x.1)) st tree in
-    ((y.0, y.1), y.2, y.3 ∙ ap (λ v. at p tok.Open ∷ v) (append_assoc (syntax_tokens x.0) (at q tok.Close ∷ []) (all_spelled (tails n ++ st) tree)))
+    ((y.0, y.1), y.2, y.3 ∙ ap (λ v. at p tok.Open ∷ v) (closed n x.0 q st tree))
 operand_back n tok.IntWord p = λ st (o, (m, (c, tree))).
-    let y = climb n (of_key p reads_int (record { open_at = o; name_at = m.0; name = m.1; close_at = c })) (omega arith) (λ h. h) st tree in ((y.0, y.1), y.2, y.3)
+    let y = climb n (of_key p reads_int (in_brackets o m c)) (omega arith) (λ h. h) st tree in ((y.0, y.1), y.2, y.3)
 operand_back n tok.TextWord p = λ st (o, (m, (c, tree))).
-    let y = climb n (of_key p reads_text (record { open_at = o; name_at = m.0; name = m.1; close_at = c })) (omega arith) (λ h. h) st tree in ((y.0, y.1), y.2, y.3)
+    let y = climb n (of_key p reads_text (in_brackets o m c)) (omega arith) (λ h. h) st tree in ((y.0, y.1), y.2, y.3)
 operand_back n tok.Has p = λ st (o, (m, (c, tree))).
-    let y = climb n (of_key p reads_presence (record { open_at = o; name_at = m.0; name = m.1; close_at = c })) (omega arith) (λ h. h) st tree in ((y.0, y.1), y.2, y.3)
+    let y = climb n (of_key p reads_presence (in_brackets o m c)) (omega arith) (λ h. h) st tree in ((y.0, y.1), y.2, y.3)
 operand_back n tok.Len p = λ st (o, (x, (q, tree))).
     let y = climb n (made p makes_length o x.0 q) (omega arith, x.1) (λ h. (h, x.1)) st tree in
-    ((y.0, y.1), y.2, y.3 ∙ ap (λ v. at p tok.Len ∷ at o tok.Open ∷ v) (append_assoc (syntax_tokens x.0) (at q tok.Close ∷ []) (all_spelled (tails n ++ st) tree)))
+    ((y.0, y.1), y.2, y.3 ∙ ap (λ v. at p tok.Len ∷ at o tok.Open ∷ v) (closed n x.0 q st tree))
 operand_back n tok.Show p = λ st (o, (x, (q, tree))).
     let y = climb n (made p makes_text o x.0 q) (omega arith, x.1) (λ h. (h, x.1)) st tree in
-    ((y.0, y.1), y.2, y.3 ∙ ap (λ v. at p tok.Show ∷ at o tok.Open ∷ v) (append_assoc (syntax_tokens x.0) (at q tok.Close ∷ []) (all_spelled (tails n ++ st) tree)))
+    ((y.0, y.1), y.2, y.3 ∙ ap (λ v. at p tok.Show ∷ at o tok.Open ∷ v) (closed n x.0 q st tree))
 operand_back n tok.Not p = prefix_back (nat_le n 5) n (at p tok.Not) (denial p) refl (λ y. refl) (λ y h. (refl, h))
 operand_back n (tok.Op op.Sub) p = prefix_back (nat_le n 5) n (at p (tok.Op op.Sub)) (minus p) refl (λ y. refl) (λ y h. (refl, h))
 operand_back n t p = tt
@@ -264,6 +273,10 @@ as_item (takes after) t back = λ st tree. let b = back st tree in ((value_item 
 as_item passes t back = ((value_item back.0.0, back.0.1), back.1)
 as_item refuses t back = tt
 
+-- a declaration, from its parts
+abbrev key_of : ℕ → Bool → ℕ × List ℕ → ℕ → KeyPart → List (ℕ × KeyPart) × ℕ → KeySyntax
+key_of p write m i part more = record { word_at = p; write = write; name_at = m.0; name = m.1; is_at = i; first = part; more = more.0; end_at = more.1 }
+
 back : (s : Sym) (t : Token) (p : ℕ) → Back s (at p t) (turn s t)
 back expect.Procs tok.Proc p = λ st (m, (o, (ps, (k, (procs, rest))))). (
   (
@@ -313,21 +326,19 @@ back expect.MoreParams t p = tt
 back expect.Kind tok.IntWord p = λ st rest. ((p, kind.Int), rest, refl)
 back expect.Kind tok.TextWord p = λ st rest. ((p, kind.Text), rest, refl)
 back expect.Kind t p = tt
-back expect.Keys tok.Read p = λ st (m, (i, (part, (more, (r, rest))))). ((record { word_at = p; write = false; name_at = m.0; name = m.1; is_at = i; first = part; more = more.0; end_at = more.1 }, r), rest, simp append_assoc)
-back expect.Keys tok.Write p = λ st (m, (i, (part, (more, (r, rest))))). ((record { word_at = p; write = true; name_at = m.0; name = m.1; is_at = i; first = part; more = more.0; end_at = more.1 }, r), rest, simp append_assoc)
+back expect.Keys tok.Read p = λ st (m, (i, (part, (more, (r, rest))))). ((key_of p false m i part more, r), rest, simp append_assoc)
+back expect.Keys tok.Write p = λ st (m, (i, (part, (more, (r, rest))))). ((key_of p true m i part more, r), rest, simp append_assoc)
 back expect.Keys t p = tt
 back expect.MoreKeys tok.Read p = λ st (m, (i, (part, (more, (r, rest))))).
-    let key : KeySyntax = record { word_at = p; write = false; name_at = m.0; name = m.1; is_at = i; first = part; more = more.0; end_at = more.1 } in
-    (with_key key r, rest, simp append_assoc)
+    (with_key (key_of p false m i part more) r, rest, simp append_assoc)
 back expect.MoreKeys tok.Write p = λ st (m, (i, (part, (more, (r, rest))))).
-    let key : KeySyntax = record { word_at = p; write = true; name_at = m.0; name = m.1; is_at = i; first = part; more = more.0; end_at = more.1 } in
-    (with_key key r, rest, simp append_assoc)
+    (with_key (key_of p true m i part more) r, rest, simp append_assoc)
 back expect.MoreKeys tok.Begin p = λ st (c, rest).
     (record { more_keys = []; begin_at = p; body = c.body; end_at = c.end_at; good = c.good }, rest, refl)
 back expect.MoreKeys t p = tt
 back expect.Part (tok.Text n) p = λ st rest. (text_part p n, rest, refl)
 back expect.Part (tok.Name n) p = λ st rest. (name_part p n, rest, refl)
-back expect.Part tok.Show p = λ st (o, (m, (c, rest))). (show_part p (record { open_at = o; name_at = m.0; name = m.1; close_at = c }), rest, refl)
+back expect.Part tok.Show p = λ st (o, (m, (c, rest))). (show_part p (in_brackets o m c), rest, refl)
 back expect.Part t p = tt
 back expect.MoreParts (tok.Op op.Join) p = λ st (part, (more, rest)). (((p, part) ∷ more.0, more.1), rest, simp append_assoc)
 back expect.MoreParts tok.Semicolon p = λ st rest. (([], p), rest, refl)
@@ -336,7 +347,7 @@ back expect.Statements t p = statement_back t p
 back expect.AfterIf tok.Else p = λ st (b, (a, (c, rest))).
     ((Some (record { else_at = p; begin_at = b; block = a }), c), rest, simp append_assoc)
 back expect.AfterIf t p = no_else (statement t) (at p t) (statement_back t p)
-back expect.Item tok.Row p = λ st (o, (m, (c, rest))). ((row_item p (record { open_at = o; name_at = m.0; name = m.1; close_at = c }), tt), rest, refl)
+back expect.Item tok.Row p = λ st (o, (m, (c, rest))). ((row_item p (in_brackets o m c), tt), rest, refl)
 back expect.Item t p = as_item (operand 0 t) (at p t) (operand_back 0 t p)
 back expect.MoreItems tok.Comma p = λ st (i, (more, rest)). ((((p, i.0) ∷ more.0.0, (i.1, more.0.1)), more.1), rest, simp append_assoc)
 back expect.MoreItems tok.Semicolon p = λ st rest. ((([], tt), p), rest, refl)

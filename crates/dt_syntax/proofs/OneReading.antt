@@ -11,7 +11,7 @@ use Rattle.dt_syntax.specs.Fronts.{comma_param, joined_part}
 use Rattle.dt_syntax.specs.Grammar.{at, bracketed_tokens, Param, kind_token, param_tokens, Params, no_param, params, params_tokens, KeyPart, text_part}
 use Rattle.dt_syntax.specs.Grammar.{name_part, show_part, part_tokens, KeySyntax, mode_token, key_tokens, statements_tokens, ProcSyntax, proc_tokens}
 use Rattle.dt_syntax.specs.Grammar.{procs_tokens, IsProc, AreProcSyntaxes}
-use Rattle.dt_syntax.proofs.Shapes.{key_cut, mode_is, mode_begin, no_comma_close, no_join_semicolon, proc_cut}
+use Rattle.dt_syntax.proofs.Shapes.{from_more_parts, key_cut, mode_is, mode_begin, no_comma_close, no_join_semicolon, proc_cut}
 use Rattle.dt_syntax.proofs.OneSyntax.{front_place_is, front_token_is, after_front, same_name, same_text, one_bracketed, one_list, one_statements}
 use Rattle.dt_lists.proofs.Callers.{same_head, same_tail}
 
@@ -87,8 +87,8 @@ more_parts xs ys e f r s is =
 one_key : (k l : KeySyntax) (r s : List Placed) → key_tokens k ++ r ≡ key_tokens l ++ s → (k ≡ l) × (r ≡ s)
 one_key k l r s e =
     let cut = sym (key_cut k r) ∙ e ∙ key_cut l s in
-    let ks = part_tokens k.first ++ (flat_map joined_part k.more ++ at k.end_at tok.Semicolon ∷ r) in
-    let ls = part_tokens l.first ++ (flat_map joined_part l.more ++ at l.end_at tok.Semicolon ∷ s) in
+    let ks = part_tokens k.first ++ from_more_parts k r in
+    let ls = part_tokens l.first ++ from_more_parts l s in
     let word_at = front_place_is k.word_at l.word_at (mode_token k.write) (mode_token l.write) (at k.name_at (tok.Name k.name) ∷ at k.is_at tok.Is ∷ ks) (at l.name_at (tok.Name l.name) ∷ at l.is_at tok.Is ∷ ls) cut in
     let mode = mode_is k.write l.write (front_token_is k.word_at l.word_at (mode_token k.write) (mode_token l.write) (at k.name_at (tok.Name k.name) ∷ at k.is_at tok.Is ∷ ks)
     (at l.name_at (tok.Name l.name) ∷ at l.is_at tok.Is ∷ ls) cut) in
@@ -97,7 +97,7 @@ one_key k l r s e =
     let called = same_name k.name l.name (front_token_is k.name_at l.name_at (tok.Name k.name) (tok.Name l.name) (at k.is_at tok.Is ∷ ks) (at l.is_at tok.Is ∷ ls) one) in
     let two = after_front k.name_at l.name_at (tok.Name k.name) (tok.Name l.name) (at k.is_at tok.Is ∷ ks) (at l.is_at tok.Is ∷ ls) one in
     let is_at = front_place_is k.is_at l.is_at tok.Is tok.Is ks ls two in
-    let a = one_part k.first l.first (flat_map joined_part k.more ++ at k.end_at tok.Semicolon ∷ r) (flat_map joined_part l.more ++ at l.end_at tok.Semicolon ∷ s) (after_front k.is_at l.is_at tok.Is tok.Is ks ls two) in
+    let a = one_part k.first l.first (from_more_parts k r) (from_more_parts l s) (after_front k.is_at l.is_at tok.Is tok.Is ks ls two) in
     let b = more_parts k.more l.more k.end_at l.end_at r s a.1 in
     ((λ i. record { word_at = word_at i; write = mode i; name_at = name_at i; name = called i; is_at = is_at i; first = a.0 i; more = b.0 i; end_at = b.1 i }), b.2)
 
@@ -153,7 +153,8 @@ one_proc p q r s h k e =
       b.2,
     )
 
-none_spelled : (p : ProcSyntax) (ts : List Placed) → [] ≡ proc_tokens p ++ ts → ⊥
+-- a procedure is spelled with some token
+pub none_spelled : (p : ProcSyntax) (ts : List Placed) → [] ≡ proc_tokens p ++ ts → ⊥
 none_spelled p ts e = cc
 
 -- the same tokens are spelled by the same procedures

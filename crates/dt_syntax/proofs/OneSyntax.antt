@@ -13,7 +13,7 @@ use Rattle.dt_syntax.specs.Grammar.{link, syntax_tokens, links_tokens, level_of,
 use Rattle.dt_syntax.specs.Grammar.{makes_text, Item, row_item, value_item, item_tokens, items_tokens, IsItem, Statement, let_new, set_key, clear_key, when}
 use Rattle.dt_syntax.specs.Grammar.{choose, abort, give, Statements, nothing, first, statement_tokens, statements_tokens, IsStatement, AreStatements}
 use Rattle.dt_syntax.proofs.Shapes.{inner, up, chain_shape, links_stop, placed_is, same_op, six_stop, front_token, next_item, AreItems, items_stop}
-use Rattle.dt_syntax.proofs.Shapes.{items_cut, StepShape, setting_cut, step_shape, no_else, begins_other}
+use Rattle.dt_syntax.proofs.Shapes.{items_cut, StepShape, block, else_block, setting, setting_cut, step_shape, no_else, begins_other}
 use Rattle.dt_lists.proofs.Callers.{same_head, same_tail}
 
 -- two tokens in front are the same one
@@ -42,6 +42,13 @@ one_bracketed b c r s e =
     let close_at = front_place_is b.close_at c.close_at tok.Close tok.Close r s closed in
     ((λ i. record { open_at = open_at i; name_at = name_at i; name = called i; close_at = close_at i }), after_front b.close_at c.close_at tok.Close tok.Close r s closed)
 
+-- an expression in brackets, and what stands behind it
+abbrev bracketed : ℕ → Syntax → ℕ → List Placed → List Placed
+bracketed o x q rest = at o tok.Open ∷ (syntax_tokens x ++ at q tok.Close ∷ rest)
+
+bracketed_cut : (o : ℕ) (x : Syntax) (q : ℕ) (rest : List Placed) → bracketed o x q rest ≡ at o tok.Open ∷ ((syntax_tokens x ++ at q tok.Close ∷ []) ++ rest)
+bracketed_cut o x q rest = ap (λ v. at o tok.Open ∷ v) (inner (syntax_tokens x) (at q tok.Close) rest)
+
 -- what the first token of an operand says of it, of what follows the token, and of what follows the operand
 abbrev Form : Token → ℕ → List Placed → Syntax → List Placed → Type 0
 Form (tok.Int z) p ts x rest = (x ≡ int p z) × (ts ≡ rest)
@@ -53,9 +60,9 @@ Form tok.TextWord p ts x rest = (b : Bracketed) × (x ≡ of_key p reads_text b)
 Form tok.Has p ts x rest = (b : Bracketed) × (x ≡ of_key p reads_presence b) × (bracketed_tokens b ++ rest ≡ ts)
 Form tok.Open p ts x rest = (y : Syntax) × (q : ℕ) × (x ≡ parens p y q) × IsLevel 0 y × (syntax_tokens y ++ at q tok.Close ∷ rest ≡ ts)
 Form tok.Len p ts x rest =
-    (o : ℕ) × (y : Syntax) × (q : ℕ) × (x ≡ made p makes_length o y q) × IsLevel 0 y × (at o tok.Open ∷ (syntax_tokens y ++ at q tok.Close ∷ rest) ≡ ts)
+    (o : ℕ) × (y : Syntax) × (q : ℕ) × (x ≡ made p makes_length o y q) × IsLevel 0 y × (bracketed o y q rest ≡ ts)
 Form tok.Show p ts x rest =
-    (o : ℕ) × (y : Syntax) × (q : ℕ) × (x ≡ made p makes_text o y q) × IsLevel 0 y × (at o tok.Open ∷ (syntax_tokens y ++ at q tok.Close ∷ rest) ≡ ts)
+    (o : ℕ) × (y : Syntax) × (q : ℕ) × (x ≡ made p makes_text o y q) × IsLevel 0 y × (bracketed o y q rest ≡ ts)
 Form tok.Not p ts x rest = (y : Syntax) × (x ≡ denial p y) × IsLevel 6 y × (syntax_tokens y ++ rest ≡ ts)
 Form (tok.Op o) p ts x rest = (y : Syntax) × (x ≡ minus p y) × IsLevel 6 y × (syntax_tokens y ++ rest ≡ ts)
 Form t p ts x rest = ⊥
@@ -81,11 +88,9 @@ operand_form n (of_key p reads_int b) rest t ts le h e = form_at (at p tok.IntWo
 operand_form n (of_key p reads_text b) rest t ts le h e = form_at (at p tok.TextWord) t (bracketed_tokens b ++ rest) ts (of_key p reads_text b) rest e (b, refl, refl)
 operand_form n (of_key p reads_presence b) rest t ts le h e = form_at (at p tok.Has) t (bracketed_tokens b ++ rest) ts (of_key p reads_presence b) rest e (b, refl, refl)
 operand_form n (made p makes_length o x q) rest t ts le h e =
-    form_at (at p tok.Len) t (at o tok.Open ∷ ((syntax_tokens x ++ at q tok.Close ∷ []) ++ rest)) ts (made p makes_length o x q) rest e
-    (o, x, q, refl, h.1, ap (λ v. at o tok.Open ∷ v) (inner (syntax_tokens x) (at q tok.Close) rest))
+    form_at (at p tok.Len) t _ ts (made p makes_length o x q) rest e (o, x, q, refl, h.1, bracketed_cut o x q rest)
 operand_form n (made p makes_text o x q) rest t ts le h e =
-    form_at (at p tok.Show) t (at o tok.Open ∷ ((syntax_tokens x ++ at q tok.Close ∷ []) ++ rest)) ts (made p makes_text o x q) rest e
-    (o, x, q, refl, h.1, ap (λ v. at o tok.Open ∷ v) (inner (syntax_tokens x) (at q tok.Close) rest))
+    form_at (at p tok.Show) t _ ts (made p makes_text o x q) rest e (o, x, q, refl, h.1, bracketed_cut o x q rest)
 
 goes_on : (n p : ℕ) (o : Op) (us r : List Placed) → level_of o ≡ n → r ≡ at p (tok.Op o) ∷ us → FrontStops n r → ⊥
 goes_on n p o us r level is stop = let low : FrontStops n (at p (tok.Op o) ∷ us) = subst (FrontStops n) is stop in omega (arith, level, low)
@@ -131,17 +136,21 @@ mutual
       let a = one_bracketed b f.0 r s (sym f.2) in
       (ap (of_key p reads_presence) a.0 ∙ sym f.1, a.1)
   one_syntax (made p makes_length o x q) y n r s h k fr fs e =
-      let f = operand_form n y s (at p tok.Len) (at o tok.Open ∷ ((syntax_tokens x ++ at q tok.Close ∷ []) ++ r)) h.0 k (sym e) in
-      let open_at = front_place_is o f.0 tok.Open tok.Open ((syntax_tokens x ++ at q tok.Close ∷ []) ++ r) (syntax_tokens f.1 ++ at f.2 tok.Close ∷ s) (sym f.5) in
-      let within = after_front o f.0 tok.Open tok.Open ((syntax_tokens x ++ at q tok.Close ∷ []) ++ r) (syntax_tokens f.1 ++ at f.2 tok.Close ∷ s) (sym f.5) in
-      let a = one_syntax x f.1 0 (at q tok.Close ∷ r) (at f.2 tok.Close ∷ s) h.1 f.4 tt tt (inner (syntax_tokens x) (at q tok.Close) r ∙ within) in
+      let f = operand_form n y s (at p tok.Len) _ h.0 k (sym e) in
+      let us = syntax_tokens x ++ at q tok.Close ∷ r in
+      let vs = syntax_tokens f.1 ++ at f.2 tok.Close ∷ s in
+      let cut = bracketed_cut o x q r ∙ sym f.5 in
+      let open_at = front_place_is o f.0 tok.Open tok.Open us vs cut in
+      let a = one_syntax x f.1 0 (at q tok.Close ∷ r) (at f.2 tok.Close ∷ s) h.1 f.4 tt tt (after_front o f.0 tok.Open tok.Open us vs cut) in
       let place = front_place_is q f.2 tok.Close tok.Close r s a.1 in
       ((λ i. made p makes_length (open_at i) (a.0 i) (place i)) ∙ sym f.3, after_front q f.2 tok.Close tok.Close r s a.1)
   one_syntax (made p makes_text o x q) y n r s h k fr fs e =
-      let f = operand_form n y s (at p tok.Show) (at o tok.Open ∷ ((syntax_tokens x ++ at q tok.Close ∷ []) ++ r)) h.0 k (sym e) in
-      let open_at = front_place_is o f.0 tok.Open tok.Open ((syntax_tokens x ++ at q tok.Close ∷ []) ++ r) (syntax_tokens f.1 ++ at f.2 tok.Close ∷ s) (sym f.5) in
-      let within = after_front o f.0 tok.Open tok.Open ((syntax_tokens x ++ at q tok.Close ∷ []) ++ r) (syntax_tokens f.1 ++ at f.2 tok.Close ∷ s) (sym f.5) in
-      let a = one_syntax x f.1 0 (at q tok.Close ∷ r) (at f.2 tok.Close ∷ s) h.1 f.4 tt tt (inner (syntax_tokens x) (at q tok.Close) r ∙ within) in
+      let f = operand_form n y s (at p tok.Show) _ h.0 k (sym e) in
+      let us = syntax_tokens x ++ at q tok.Close ∷ r in
+      let vs = syntax_tokens f.1 ++ at f.2 tok.Close ∷ s in
+      let cut = bracketed_cut o x q r ∙ sym f.5 in
+      let open_at = front_place_is o f.0 tok.Open tok.Open us vs cut in
+      let a = one_syntax x f.1 0 (at q tok.Close ∷ r) (at f.2 tok.Close ∷ s) h.1 f.4 tt tt (after_front o f.0 tok.Open tok.Open us vs cut) in
       let place = front_place_is q f.2 tok.Close tok.Close r s a.1 in
       ((λ i. made p makes_text (open_at i) (a.0 i) (place i)) ∙ sym f.3, after_front q f.2 tok.Close tok.Close r s a.1)
 
@@ -186,23 +195,19 @@ module _ {A : Type 0} (joint end : Token) (spelled : A → List Placed) (Good : 
       let b = one_list xs ys e f r s h.1 k.1 a.1 in
       ((λ i. (place i, a.0 i) ∷ b.0 i), b.1, b.2)
 
+-- an expression does not begin with `row`
+not_row : (p : ℕ) (us : List Placed) (x : Syntax) (s : List Placed) → at p tok.Row ∷ us ≡ syntax_tokens x ++ s → ⊥
+not_row p us x s e =
+    let f = front_token x in
+    f.4 (sym (ap (λ v. v.token) (same_head (e ∙ ap (λ v. v ++ s) f.2))))
+
 pub one_item : (i j : Item) (r s : List Placed) → IsItem i → IsItem j → FrontStops 0 r → FrontStops 0 s → item_tokens i ++ r ≡ item_tokens j ++ s → (i ≡ j) × (r ≡ s)
 one_item (row_item p b) (row_item q c) r s h k fr fs e =
     let place = front_place_is p q tok.Row tok.Row (bracketed_tokens b ++ r) (bracketed_tokens c ++ s) e in
     let a = one_bracketed b c r s (after_front p q tok.Row tok.Row (bracketed_tokens b ++ r) (bracketed_tokens c ++ s) e) in
     ((λ i. row_item (place i) (a.0 i)), a.1)
 one_item (row_item p b) (value_item y) r s h k fr fs e = absurd (not_row p (bracketed_tokens b ++ r) y s e)
-  where
-    not_row : (p : ℕ) (us : List Placed) (x : Syntax) (s : List Placed) → at p tok.Row ∷ us ≡ syntax_tokens x ++ s → ⊥
-    not_row p us x s e =
-        let f = front_token x in
-        f.4 (sym (ap (λ v. v.token) (same_head (e ∙ ap (λ v. v ++ s) f.2))))
 one_item (value_item x) (row_item q c) r s h k fr fs e = absurd (not_row q (bracketed_tokens c ++ s) x r (sym e))
-  where
-    not_row : (p : ℕ) (us : List Placed) (x : Syntax) (s : List Placed) → at p tok.Row ∷ us ≡ syntax_tokens x ++ s → ⊥
-    not_row p us x s e =
-        let f = front_token x in
-        f.4 (sym (ap (λ v. v.token) (same_head (e ∙ ap (λ v. v ++ s) f.2))))
 one_item (value_item x) (value_item y) r s h k fr fs e = let a = one_syntax x y 0 r s h k fr fs e in (ap value_item a.0, a.1)
 
 no_comma : ¬ (tok.Comma ≡ tok.Semicolon)
@@ -222,8 +227,7 @@ record IsSameSetting (q w : ℕ) (n m : List ℕ) (i j : ℕ) (x y : Syntax) (e 
   pub rest : r ≡ s
 
 one_setting : (q w : ℕ) (n m : List ℕ) (i j : ℕ) (x y : Syntax) (e f : ℕ) (r s : List Placed) → IsLevel 0 x → IsLevel 0 y →
-    at q (tok.Name n) ∷ at i tok.Is ∷ (syntax_tokens x ++ at e tok.Semicolon ∷ r) ≡ at w (tok.Name m) ∷ at j tok.Is ∷ (syntax_tokens y ++ at f tok.Semicolon ∷ s) →
-    IsSameSetting q w n m i j x y e f r s
+    setting q n i x e r ≡ setting w m j y f s → IsSameSetting q w n m i j x y e f r s
 one_setting q w n m i j x y e f r s h k is =
     let us = at i tok.Is ∷ (syntax_tokens x ++ at e tok.Semicolon ∷ r) in
     let vs = at j tok.Is ∷ (syntax_tokens y ++ at f tok.Semicolon ∷ s) in
@@ -240,17 +244,17 @@ one_setting q w n m i j x y e f r s h k is =
     }
 
 when_cut : (x : Syntax) (b : ℕ) (ss : Statements) (e : ℕ) (r : List Placed) →
-    (syntax_tokens x ++ at b tok.Begin ∷ (statements_tokens ss ++ at e tok.End ∷ [])) ++ r ≡ syntax_tokens x ++ at b tok.Begin ∷ (statements_tokens ss ++ at e tok.End ∷ r)
+    (syntax_tokens x ++ at b tok.Begin ∷ block ss e []) ++ r ≡ syntax_tokens x ++ at b tok.Begin ∷ block ss e r
 when_cut x b ss e r =
-    append_assoc (syntax_tokens x) (at b tok.Begin ∷ (statements_tokens ss ++ at e tok.End ∷ [])) r
+    append_assoc (syntax_tokens x) (at b tok.Begin ∷ block ss e []) r
     ∙ ap (λ v. syntax_tokens x ++ at b tok.Begin ∷ v) (append_assoc (statements_tokens ss) (at e tok.End ∷ []) r)
 
 choose_cut : (x : Syntax) (b : ℕ) (ss : Statements) (e w c : ℕ) (rs : Statements) (f : ℕ) (r : List Placed) →
-    (syntax_tokens x ++ at b tok.Begin ∷ (statements_tokens ss ++ at e tok.End ∷ at w tok.Else ∷ at c tok.Begin ∷ (statements_tokens rs ++ at f tok.End ∷ []))) ++ r
-    ≡ syntax_tokens x ++ at b tok.Begin ∷ (statements_tokens ss ++ at e tok.End ∷ at w tok.Else ∷ at c tok.Begin ∷ (statements_tokens rs ++ at f tok.End ∷ r))
+    (syntax_tokens x ++ at b tok.Begin ∷ block ss e (else_block w c rs f [])) ++ r
+    ≡ syntax_tokens x ++ at b tok.Begin ∷ block ss e (else_block w c rs f r)
 choose_cut x b ss e w c rs f r =
     append_assoc (syntax_tokens x) _ r
-    ∙ ap (λ v. syntax_tokens x ++ at b tok.Begin ∷ v) (append_assoc (statements_tokens ss) (at e tok.End ∷ at w tok.Else ∷ at c tok.Begin ∷ (statements_tokens rs ++ at f tok.End ∷ [])) r
+    ∙ ap (λ v. syntax_tokens x ++ at b tok.Begin ∷ v) (append_assoc (statements_tokens ss) (at e tok.End ∷ else_block w c rs f []) r
     ∙ ap (λ v. statements_tokens ss ++ at e tok.End ∷ at w tok.Else ∷ at c tok.Begin ∷ v) (append_assoc (statements_tokens rs) (at f tok.End ∷ []) r))
 
 an_else : (w : ℕ) (us r : List Placed) → NoElse r → r ≡ at w tok.Else ∷ us → ⊥
@@ -259,55 +263,55 @@ an_else w us r none is = subst NoElse is none refl
 -- a block is spelled in one way
 abbrev OneBlock : Statements → Type 0
 OneBlock ss =
-    (ts : Statements) (e f : ℕ) (r u : List Placed) → AreStatements ts → statements_tokens ss ++ at e tok.End ∷ r ≡ statements_tokens ts ++ at f tok.End ∷ u →
+    (ts : Statements) (e f : ℕ) (r u : List Placed) → AreStatements ts → block ss e r ≡ block ts f u →
     (ss ≡ ts) × (e ≡ f) × (r ≡ u)
 
 one_when : (p : ℕ) (x : Syntax) (b : ℕ) (ss : Statements) (e : ℕ) (t : Statement) (r u : List Placed) → OneBlock ss → IsLevel 0 x → NoElse r →
-    StepShape tok.If p ((syntax_tokens x ++ at b tok.Begin ∷ (statements_tokens ss ++ at e tok.End ∷ [])) ++ r) t u → (when p x b ss e ≡ t) × (r ≡ u)
+    StepShape tok.If p ((syntax_tokens x ++ at b tok.Begin ∷ block ss e []) ++ r) t u → (when p x b ss e ≡ t) × (r ≡ u)
 one_when p x b ss e t r u one h nr (inl (y, c, ts, f, is, hy, kt, cut)) =
-    let a = one_syntax x y 0 (at b tok.Begin ∷ (statements_tokens ss ++ at e tok.End ∷ r)) (at c tok.Begin ∷ (statements_tokens ts ++ at f tok.End ∷ u)) h hy tt tt
+    let a = one_syntax x y 0 (at b tok.Begin ∷ block ss e r) (at c tok.Begin ∷ block ts f u) h hy tt tt
     (sym (when_cut x b ss e r) ∙ sym cut) in
-    let place = front_place_is b c tok.Begin tok.Begin (statements_tokens ss ++ at e tok.End ∷ r) (statements_tokens ts ++ at f tok.End ∷ u) a.1 in
-    let inside = one ts e f r u kt (after_front b c tok.Begin tok.Begin (statements_tokens ss ++ at e tok.End ∷ r) (statements_tokens ts ++ at f tok.End ∷ u) a.1) in
+    let place = front_place_is b c tok.Begin tok.Begin (block ss e r) (block ts f u) a.1 in
+    let inside = one ts e f r u kt (after_front b c tok.Begin tok.Begin (block ss e r) (block ts f u) a.1) in
     ((λ j. when p (a.0 j) (place j) (inside.0 j) (inside.1 j)) ∙ sym is, inside.2)
 one_when p x b ss e t r u one h nr (inr (y, c, ts, f, w, o, vs, g, is, hy, kt, kv, cut)) =
-    let later = at w tok.Else ∷ at o tok.Begin ∷ (statements_tokens vs ++ at g tok.End ∷ u) in
-    let a = one_syntax x y 0 (at b tok.Begin ∷ (statements_tokens ss ++ at e tok.End ∷ r)) (at c tok.Begin ∷ (statements_tokens ts ++ at f tok.End ∷ later)) h hy tt tt
+    let later = else_block w o vs g u in
+    let a = one_syntax x y 0 (at b tok.Begin ∷ block ss e r) (at c tok.Begin ∷ block ts f later) h hy tt tt
     (sym (when_cut x b ss e r) ∙ sym cut) in
-    let inside = one ts e f r later kt (after_front b c tok.Begin tok.Begin (statements_tokens ss ++ at e tok.End ∷ r) (statements_tokens ts ++ at f tok.End ∷ later) a.1) in
-    absurd (an_else w (at o tok.Begin ∷ (statements_tokens vs ++ at g tok.End ∷ u)) r nr inside.2)
+    let inside = one ts e f r later kt (after_front b c tok.Begin tok.Begin (block ss e r) (block ts f later) a.1) in
+    absurd (an_else w (at o tok.Begin ∷ block vs g u) r nr inside.2)
 
 one_choose : (p : ℕ) (x : Syntax) (b : ℕ) (ss : Statements) (e w c : ℕ) (rs : Statements) (f : ℕ) (t : Statement) (r u : List Placed) → OneBlock ss → OneBlock rs → IsLevel 0 x → NoElse u →
-    StepShape tok.If p ((syntax_tokens x ++ at b tok.Begin ∷ (statements_tokens ss ++ at e tok.End ∷ at w tok.Else ∷ at c tok.Begin ∷ (statements_tokens rs ++ at f tok.End ∷ []))) ++ r) t u →
+    StepShape tok.If p ((syntax_tokens x ++ at b tok.Begin ∷ block ss e (else_block w c rs f [])) ++ r) t u →
     (choose p x b ss e w c rs f ≡ t) × (r ≡ u)
 one_choose p x b ss e w c rs f t r u one other h nu (inl (y, d, ts, g, is, hy, kt, cut)) =
-    let later = at w tok.Else ∷ at c tok.Begin ∷ (statements_tokens rs ++ at f tok.End ∷ r) in
-    let a = one_syntax x y 0 (at b tok.Begin ∷ (statements_tokens ss ++ at e tok.End ∷ later)) (at d tok.Begin ∷ (statements_tokens ts ++ at g tok.End ∷ u)) h hy tt tt
+    let later = else_block w c rs f r in
+    let a = one_syntax x y 0 (at b tok.Begin ∷ block ss e later) (at d tok.Begin ∷ block ts g u) h hy tt tt
     (sym (choose_cut x b ss e w c rs f r) ∙ sym cut) in
-    let inside = one ts e g later u kt (after_front b d tok.Begin tok.Begin (statements_tokens ss ++ at e tok.End ∷ later) (statements_tokens ts ++ at g tok.End ∷ u) a.1) in
-    absurd (an_else w (at c tok.Begin ∷ (statements_tokens rs ++ at f tok.End ∷ r)) u nu (sym inside.2))
+    let inside = one ts e g later u kt (after_front b d tok.Begin tok.Begin (block ss e later) (block ts g u) a.1) in
+    absurd (an_else w (at c tok.Begin ∷ block rs f r) u nu (sym inside.2))
 one_choose p x b ss e w c rs f t r u one other h nu (inr (y, d, ts, g, v, o, vs, l, is, hy, kt, kv, cut)) =
-    let later = at w tok.Else ∷ at c tok.Begin ∷ (statements_tokens rs ++ at f tok.End ∷ r) in
-    let after = at v tok.Else ∷ at o tok.Begin ∷ (statements_tokens vs ++ at l tok.End ∷ u) in
-    let a = one_syntax x y 0 (at b tok.Begin ∷ (statements_tokens ss ++ at e tok.End ∷ later)) (at d tok.Begin ∷ (statements_tokens ts ++ at g tok.End ∷ after)) h hy tt tt
+    let later = else_block w c rs f r in
+    let after = else_block v o vs l u in
+    let a = one_syntax x y 0 (at b tok.Begin ∷ block ss e later) (at d tok.Begin ∷ block ts g after) h hy tt tt
     (sym (choose_cut x b ss e w c rs f r) ∙ sym cut) in
-    let place = front_place_is b d tok.Begin tok.Begin (statements_tokens ss ++ at e tok.End ∷ later) (statements_tokens ts ++ at g tok.End ∷ after) a.1 in
-    let inside = one ts e g later after kt (after_front b d tok.Begin tok.Begin (statements_tokens ss ++ at e tok.End ∷ later) (statements_tokens ts ++ at g tok.End ∷ after) a.1) in
+    let place = front_place_is b d tok.Begin tok.Begin (block ss e later) (block ts g after) a.1 in
+    let inside = one ts e g later after kt (after_front b d tok.Begin tok.Begin (block ss e later) (block ts g after) a.1) in
     let else_at = front_place_is w v tok.Else tok.Else _ _ inside.2 in
-    let begun = after_front w v tok.Else tok.Else (at c tok.Begin ∷ (statements_tokens rs ++ at f tok.End ∷ r)) (at o tok.Begin ∷ (statements_tokens vs ++ at l tok.End ∷ u)) inside.2 in
-    let begin_at = front_place_is c o tok.Begin tok.Begin (statements_tokens rs ++ at f tok.End ∷ r) (statements_tokens vs ++ at l tok.End ∷ u) begun in
-    let others = other vs f l r u kv (after_front c o tok.Begin tok.Begin (statements_tokens rs ++ at f tok.End ∷ r) (statements_tokens vs ++ at l tok.End ∷ u) begun) in
+    let begun = after_front w v tok.Else tok.Else (at c tok.Begin ∷ block rs f r) (at o tok.Begin ∷ block vs l u) inside.2 in
+    let begin_at = front_place_is c o tok.Begin tok.Begin (block rs f r) (block vs l u) begun in
+    let others = other vs f l r u kv (after_front c o tok.Begin tok.Begin (block rs f r) (block vs l u) begun) in
     ((λ j. choose p (a.0 j) (place j) (inside.0 j) (inside.1 j) (else_at j) (begin_at j) (others.0 j) (others.1 j)) ∙ sym is, others.2)
 
 mutual
   pub one_statement : (s t : Statement) (r u : List Placed) → IsStatement s → IsStatement t → NoElse r → NoElse u → statement_tokens s ++ r ≡ statement_tokens t ++ u →
       (s ≡ t) × (r ≡ u)
   one_statement (let_new p q n i x e) t r u h k nr nu is =
-      let f = step_shape t u (at p tok.Let) (at q (tok.Name n) ∷ at i tok.Is ∷ ((syntax_tokens x ++ at e tok.Semicolon ∷ []) ++ r)) k (sym is) in
+      let f = step_shape t u (at p tok.Let) _ k (sym is) in
       let a = one_setting q f.0 n f.1 i f.2 x f.3 e f.4 r u h f.6 (setting_cut q n i x e r ∙ sym f.7) in
       ((λ j. let_new p (a.name_at j) (a.named j) (a.is_at j) (a.value j) (a.end_at j)) ∙ sym f.5, a.rest)
   one_statement (set_key p q n i x e) t r u h k nr nu is =
-      let f = step_shape t u (at p tok.Set) (at q (tok.Name n) ∷ at i tok.Is ∷ ((syntax_tokens x ++ at e tok.Semicolon ∷ []) ++ r)) k (sym is) in
+      let f = step_shape t u (at p tok.Set) _ k (sym is) in
       let a = one_setting q f.0 n f.1 i f.2 x f.3 e f.4 r u h f.6 (setting_cut q n i x e r ∙ sym f.7) in
       ((λ j. set_key p (a.name_at j) (a.named j) (a.is_at j) (a.value j) (a.end_at j)) ∙ sym f.5, a.rest)
   one_statement (clear_key p q n e) t r u h k nr nu is =
@@ -320,11 +324,11 @@ mutual
       let end_at = front_place_is e f.2 tok.Semicolon tok.Semicolon r u after in
       ((λ j. clear_key p (place j) (called j) (end_at j)) ∙ sym f.3, after_front e f.2 tok.Semicolon tok.Semicolon r u after)
   one_statement (when p x b ss e) t r u h k nr nu is =
-      one_when p x b ss e t r u (λ ts a f v w g. one_statements ss ts a f v w h.1 g) h.0 nr (step_shape t u (at p tok.If) ((syntax_tokens x ++ at b tok.Begin ∷ (statements_tokens ss ++ at e tok.End ∷ [])) ++ r) k (sym is))
+      one_when p x b ss e t r u (λ ts a f v w g. one_statements ss ts a f v w h.1 g) h.0 nr (step_shape t u (at p tok.If) ((syntax_tokens x ++ at b tok.Begin ∷ block ss e []) ++ r) k (sym is))
   one_statement (choose p x b ss e w c rs f) t r u h k nr nu is =
       one_choose p x b ss e w c rs f t r u (λ ts a g v z i. one_statements ss ts a g v z h.1 i) (λ ts a g v z i. one_statements rs ts a g v z h.2 i) h.0 nu
       (step_shape t u (at p tok.If)
-      ((syntax_tokens x ++ at b tok.Begin ∷ (statements_tokens ss ++ at e tok.End ∷ at w tok.Else ∷ at c tok.Begin ∷ (statements_tokens rs ++ at f tok.End ∷ []))) ++ r) k (sym is))
+      ((syntax_tokens x ++ at b tok.Begin ∷ block ss e (else_block w c rs f [])) ++ r) k (sym is))
   one_statement (abort p q n e) t r u h k nr nu is =
       let f = step_shape t u (at p tok.Abort) (at q (tok.Text n) ∷ at e tok.Semicolon ∷ r) k (sym is) in
       let us = at e tok.Semicolon ∷ r in
@@ -344,16 +348,16 @@ mutual
       ((λ j. give p (a.0 j) (b.0 j) (b.1 j)) ∙ sym f.3, b.2)
 
   pub one_statements : (ss ts : Statements) (e f : ℕ) (r u : List Placed) → AreStatements ss → AreStatements ts →
-      statements_tokens ss ++ at e tok.End ∷ r ≡ statements_tokens ts ++ at f tok.End ∷ u → (ss ≡ ts) × (e ≡ f) × (r ≡ u)
+      block ss e r ≡ block ts f u → (ss ≡ ts) × (e ≡ f) × (r ≡ u)
   one_statements nothing nothing e f r u h k is = (refl, front_place_is e f tok.End tok.End r u is, after_front e f tok.End tok.End r u is)
   one_statements nothing (first t ts) e f r u h k is =
-      absurd (begins_other t (statements_tokens ts ++ at f tok.End ∷ u) (at e tok.End) r
+      absurd (begins_other t (block ts f u) (at e tok.End) r
       (sym (append_assoc (statement_tokens t) (statements_tokens ts) (at f tok.End ∷ u)) ∙ sym is) refl)
   one_statements (first s ss) nothing e f r u h k is =
-      absurd (begins_other s (statements_tokens ss ++ at e tok.End ∷ r) (at f tok.End) u
+      absurd (begins_other s (block ss e r) (at f tok.End) u
       (sym (append_assoc (statement_tokens s) (statements_tokens ss) (at e tok.End ∷ r)) ∙ is) refl)
   one_statements (first s ss) (first t ts) e f r u h k is =
       let cut = sym (append_assoc (statement_tokens s) (statements_tokens ss) (at e tok.End ∷ r)) ∙ is ∙ append_assoc (statement_tokens t) (statements_tokens ts) (at f tok.End ∷ u) in
-      let a = one_statement s t (statements_tokens ss ++ at e tok.End ∷ r) (statements_tokens ts ++ at f tok.End ∷ u) h.0 k.0 (no_else ss e r) (no_else ts f u) cut in
+      let a = one_statement s t (block ss e r) (block ts f u) h.0 k.0 (no_else ss e r) (no_else ts f u) cut in
       let b = one_statements ss ts e f r u h.1 k.1 a.1 in
       ((λ j. first (a.0 j) (b.0 j)), b.1, b.2)

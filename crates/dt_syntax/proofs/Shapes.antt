@@ -195,12 +195,16 @@ pub record IsFirstKey (all : List KeySyntax) (w : Bool) (p : ℕ) (last after : 
   pub cut : at key.name_at (tok.Name key.name) ∷ at key.is_at tok.Is ∷ (part_tokens key.first ++ (flat_map joined_part key.more ++ at key.end_at tok.Semicolon ∷
       (flat_map key_tokens more ++ last))) ≡ after
 
+-- the tokens of a declaration from its second part on, and those behind it
+abbrev pub from_more_parts : KeySyntax → List Placed → List Placed
+from_more_parts k us = flat_map joined_part k.more ++ at k.end_at tok.Semicolon ∷ us
+
 pub key_cut : (k : KeySyntax) (us : List Placed) →
     key_tokens k ++ us ≡ at k.word_at (mode_token k.write) ∷ at k.name_at (tok.Name k.name) ∷ at k.is_at tok.Is
-    ∷ (part_tokens k.first ++ (flat_map joined_part k.more ++ at k.end_at tok.Semicolon ∷ us))
+    ∷ (part_tokens k.first ++ from_more_parts k us)
 key_cut k us =
     ap (λ v. at k.word_at (mode_token k.write) ∷ at k.name_at (tok.Name k.name) ∷ at k.is_at tok.Is ∷ v)
-    (append_assoc (part_tokens k.first) (flat_map joined_part k.more ++ at k.end_at tok.Semicolon ∷ []) us
+    (append_assoc (part_tokens k.first) (from_more_parts k []) us
     ∙ ap (λ v. part_tokens k.first ++ v) (append_assoc (flat_map joined_part k.more) (at k.end_at tok.Semicolon ∷ []) us))
 
 pub mode_is : (v w : Bool) → mode_token v ≡ mode_token w → v ≡ w
@@ -249,19 +253,27 @@ proc_cut p rest ts e =
     let key = key_tokens p.key in
     let keys = flat_map key_tokens p.more_keys in
     let body = statements_tokens p.body in
-    let end : (body ++ at p.end_at tok.End ∷ []) ++ rest ≡ body ++ at p.end_at tok.End ∷ rest = append_assoc body (at p.end_at tok.End ∷ []) rest in
-    let one : (key ++ (keys ++ at p.begin_at tok.Begin ∷ (body ++ at p.end_at tok.End ∷ []))) ++ rest
-    ≡ (key ++ keys) ++ at p.begin_at tok.Begin ∷ (body ++ at p.end_at tok.End ∷ rest) =
-    append_assoc key (keys ++ at p.begin_at tok.Begin ∷ (body ++ at p.end_at tok.End ∷ [])) rest
-    ∙ ap (λ v. key ++ v) (append_assoc keys (at p.begin_at tok.Begin ∷ (body ++ at p.end_at tok.End ∷ [])) rest ∙ ap (λ v. keys ++ at p.begin_at tok.Begin ∷ v) end)
+    let last = body ++ at p.end_at tok.End ∷ [] in
+    let behind_key = keys ++ at p.begin_at tok.Begin ∷ last in
+    let behind_params = key ++ behind_key in
+    let end : last ++ rest ≡ body ++ at p.end_at tok.End ∷ rest = append_assoc body (at p.end_at tok.End ∷ []) rest in
+    let one : behind_params ++ rest ≡ (key ++ keys) ++ at p.begin_at tok.Begin ∷ (body ++ at p.end_at tok.End ∷ rest) =
+    append_assoc key behind_key rest ∙ ap (λ v. key ++ v) (append_assoc keys (at p.begin_at tok.Begin ∷ last) rest ∙ ap (λ v. keys ++ at p.begin_at tok.Begin ∷ v) end)
     ∙ sym (append_assoc key keys (at p.begin_at tok.Begin ∷ (body ++ at p.end_at tok.End ∷ rest))) in
-    ap start (sym (append_assoc spelled (at p.close_at tok.Close ∷ (key ++ (keys ++ at p.begin_at tok.Begin ∷ (body ++ at p.end_at tok.End ∷ [])))) rest
+    ap start (sym (append_assoc spelled (at p.close_at tok.Close ∷ behind_params) rest
     ∙ ap (λ v. spelled ++ at p.close_at tok.Close ∷ v) one)) ∙ e
 
 pub proc_longer : (p : ProcSyntax) (rest ts : List Placed) → proc_tokens p ++ rest ≡ ts → length rest < length ts
 proc_longer p rest ts e = omega (arith, ap length e, length-append (proc_tokens p) rest)
 
-pub no_else : (ss : Statements) (e : ℕ) (rest : List Placed) → NoElse (statements_tokens ss ++ at e tok.End ∷ rest)
+-- the statements of a block with the `}`, and what stands behind it
+abbrev pub block : Statements → ℕ → List Placed → List Placed
+block ss e rest = statements_tokens ss ++ at e tok.End ∷ rest
+
+abbrev pub else_block : ℕ → ℕ → Statements → ℕ → List Placed → List Placed
+else_block w o rs f rest = at w tok.Else ∷ at o tok.Begin ∷ block rs f rest
+
+pub no_else : (ss : Statements) (e : ℕ) (rest : List Placed) → NoElse (block ss e rest)
 no_else nothing e rest = λ h. cc
 no_else (first (let_new p q n i x f) ss) e rest = λ h. cc
 no_else (first (set_key p q n i x f) ss) e rest = λ h. cc
@@ -280,22 +292,24 @@ begins_other (choose p x b ss f w c rs g) us t ts e = λ h. let a = ap (λ v. v.
 begins_other (abort p q x f) us t ts e = λ h. let a = ap (λ v. v.token) (same_head e) in cc
 begins_other (give p i more f) us t ts e = λ h. let a = ap (λ v. v.token) (same_head e) in cc
 
+-- what a `let` and a `set` have in common, and what stands behind it
+abbrev pub setting : ℕ → List ℕ → ℕ → Syntax → ℕ → List Placed → List Placed
+setting q n i x e rest = at q (tok.Name n) ∷ at i tok.Is ∷ (syntax_tokens x ++ at e tok.Semicolon ∷ rest)
+
 -- what the first token of a statement says of it
 abbrev pub StepShape : Token → ℕ → List Placed → Statement → List Placed → Type 0
 StepShape tok.Let p ts s rest =
-    (q : ℕ) × (n : List ℕ) × (i : ℕ) × (x : Syntax) × (e : ℕ) × (s ≡ let_new p q n i x e) × IsLevel 0 x
-    × (at q (tok.Name n) ∷ at i tok.Is ∷ (syntax_tokens x ++ at e tok.Semicolon ∷ rest) ≡ ts)
+    (q : ℕ) × (n : List ℕ) × (i : ℕ) × (x : Syntax) × (e : ℕ) × (s ≡ let_new p q n i x e) × IsLevel 0 x × (setting q n i x e rest ≡ ts)
 StepShape tok.Set p ts s rest =
-    (q : ℕ) × (n : List ℕ) × (i : ℕ) × (x : Syntax) × (e : ℕ) × (s ≡ set_key p q n i x e) × IsLevel 0 x
-    × (at q (tok.Name n) ∷ at i tok.Is ∷ (syntax_tokens x ++ at e tok.Semicolon ∷ rest) ≡ ts)
+    (q : ℕ) × (n : List ℕ) × (i : ℕ) × (x : Syntax) × (e : ℕ) × (s ≡ set_key p q n i x e) × IsLevel 0 x × (setting q n i x e rest ≡ ts)
 StepShape tok.Clear p ts s rest =
     (q : ℕ) × (n : List ℕ) × (e : ℕ) × (s ≡ clear_key p q n e) × (at q (tok.Name n) ∷ at e tok.Semicolon ∷ rest ≡ ts)
 StepShape tok.If p ts s rest =
     ((x : Syntax) × (b : ℕ) × (ss : Statements) × (e : ℕ) × (s ≡ when p x b ss e) × IsLevel 0 x × AreStatements ss
-    × (syntax_tokens x ++ at b tok.Begin ∷ (statements_tokens ss ++ at e tok.End ∷ rest) ≡ ts))
+    × (syntax_tokens x ++ at b tok.Begin ∷ block ss e rest ≡ ts))
     ⊎ ((x : Syntax) × (b : ℕ) × (ss : Statements) × (e : ℕ) × (w : ℕ) × (o : ℕ) × (rs : Statements) × (f : ℕ) × (s ≡ choose p x b ss e w o rs f)
     × IsLevel 0 x × AreStatements ss × AreStatements rs
-    × (syntax_tokens x ++ at b tok.Begin ∷ (statements_tokens ss ++ at e tok.End ∷ at w tok.Else ∷ at o tok.Begin ∷ (statements_tokens rs ++ at f tok.End ∷ rest)) ≡ ts))
+    × (syntax_tokens x ++ at b tok.Begin ∷ block ss e (else_block w o rs f rest) ≡ ts))
 StepShape tok.Abort p ts s rest =
     (q : ℕ) × (t : List ℕ) × (e : ℕ) × (s ≡ abort p q t e) × (at q (tok.Text t) ∷ at e tok.Semicolon ∷ rest ≡ ts)
 StepShape tok.Give p ts s rest =
@@ -311,7 +325,7 @@ shape_at t u ts us s rest e h =
 
 -- the tokens of what a `let` and a `set` have in common, and those behind it
 pub setting_cut : (q : ℕ) (n : List ℕ) (i : ℕ) (x : Syntax) (e : ℕ) (rest : List Placed) →
-    at q (tok.Name n) ∷ at i tok.Is ∷ (syntax_tokens x ++ at e tok.Semicolon ∷ rest) ≡ at q (tok.Name n) ∷ at i tok.Is ∷ ((syntax_tokens x ++ at e tok.Semicolon ∷ []) ++ rest)
+    setting q n i x e rest ≡ at q (tok.Name n) ∷ at i tok.Is ∷ ((syntax_tokens x ++ at e tok.Semicolon ∷ []) ++ rest)
 setting_cut q n i x e rest = ap (λ v. at q (tok.Name n) ∷ at i tok.Is ∷ v) (inner (syntax_tokens x) (at e tok.Semicolon) rest)
 
 pub step_shape : (s : Statement) (rest : List Placed) (t : Placed) (ts : List Placed) → IsStatement s → statement_tokens s ++ rest ≡ t ∷ ts →
@@ -334,7 +348,7 @@ step_shape (when p x b ss e) rest t ts h is =
       h.0,
       h.1,
       ap (λ v. syntax_tokens x ++ at b tok.Begin ∷ v) (inner (statements_tokens ss) (at e tok.End) rest)
-          ∙ sym (append_assoc (syntax_tokens x) (at b tok.Begin ∷ (statements_tokens ss ++ at e tok.End ∷ [])) rest),
+          ∙ sym (append_assoc (syntax_tokens x) (at b tok.Begin ∷ block ss e []) rest),
     ))
 step_shape (choose p x b ss e w o rs f) rest t ts h is =
     shape_at (at p tok.If) t _ ts (choose p x b ss e w o rs f) rest is
@@ -352,8 +366,8 @@ step_shape (choose p x b ss e w o rs f) rest t ts h is =
       h.1,
       h.2,
       ap (λ v. syntax_tokens x ++ at b tok.Begin ∷ (statements_tokens ss ++ at e tok.End ∷ at w tok.Else ∷ at o tok.Begin ∷ v)) (inner (statements_tokens rs) (at f tok.End) rest)
-          ∙ ap (λ v. syntax_tokens x ++ at b tok.Begin ∷ v) (sym (append_assoc (statements_tokens ss) (at e tok.End ∷ at w tok.Else ∷ at o tok.Begin ∷ (statements_tokens rs ++ at f tok.End ∷ [])) rest))
-          ∙ sym (append_assoc (syntax_tokens x) (at b tok.Begin ∷ (statements_tokens ss ++ at e tok.End ∷ at w tok.Else ∷ at o tok.Begin ∷ (statements_tokens rs ++ at f tok.End ∷ []))) rest),
+          ∙ ap (λ v. syntax_tokens x ++ at b tok.Begin ∷ v) (sym (append_assoc (statements_tokens ss) (at e tok.End ∷ else_block w o rs f []) rest))
+          ∙ sym (append_assoc (syntax_tokens x) (at b tok.Begin ∷ block ss e (else_block w o rs f [])) rest),
     ))
 step_shape (abort p q x e) rest t ts h is = shape_at (at p tok.Abort) t _ ts (abort p q x e) rest is (q, x, e, refl, refl)
 step_shape (give p i more e) rest t ts h is =

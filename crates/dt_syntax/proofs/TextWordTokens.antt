@@ -87,9 +87,13 @@ mutual
 item_found : (b : ℕ) (more : List ℕ) → is_text_byte b ≡ true → items_of (text_item b ++ more) ≡ with_item b (items_of more)
 item_found b more allowed = split (b == 34) (b == 92) refl refl
   where
+    -- what is read where the byte stands with a backslash, or alone
+    read_where : Bool → Found
+    read_where v = items_of (cond {A = List ℕ} v (92 ∷ b ∷ []) (b ∷ []) ++ more)
+
     with_slash : (b == 34 || b == 92) ≡ true → items_of (text_item b ++ more) ≡ with_item b (items_of more)
     with_slash is =
-        ap (λ v. items_of (cond {A = List ℕ} v (92 ∷ b ∷ []) (b ∷ []) ++ more)) is
+        ap read_where is
         ∙ (λ i. cond {A = Found} (is i) (with_item b (items_of more)) None)
 
     split : (p q : Bool) → (b == 34) ≡ p → (b == 92) ≡ q → items_of (text_item b ++ more) ≡ with_item b (items_of more)
@@ -97,7 +101,7 @@ item_found b more allowed = split (b == 34) (b == 92) refl refl
     split false true is other = with_slash (λ i. is i || other i)
     split false false is other =
         let alone : (b == 34 || b == 92) ≡ false = λ i. is i || other i in
-        ap (λ v. items_of (cond {A = List ℕ} v (92 ∷ b ∷ []) (b ∷ []) ++ more)) alone
+        ap read_where alone
         ∙ (λ i. cond {A = Found} (is i) (Some ([], more)) (cond {A = Found} (other i) (escaped more) (cond {A = Found} (allowed i) (with_item b (items_of more)) None)))
 
 printed : (t rest : List ℕ) → list_all is_text_byte t ≡ true → items_of (text_items t ++ 34 ∷ rest) ≡ Some (t, rest)

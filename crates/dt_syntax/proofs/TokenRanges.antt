@@ -7,6 +7,7 @@ use Rattle.std.specs.Cmp.Lexicographic.{pointwise}
 use Rattle.std.proofs.lemmas.Bool.{and_from, and_parts}
 use Rattle.std.proofs.lemmas.Bool.Decides.{nat_tests}
 use Rattle.dt_lists.specs.Lists.{AllIn}
+use Rattle.dt_lists.proofs.Callers.{all_append_left, all_append_right}
 use Rattle.dt_text.specs.Texts.{is_name_byte, is_text_byte}
 use Rattle.dt_syntax.specs.declared.token.Token.{Token}
 use Rattle.dt_syntax.specs.declared.token.Placed.{Placed}
@@ -156,9 +157,7 @@ pub text_sound : (text : List ℕ) → AllSound (tokens_of text).tokens
 text_sound text = from_sound 0 0 text
 
 pub sound_left : (xs ys : List Placed) → AllSound (xs ++ ys) → AllSound xs
-sound_left [] ys h = tt
-sound_left (x ∷ xs) ys h = (h.0, sound_left xs ys h.1)
+sound_left xs ys h = all_append_left _ xs ys h
 
 pub sound_right : (xs ys : List Placed) → AllSound (xs ++ ys) → AllSound ys
-sound_right [] ys h = h
-sound_right (x ∷ xs) ys h = sound_right xs ys h.1
+sound_right xs ys h = all_append_right _ xs ys h

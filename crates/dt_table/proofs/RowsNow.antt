@@ -55,12 +55,6 @@ place_at es i e once there =
     let within : i < length (keys_of es) = omega (arith, slice_get_within es i e there, length-keys_of es) in
     ap (λ n. cond (nat_lt n (length (keys_of es))) (Some n) None) (or_len_at es i e once there) ∙ ap (λ b. cond b (Some i) None) (lt-ltb i _ within)
 
--- something stands at each place
-pub not_within : {A : Type 0} (xs : List A) (i : ℕ) → None ≡ slice_get xs i → i < length xs → ⊥
-not_within [] i none within = omega (arith, within)
-not_within (x ∷ xs) zero none within = cc
-not_within (x ∷ xs) (suc i) none within = not_within xs i none (omega (arith, within))
-
 -- the row at a place, and what is kept of it
 pub row_at : (rows : List (Bytes × Value)) (kept : List Kept) (i : ℕ) (r : Bytes × Value) (k : Kept) → slice_get rows i ≡ Some r → slice_get kept i ≡ Some k
     → slice_get (rows_now rows kept) i ≡ Some (r.0, kept_value r.1 k)

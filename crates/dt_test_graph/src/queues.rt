@@ -25,6 +25,14 @@ fn push(alloc: Global, queues: &mut Queues, slots: &mut Vec<usize>, entry: &Use)
     Ok(())
 }
 
+/// Pushes one more entry, and gives its neighbours.
+fn neighbours_of(alloc: Global, queues: &mut Queues, entry: &Use) -> Result<Vec<u32>, Fail> {
+    let (home, bytes, mode, vertex) = *entry;
+    let key = key_of(alloc, bytes)?;
+    let slot = queues.push(alloc, home, &key, mode, vertex)?;
+    Ok(queues.neighbours(alloc, slot)?)
+}
+
 /// Pushes these entries one after the other, and gives their slots.
 fn queued(alloc: Global, queues: &mut Queues, uses: &[Use]) -> Result<Vec<usize>, Fail>
     ensures { IfOk result (λ slots. AllIn (IsQueued queues.new) slots.items) }
@@ -48,20 +56,22 @@ fn followers_of(alloc: Global, queues: &Queues, slot: usize) -> Result<Vec<u32>,
     Ok(vertices)
 }
 
-/// What is asked of an entry.
+/// What is asked of an entry, or of one that is pushed after the others.
 #[derive(Clone, Copy)]
 enum Ask {
     Neighbours,
     Followers,
+    NeighboursOf(Use),
 }
 
-/// What queues answer for an entry.
-fn asked(alloc: Global, queues: &Queues, slot: usize, ask: Ask) -> Result<Vec<u32>, Fail>
-    requires { IsQueued queues.now slot }
+/// What queues answer for an entry, or for one more.
+fn asked(alloc: Global, queues: &mut Queues, slot: usize, ask: Ask) -> Result<Vec<u32>, Fail>
+    requires { IsQueued queues.old slot }
 {
     match ask {
         Ask::Neighbours => Ok(queues.neighbours(alloc, slot)?),
         Ask::Followers => followers_of(alloc, queues, slot),
+        Ask::NeighboursOf(entry) => neighbours_of(alloc, queues, &entry),
     }
 }
 
@@ -178,6 +188,35 @@ const ROWS: &[(&[Use], Option<usize>, Ask, usize, &[u32])] = &[
     (&GRANULE, Some(4), Ask::Neighbours, 5, &[0]),
     (&GRANULE, Some(5), Ask::Neighbours, 6, &[4]),
     (&GRANULE, Some(6), Ask::Neighbours, 7, &[5]),
+    // What is pushed after that waits for what is left.
+    (
+        &ROW,
+        Some(2),
+        Ask::NeighboursOf((0, b"a", Mode::Write, 4)),
+        0,
+        &[0, 1, 3],
+    ),
+    (
+        &ROWS_OF_GRANULE,
+        Some(6),
+        Ask::NeighboursOf((0, b"a", Mode::Whole, 8)),
+        0,
+        &[4, 5, 7],
+    ),
+    (
+        &GRANULE,
+        Some(7),
+        Ask::NeighboursOf((0, b"a", Mode::Whole, 8)),
+        0,
+        &[6],
+    ),
+    (
+        &GRANULE,
+        Some(7),
+        Ask::NeighboursOf((0, b"a/1", Mode::Write, 8)),
+        0,
+        &[6],
+    ),
 ];
 
 /// Fails at the first row that is answered in another way.

@@ -262,7 +262,7 @@ fn fill(play: &mut Play, case: &Case) -> Result<(), Fail> {
 /// Whether a case that is tried in this play is reported as it says.
 fn is_reported(alloc: Global, play: &mut Play, case: &Case) -> Result<bool, Fail> {
     fill(play, case)?;
-    Ok(play.told(alloc, Asked::Report)? == play.wanted(alloc)?)
+    play.comes_as_wanted(alloc)
 }
 
 /// Fails at the first case that is reported in another way. Plays are left to the end of the process: that they may be dropped

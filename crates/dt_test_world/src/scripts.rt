@@ -161,8 +161,13 @@ impl Play {
         }
     }
 
+    /// Whether what comes of it, its report too, is what is to come of it.
+    pub fn comes_as_wanted(&self, alloc: Global) -> Result<bool, Fail> {
+        Ok(self.told(alloc, Asked::Report)? == self.wanted(alloc)?)
+    }
+
     /// What is to come of it: the line and the rule of each event that is refused, and the report of the others.
-    pub fn wanted(&self, alloc: Global) -> Result<Vec<u8>, Fail> {
+    fn wanted(&self, alloc: Global) -> Result<Vec<u8>, Fail> {
         let mut want = File::new(alloc);
         self.put_wanted(&mut want)?;
         want.bytes()

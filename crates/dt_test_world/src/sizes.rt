@@ -2,7 +2,6 @@
 use crate::circles::{all_ranks, circle};
 use crate::scripts::{File, Play, Script};
 use crate::tries::tries_of_a_call;
-use crate::worlds::Asked;
 use dt_test_texts::wrong;
 use std::alloc::Global;
 use std::mem::forget;
@@ -47,7 +46,7 @@ const LONGEST_NAME: &str =
 /// Whether all comes of the world of this size, which is tried in this play, that is to come of it.
 fn comes_as_wanted(alloc: Global, play: &mut Play, size: Size) -> Result<bool, Fail> {
     fill(play, size)?;
-    Ok(play.told(alloc, Asked::Report)? == play.wanted(alloc)?)
+    play.comes_as_wanted(alloc)
 }
 
 /// Fails at the first of these sizes of whose world something else comes. Plays are left to the end of the process: that they

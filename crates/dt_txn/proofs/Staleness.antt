@@ -86,19 +86,23 @@ own_fresh procs id (Call proc args) reads k = finish_fresh (call_meaning procs p
 own_fresh procs id (Move key target) reads k = k
 
 module _ (procs : List ProcTree) (txn : Txn) (t : Table) where
+  -- what its body gives on the rows that it reads
+  abbrev given : Outcome × Effect
+  given = result_of procs txn.id txn.body (reads_of txn.access (see txn t))
+
   pub one_first : (entry : Access) → IsFirstMoved t txn.access entry
       → (by : TxnId) × (next_mover t entry.key entry.counter ≡ Some by) × (one procs txn t ≡ (Stale (unit_of t.version entry.key) entry.counter by, no_effect))
   one_first entry first =
       let stale : (by : TxnId) × (next_mover t entry.key entry.counter ≡ Some by)
       × (stale_of txn.access (see txn t) ≡ Some (Stale (unit_of t.version entry.key) entry.counter by)) = first_stale t txn.access entry first in
-      (stale.0, stale.1, ap (λ s. unless_stale s (result_of procs txn.id txn.body (reads_of txn.access (see txn t)))) stale.2)
+      (stale.0, stale.1, ap (λ s. unless_stale s given) stale.2)
 
-  pub one_otherwise : ¬ (AnyIn (IsMovedSince t) txn.access) → one procs txn t ≡ result_of procs txn.id txn.body (reads_of txn.access (see txn t))
+  pub one_otherwise : ¬ (AnyIn (IsMovedSince t) txn.access) → one procs txn t ≡ given
   one_otherwise none = by (first_or_none t txn.access)
     where
-      by : FirstOrNone t txn.access → one procs txn t ≡ result_of procs txn.id txn.body (reads_of txn.access (see txn t))
+      by : FirstOrNone t txn.access → one procs txn t ≡ given
       by (inl first) = absurd (none (any_of_first t txn.access first.0 first.1))
-      by (inr fresh) = ap (λ s. unless_stale s (result_of procs txn.id txn.body (reads_of txn.access (see txn t)))) fresh.0
+      by (inr fresh) = ap (λ s. unless_stale s given) fresh.0
 
   pub stale_exactly : IsStaleOutcome (one procs txn t).0 ↔ AnyIn (IsMovedSince t) txn.access
   stale_exactly = by (first_or_none t txn.access)

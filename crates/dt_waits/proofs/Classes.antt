@@ -4,7 +4,7 @@ use Rattle.std.proofs.Common.{◌≡◌, ◌≢◌, ◌<◌, ◌≤◌, ◌↔�
 use Rattle.std.proofs.lemmas.Option.{slice_get_within}
 use Rattle.dt_lists.specs.Lists.{AnyIn, AllIn, Has, Distinct, Either}
 use Rattle.dt_lists.specs.Chain.{here, onward}
-use Rattle.dt_lists.proofs.Callers.{all_get, all_put, any_get, any_put, any_map, any_of_image, at_place, chain_before, chain_join, chain_step, chain_takes_back, either_and, either_any, one_place}
+use Rattle.dt_lists.proofs.Callers.{all_get, all_put, any_get, any_put, any_map, at_place, chain_before, chain_join, chain_step, chain_takes_back, either_and, either_any, one_place}
 use Rattle.dt_lists.proofs.Callers.{either_has, either_nat, either_not, has_map, has_place, place_of, some_same, two_of_different}
 use Rattle.dt_access.specs.Ids.{AreAscending}
 use Rattle.dt_access.specs.declared.TxnId.{TxnId}
@@ -20,7 +20,7 @@ use Rattle.dt_waits.specs.Graph.{GraphView, KeepsGraph, IsStuck}
 use Rattle.dt_waits.specs.Among.{HasNeighbour, IsAmong, WaitsOutside}
 use Rattle.dt_waits.proofs.LeftTransactions.{done_left, left_after, left_decided, out_of_not_left, resolvable_apart, resolvable_left, undone_before}
 use Rattle.dt_waits.proofs.ChainsOfWaits.{edge_of_waits, free_by_queues, reach_by_queues}
-use Rattle.dt_waits.proofs.DegreeZero.{place_has, same_place}
+use Rattle.dt_waits.proofs.DegreeZero.{place_has, place_in_list, same_place}
 use Rattle.dt_waits.proofs.NeighbourChains.{neighbour_waits}
 
 module _ (view : View) (resolved : List (List TxnId)) (done : List TxnId) (k : IsOrderly view resolved done) (g : GraphView) (is : KeepsGraph view resolved done g) where
@@ -242,9 +242,7 @@ module _ (view : View) (resolved : List (List TxnId)) (done : List TxnId) (k : I
       of_list v h = (members (id_at g.ids v)).0 (has_map (id_at g.ids) list v h)
 
       in_list : (v : ℕ) → v < length g.ids → Has ids (id_at g.ids v) → Has list v
-      in_list v lt h =
-          let u : (u : ℕ) × Has list u × (id_at g.ids u ≡ id_at g.ids v) = any_get _ list (any_of_image (λ y. y ≡ id_at g.ids v) (id_at g.ids) list ((members (id_at g.ids v)).1 h)) in
-          subst (Has list) (same_place g.ids u.0 v is.once (all_get _ list in_ids u.0 u.1) lt u.2) u.1
+      in_list v lt h = place_in_list g.ids list v is.once in_ids lt ((members (id_at g.ids v)).1 h)
 
       all_stuck : (v : ℕ) → Has list v → Has g.stuck v
       all_stuck v h = (is.stuck v).1 (all_get _ list in_ids v h, member_stuck (id_at g.ids v) (of_list v h))

@@ -1,11 +1,12 @@
 -- The degree of a vertex is zero just where its transaction is free.
-use Rattle.std.proofs.Common.{◌≡◌, ◌≢◌, ◌+◌, ◌<◌, ◌⊎◌, ◌↔◌, ◌∙◌, ℕ, zero, suc, true, false, ◌==◌, not, if◌then◌else◌, List, [], ◌∷◌}
-use Rattle.std.proofs.Common.{length, refl, sym, ap, subst, inl, inr, eqb-true, arith}
+use Rattle.std.proofs.Common.{◌≡◌, ◌≢◌, ◌+◌, ◌<◌, ◌⊎◌, ◌↔◌, ◌∙◌, ℕ, true, false, ◌==◌, not, if◌then◌else◌, List, [], ◌∷◌}
+use Rattle.std.proofs.Common.{length, map, Some, refl, sym, ap, subst, inl, inr, eqb-true, arith}
 use Rattle.std.specs.List.{sum_by}
 use Rattle.std.proofs.lemmas.Bool.{cases_Bool}
 use Rattle.std.proofs.lemmas.List.Sums.{sum_by-cons}
+use Rattle.std.proofs.lemmas.Option.{slice_get-get_or}
 use Rattle.dt_lists.specs.Lists.{AnyIn, AllIn, Has, Distinct}
-use Rattle.dt_lists.proofs.Callers.{all_get, all_put, any_get, any_put, has_filter, has_of_filtered, none_in_empty}
+use Rattle.dt_lists.proofs.Callers.{all_get, all_put, any_at, any_get, any_of_image, any_put, has_at, has_filter, has_of_filtered, none_in_empty, one_place}
 use Rattle.dt_access.specs.declared.TxnId.{TxnId}
 use Rattle.dt_sched.specs.Views.{View, IsWellFormed}
 use Rattle.dt_queue.specs.Queues.{Waiting, neighbours}
@@ -16,31 +17,19 @@ use Rattle.dt_waits.proofs.ChainsOfWaits.{free_by_queues}
 
 -- in a list in which nothing stands twice, a place is known by what is there
 pub same_place : (ids : List TxnId) (u v : ℕ) → Distinct ids → u < length ids → v < length ids → id_at ids u ≡ id_at ids v → u ≡ v
-same_place [] u v d lu lv e = absurd (omega (arith, lu))
-same_place (x ∷ xs) zero zero d lu lv e = refl
-same_place (x ∷ xs) zero (suc v) d lu lv e = absurd (all_get _ xs d.0 (id_at xs v) (id_there xs v (omega (arith, lv))) e)
-  where
-    id_there : (xs : List TxnId) (v : ℕ) → v < length xs → Has xs (id_at xs v)
-    id_there [] v lt = absurd (omega (arith, lt))
-    id_there (y ∷ ys) zero lt = inl refl
-    id_there (y ∷ ys) (suc v) lt = inr (id_there ys v (omega (arith, lt)))
-same_place (x ∷ xs) (suc u) zero d lu lv e = absurd (all_get _ xs d.0 (id_at xs u) (id_there xs u (omega (arith, lu))) (sym e))
-  where
-    id_there : (xs : List TxnId) (v : ℕ) → v < length xs → Has xs (id_at xs v)
-    id_there [] v lt = absurd (omega (arith, lt))
-    id_there (y ∷ ys) zero lt = inl refl
-    id_there (y ∷ ys) (suc v) lt = inr (id_there ys v (omega (arith, lt)))
-same_place (x ∷ xs) (suc u) (suc v) d lu lv e = ap suc (same_place xs u v d.1 (omega (arith, lu)) (omega (arith, lv)) e)
+same_place ids u v d lu lv e = one_place ids u v (id_at ids v) d (slice_get-get_or ids u _ lu ∙ ap Some e) (slice_get-get_or ids v _ lv)
 
 pub id_has : (xs : List TxnId) (v : ℕ) → v < length xs → Has xs (id_at xs v)
-id_has [] v lt = absurd (omega (arith, lt))
-id_has (y ∷ ys) zero lt = inl refl
-id_has (y ∷ ys) (suc v) lt = inr (id_has ys v (omega (arith, lt)))
+id_has xs v lt = has_at xs v _ lt
 
 pub place_has : (xs : List TxnId) (t : TxnId) → Has xs t → (v : ℕ) × (v < length xs) × (id_at xs v ≡ t)
-place_has [] t h = absurd h
-place_has (y ∷ ys) t (inl e) = (zero, omega arith, e)
-place_has (y ∷ ys) t (inr h) = let r : (v : ℕ) × (v < length ys) × (id_at ys v ≡ t) = place_has ys t h in (suc r.0, omega (arith, r.1), r.2)
+place_has xs t h = any_at (λ id. id ≡ t) _ xs h
+
+-- so a place whose id is that of one in a list of places is in the list
+pub place_in_list : (ids : List TxnId) (list : List ℕ) (v : ℕ) → Distinct ids → AllIn (λ u. u < length ids) list → v < length ids → Has (map (id_at ids) list) (id_at ids v) → Has list v
+place_in_list ids list v once within lt h =
+    let u : (u : ℕ) × Has list u × (id_at ids u ≡ id_at ids v) = any_get _ list (any_of_image (λ y. y ≡ id_at ids v) (id_at ids) list h) in
+    subst (Has list) (same_place ids u.0 v once (all_get _ list within u.0 u.1) lt u.2) u.1
 
 -- a sum is zero just where each term is
 sum_zero : {A : Type 0} (f : A → ℕ) (xs : List A) → sum_by f xs ≡ 0 → AllIn (λ x. f x ≡ 0) xs
@@ -101,7 +90,8 @@ module _ (view : View) (done ids : List TxnId) (waiting : List Waiting) (well : 
           apart x n s = let y : not (v == v) ≡ true = subst (λ z. not (z == v) ≡ true) s n in let same : (v == v) ≡ true = slot_same v in cc
 
   pub free_by_degree : (degree waiting v ≡ 0) ↔ IsFree view done (id_at ids v)
-  free_by_degree = (
-    λ e. (free_by_queues view done ids waiting well uses (id_at ids v)).1 (λ u f. waits_counted u f e),
-    λ f. degree_counts ((free_by_queues view done ids waiting well uses (id_at ids v)).0 f),
-  )
+  free_by_degree =
+      let by_queues = free_by_queues view done ids waiting well uses (id_at ids v) in (
+        λ e. by_queues.1 (λ u f. waits_counted u f e),
+        λ f. degree_counts (by_queues.0 f),
+      )

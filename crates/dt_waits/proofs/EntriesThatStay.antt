@@ -3,10 +3,10 @@
 use Rattle.std.proofs.Common.{◌≡◌, ◌+◌, ◌<◌, ◌⊎◌, ◌↔◌, ◌∙◌, ℕ, Bool, true, false, ◌==◌, ◌&&◌, not, List, []}
 use Rattle.std.proofs.Common.{◌∷◌, ◌++◌, length, map, filter, refl, sym, ap, subst, inl, inr, eq-eqb, eqb-true}
 use Rattle.std.specs.List.{sum_by}
-use Rattle.std.proofs.lemmas.Bool.{cases_Bool, false_from_ne_true, not-true, not_from_false}
+use Rattle.std.proofs.lemmas.Bool.{both_ways, cases_Bool, false_from_ne_true, not-true, not_from_false}
 use Rattle.std.proofs.lemmas.List.{append_assoc}
 use Rattle.dt_lists.specs.Lists.{AnyIn, AllIn, Has, EachThen, Distinct}
-use Rattle.dt_lists.proofs.Callers.{all_get, all_put, any_get, any_map, any_of_test, any_put, any_of_image, either_any, either_nat, either_not, has_map, has_middle, has_of_filtered, test_of_any, chain_step, Spot, spot}
+use Rattle.dt_lists.proofs.Callers.{all_get, all_put, any_map, any_of_test, any_put, either_any, either_nat, either_not, has_map, has_middle, has_of_filtered, test_of_any, chain_step, Spot, spot}
 use Rattle.dt_access.specs.declared.TxnId.{TxnId}
 use Rattle.dt_sched.specs.Views.{View, Edge, IsWellFormed}
 use Rattle.dt_queue.specs.Queues.{Waiting, entries_clash, followers}
@@ -18,7 +18,7 @@ use Rattle.dt_waits.proofs.Sums.{filter_both, filter_same}
 use Rattle.dt_waits.proofs.Degrees.{degree_leaving}
 use Rattle.dt_waits.proofs.ChainsOfWaits.{edge_of_clash}
 use Rattle.dt_waits.proofs.Uses.{uses_left}
-use Rattle.dt_waits.proofs.DegreeZero.{either_first, free_by_degree, same_place, zero_sum}
+use Rattle.dt_waits.proofs.DegreeZero.{either_first, free_by_degree, place_in_list, zero_sum}
 
 -- what holds of each two items by their places holds of each and each later one
 pub each_of_splits : {A : Type 0} (R : A → A → Type 0) (before xs : List A) → ((front between rest : List A) (v w : A) → before ++ xs ≡ front ++ v ∷ (between ++ w ∷ rest) → R v w) → EachThen R xs
@@ -71,8 +71,7 @@ module _ (view : View) (done later ids : List TxnId) (waiting : List Waiting) (l
   named : (v : ℕ) → v < length ids → Has leaving v ↔ Has (map (id_at ids) leaving) (id_at ids v)
   named v lt = (
     λ h. has_map (id_at ids) leaving v h,
-    λ h. let r : (u : ℕ) × Has leaving u × (id_at ids u ≡ id_at ids v) = any_get _ leaving (any_of_image (λ y. y ≡ id_at ids v) (id_at ids) leaving h) in
-        subst (Has leaving) (same_place ids r.0 v once (all_get _ leaving within r.0 r.1) lt r.2) r.1,
+    λ h. place_in_list ids leaving v once within lt h,
   )
 
   -- a vertex that isn't one of them is still left, if it was
@@ -80,11 +79,8 @@ module _ (view : View) (done later ids : List TxnId) (waiting : List Waiting) (l
   left_vertex v lt = (
     λ l. let r : IsLeft view done (id_at ids v) × ¬ (Has (map (id_at ids) leaving) (id_at ids v)) = (left_still (id_at ids v)).0 l in
         (r.0, false_from_ne_true (is_leaving leaving v) (λ e. r.1 ((named v lt).0 (leaving_has leaving v e)))),
-    λ r. (left_still (id_at ids v)).1 (r.0, λ m. let e : is_leaving leaving v ≡ true = has_leaving leaving v ((named v lt).1 m) in false_true (r.1) e),
+    λ r. (left_still (id_at ids v)).1 (r.0, λ m. let e : is_leaving leaving v ≡ true = has_leaving leaving v ((named v lt).1 m) in both_ways _ r.1 e),
   )
-    where
-      false_true : {b : Bool} → b ≡ false → b ≡ true → ⊥
-      false_true e f = cc
 
   in_ids : (w : Waiting) → Has waiting w → w.vertex < length ids
   in_ids w h = all_get _ waiting uses.vertices w h

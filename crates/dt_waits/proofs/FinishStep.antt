@@ -237,10 +237,13 @@ module _ (view : View) (resolved : List (List TxnId)) (done : List TxnId) (t : T
             let l : IsLeft view Later (id_at old.ids u) = executable_left view resolved Later (id_at old.ids u) y in
             (l.0, λ o. l.1 (λ w r. has_longer done (t ∷ []) w (o w r)))
 
+        zero_is_free : (degree old.waiting u ≡ 0) ↔ IsFree view done (id_at old.ids u)
+        zero_is_free = free_by_degree view done old.ids old.waiting k.sound.well_formed g.uses g.once u lt
+
         free : IsFree view done (id_at old.ids u)
         free = elim (either_nat (degree old.waiting u) 0) [
-          | inl z ↦ (free_by_degree view done old.ids old.waiting k.sound.well_formed g.uses g.once u lt).0 z
-          | inr nz ↦ absurd (n ((g.stuck u).1 (lt, record { left = left; complete = f.0; apart = apart; waits = λ p. nz ((free_by_degree view done old.ids old.waiting k.sound.well_formed g.uses g.once u lt).1 p) })))
+          | inl z ↦ zero_is_free.0 z
+          | inr nz ↦ absurd (n ((g.stuck u).1 (lt, record { left = left; complete = f.0; apart = apart; waits = λ p. nz (zero_is_free.1 p) })))
         ]
 
     -- what is executable in a class that t isn't in was executable
@@ -285,16 +288,9 @@ module _ (view : View) (resolved : List (List TxnId)) (done : List TxnId) (t : T
           let r : (o : Open) × (slice_get old.classes place ≡ Some o) × IsOpened view done old.ids ids o = pairwise_get (IsOpened view done old.ids) resolved old.classes place ids class_at g.classes in
           subst (IsOpened view done old.ids ids) (some_same (sym r.1 ∙ kept_at)) r.2
 
-      irreflexive : (u : TxnId) → ¬ (IsSooner view u u)
-      irreflexive = sooner_breaks_ties.irreflexive view
-
-      transitive : (a b c : TxnId) → IsSooner view a b → IsSooner view b c → IsSooner view a c
-      transitive = sooner_breaks_ties.transitive view
-
       -- it is the next one of its class
       pub next_is : slice_get Row kept.next ≡ Some t
-      next_is = next_of_soonest (IsSooner view) irreflexive transitive Row opened.ordered done kept.next opened.front_done opened.rest_waits t ((opened.members t).1 member) x.waiting
-          (λ u h s. ((executable_in_resolved view resolved done k t ids there member).0 x).1 u ((opened.members u).0 h) s)
+      next_is = next_of_soonest opened t member x.waiting ((executable_in_resolved view resolved done k t ids there member).0 x).1
 
       opened_more : suc kept.next ≤ length kept.members → IsOpened view Later old.ids ids (one_done kept)
       opened_more le = record {
@@ -302,8 +298,8 @@ module _ (view : View) (resolved : List (List TxnId)) (done : List TxnId) (t : T
         ordered = opened.ordered;
         members = opened.members;
         next_in = le;
-        front_done = front_longer (IsSooner view) irreflexive transitive Row opened.ordered done kept.next opened.front_done opened.rest_waits t next_is;
-        rest_waits = rest_shorter (IsSooner view) irreflexive transitive Row opened.ordered done kept.next opened.front_done opened.rest_waits t next_is;
+        front_done = front_longer opened t next_is;
+        rest_waits = rest_shorter opened t next_is;
       }
 
       -- t is in no other class
@@ -318,7 +314,8 @@ module _ (view : View) (resolved : List (List TxnId)) (done : List TxnId) (t : T
 
       -- the members are distinct, and none of them is stuck
       pub distinct_members : Distinct kept.members
-      distinct_members = each_map _ _ kept.members (λ u w s e. irreflexive (id_at old.ids w) (subst (λ z. IsSooner view (id_at old.ids z) (id_at old.ids w)) e s)) (each_of_image (IsSooner view) (id_at old.ids) kept.members opened.ordered)
+      distinct_members = each_map _ _ kept.members (λ u w s e. sooner_breaks_ties.irreflexive view (id_at old.ids w) (subst (λ z. IsSooner view (id_at old.ids z) (id_at old.ids w)) e s))
+          (each_of_image (IsSooner view) (id_at old.ids) kept.members opened.ordered)
 
       pub member_of : (u : ℕ) → Has kept.members u → Has ids (id_at old.ids u)
       member_of u h = (opened.members (id_at old.ids u)).0 (has_map (id_at old.ids) kept.members u h)
@@ -389,7 +386,7 @@ module _ (view : View) (resolved : List (List TxnId)) (done : List TxnId) (t : T
           next_member = member_of next (has_place kept.members (suc kept.next) next at)
 
           next_not : ¬ (Has Later (id_at old.ids next))
-          next_not = waits_of_next (IsSooner view) irreflexive transitive Row opened.ordered Later (suc kept.next) more.front_done more.rest_waits (id_at old.ids next) next_at
+          next_not = waits_of_next more (id_at old.ids next) next_at
 
           next_waits : ¬ (Has done (id_at old.ids next))
           next_waits d = next_not (has_longer done (t ∷ []) (id_at old.ids next) d)
@@ -398,10 +395,7 @@ module _ (view : View) (resolved : List (List TxnId)) (done : List TxnId) (t : T
           next_isnt e = next_not (subst (Has Later) (sym e) (has_last done t))
 
           next_executable : IsExecutable view resolved Later (id_at old.ids next)
-          next_executable = (executable_in_resolved view resolved Later kl (id_at old.ids next) ids there next_member).1 (
-            next_not,
-            λ u h s. sooner_of_next (IsSooner view) irreflexive transitive Row opened.ordered Later (suc kept.next) more.front_done more.rest_waits (id_at old.ids next) next_at u ((opened.members u).1 h) s,
-          )
+          next_executable = (executable_in_resolved view resolved Later kl (id_at old.ids next) ids there next_member).1 (next_not, sooner_of_next more (id_at old.ids next) next_at)
 
           counted : GraphView
           counted = record old { ready = new.ready; classes = with_one_done old.classes place kept }
@@ -421,7 +415,5 @@ module _ (view : View) (resolved : List (List TxnId)) (done : List TxnId) (t : T
               it_is : Has ids (id_at old.ids u) → u ≡ next
               it_is m =
                   let r = (executable_in_resolved view resolved Later kl (id_at old.ids u) ids there m).0 y in
-                  let here : slice_get Row (suc kept.next) ≡ Some (id_at old.ids u) =
-                  next_of_soonest (IsSooner view) irreflexive transitive Row opened.ordered Later (suc kept.next) more.front_done more.rest_waits (id_at old.ids u) ((opened.members (id_at old.ids u)).1 m) r.0
-                  (λ w h s. r.1 w ((opened.members w).0 h) s) in
+                  let here : slice_get Row (suc kept.next) ≡ Some (id_at old.ids u) = next_of_soonest more (id_at old.ids u) m r.0 r.1 in
                   same_place old.ids u next g.once lt next_in (some_same (sym here ∙ next_at))

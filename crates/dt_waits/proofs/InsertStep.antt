@@ -328,11 +328,11 @@ module _ (view : View) (resolved : List (List TxnId)) (done : List TxnId) (part 
 
         by : Either (IsInResolved resolved (id_at new.ids u)) → IsExecutable Longer resolved done (id_at new.ids u) ↔ IsExecutable view resolved done (id_at new.ids u)
         by (inl a) =
-            let r : (ids : List TxnId) × Has resolved ids × Has ids (id_at new.ids u) = any_get _ resolved a in (
-              λ x. let f = (executable_in_resolved Longer resolved done kl (id_at new.ids u) r.0 r.1 r.2).0 x in
-                  (executable_in_resolved view resolved done k (id_at new.ids u) r.0 r.1 r.2).1 (f.0, λ w h s. f.1 w h ((sooner_same r.0 w (id_at new.ids u) r.1 h r.2).0 s)),
-              λ x. let f = (executable_in_resolved view resolved done k (id_at new.ids u) r.0 r.1 r.2).0 x in
-                  (executable_in_resolved Longer resolved done kl (id_at new.ids u) r.0 r.1 r.2).1 (f.0, λ w h s. f.1 w h ((sooner_same r.0 w (id_at new.ids u) r.1 h r.2).1 s)),
+            let r : (ids : List TxnId) × Has resolved ids × Has ids (id_at new.ids u) = any_get _ resolved a in
+            let now = executable_in_resolved Longer resolved done kl (id_at new.ids u) r.0 r.1 r.2 in
+            let was = executable_in_resolved view resolved done k (id_at new.ids u) r.0 r.1 r.2 in (
+              λ x. let f = now.0 x in was.1 (f.0, λ w h s. f.1 w h ((sooner_same r.0 w (id_at new.ids u) r.1 h r.2).0 s)),
+              λ x. let f = was.0 x in now.1 (f.0, λ w h s. f.1 w h ((sooner_same r.0 w (id_at new.ids u) r.1 h r.2).1 s)),
             )
         by (inr apart) = (
           λ x. let f : IsComplete Longer (id_at new.ids u) × IsFree Longer done (id_at new.ids u) = free_of_executable Longer resolved done kl (id_at new.ids u) apart x in

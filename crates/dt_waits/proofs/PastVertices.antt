@@ -1,6 +1,6 @@
 -- A vertex that is complete, neither ready nor stuck, and in no class that isn't done is of a transaction that has left: so no entry
 -- waits for it.
-use Rattle.std.proofs.Common.{◌≡◌, ◌≤◌, ◌<◌, ◌∙◌, ℕ, List, [], length, map, slice_get, Option, None, Some, sym, subst, inl, inr}
+use Rattle.std.proofs.Common.{◌≡◌, ◌≤◌, ◌<◌, ◌↔◌, ◌∙◌, ℕ, List, [], length, map, slice_get, Option, None, Some, sym, subst, inl, inr}
 use Rattle.std.proofs.lemmas.List.{length-map}
 use Rattle.dt_lists.specs.Lists.{AllIn, Has}
 use Rattle.dt_lists.proofs.Callers.{all_get, all_map, any_at, any_get, either_nat, has_place, some_same}
@@ -8,7 +8,7 @@ use Rattle.dt_access.specs.declared.TxnId.{TxnId}
 use Rattle.dt_access.specs.declared.Part.{Part}
 use Rattle.dt_sched.specs.Views.{View, HasPart, IsComplete, log_at}
 use Rattle.dt_waits.specs.declared.open.Open.{Open}
-use Rattle.dt_waits.specs.LeftInGraph.{IsInResolved, IsLeft, IsOrderly}
+use Rattle.dt_waits.specs.LeftInGraph.{IsFree, IsInResolved, IsLeft, IsOrderly}
 use Rattle.dt_waits.specs.Waits.{degree, id_at}
 use Rattle.dt_waits.specs.Graph.{GraphView, IsClassDone, IsOpened, IsPast, IsPlaceOfClass, KeepsGraph, vertex_at}
 use Rattle.dt_waits.proofs.DegreeZero.{free_by_degree, id_has}
@@ -25,17 +25,20 @@ module _ (view : View) (resolved : List (List TxnId)) (done : List TxnId) (k : I
       let p : (p : Part) × Has (log_at view at.0) p × (p.id ≡ id_at g.ids v) = any_get _ (log_at view at.0) at.2 in
       complete_of_none view (id_at g.ids v) at.0 p.0 p.1 p.2 (sym ((is.kept v lt).missing at.0 p.0 p.1 p.2) ∙ past.complete)
 
+  zero_is_free : (degree g.waiting v ≡ 0) ↔ IsFree view done (id_at g.ids v)
+  zero_is_free = free_by_degree view done g.ids g.waiting k.sound.well_formed is.uses is.once v lt
+
   -- in no class it would be executable or stuck
   alone : IsLeft view done (id_at g.ids v) → ¬ (IsInResolved resolved (id_at g.ids v)) → ⊥
   alone left apart = elim (either_nat (degree g.waiting v) 0) [
-    | inl z ↦ not_ready ((is.ready v).1 (lt, executable_of_free view resolved done k (id_at g.ids v) left apart complete ((free_by_degree view done g.ids g.waiting k.sound.well_formed is.uses is.once v lt).0 z)))
+    | inl z ↦ not_ready ((is.ready v).1 (lt, executable_of_free view resolved done k (id_at g.ids v) left apart complete (zero_is_free.0 z)))
     | inr n ↦ not_stuck ((is.stuck v).1 (
       lt,
       record {
         left = left;
         complete = complete;
         apart = apart;
-        waits = λ f. n ((free_by_degree view done g.ids g.waiting k.sound.well_formed is.uses is.once v lt).1 f);
+        waits = λ f. n (zero_is_free.1 f);
       },
     ))
   ]

@@ -2,13 +2,13 @@
 use Rattle.std.proofs.Common.{◌≡◌, ◌<◌, ◌≤◌, ◌⊎◌, ◌↔◌, ◌∙◌, ℕ, List, [], ◌∷◌, ◌++◌, length, map, slice_get, Option, None}
 use Rattle.std.proofs.Common.{Some, refl, sym, ap, subst, inl, inr, arith}
 use Rattle.dt_lists.specs.Lists.{AllIn, Has, EachThen, Either}
-use Rattle.dt_lists.proofs.Callers.{all_get, all_put, any_get, any_of_image, any_put, either_has, either_nat, has_last, has_longer, has_map, has_more, has_place, place_in_longer, last_place}
+use Rattle.dt_lists.proofs.Callers.{all_get, all_put, any_get, any_put, either_has, either_nat, has_last, has_longer, has_map, has_more, has_place, place_in_longer, last_place}
 use Rattle.dt_lists.proofs.Callers.{pairwise_more}
 use Rattle.dt_lists.specs.Chain.{here}
 use Rattle.dt_access.specs.declared.TxnId.{TxnId}
 use Rattle.dt_sched.specs.Views.{View, IsSooner}
 use Rattle.dt_sched.specs.Decide.{IsExecutable, IsResolvable}
-use Rattle.dt_sched.proofs.Callers.{class_of_member, has_id_decided, sooner_breaks_ties}
+use Rattle.dt_sched.proofs.Callers.{class_of_member, has_id_decided}
 use Rattle.dt_waits.specs.LeftInGraph.{IsInResolved, IsOrderly}
 use Rattle.dt_waits.specs.Waits.{id_at}
 use Rattle.dt_waits.specs.Graph.{GraphView, KeepsGraph, IsOpened, IsPlaceOfClass, IsStuck, IsVertexOf, vertex_at}
@@ -16,7 +16,7 @@ use Rattle.dt_waits.specs.Steps.{Resolves}
 use Rattle.dt_waits.proofs.LeftTransactions.{resolvable_waits}
 use Rattle.dt_waits.proofs.OrderlyStates.{orderly_resolve}
 use Rattle.dt_waits.proofs.ExecutableTest.{executable_in_resolved}
-use Rattle.dt_waits.proofs.DegreeZero.{same_place}
+use Rattle.dt_waits.proofs.DegreeZero.{place_in_list, same_place}
 use Rattle.dt_waits.proofs.InsertStep.{in_resolved_decided}
 use Rattle.dt_waits.proofs.RunInOrder.{next_of_soonest, sooner_of_next}
 
@@ -72,9 +72,7 @@ module _ (view : View) (resolved : List (List TxnId)) (done ids : List TxnId) (k
         least n = omega arith
 
     member : (v : ℕ) → v < length old.ids → Has ids (id_at old.ids v) → Has members v
-    member v lt h =
-        let u : (u : ℕ) × Has members u × (id_at old.ids u ≡ id_at old.ids v) = any_get _ members (any_of_image (λ y. y ≡ id_at old.ids v) (id_at old.ids) members ((same (id_at old.ids v)).1 h)) in
-        subst (Has members) (same_place old.ids u.0 v g.once (all_get _ members within u.0 u.1) lt u.2) u.1
+    member v lt h = place_in_list old.ids members v g.once within lt ((same (id_at old.ids v)).1 h)
 
     of_member : (v : ℕ) → Has members v → Has ids (id_at old.ids v)
     of_member v h = (same (id_at old.ids v)).0 (has_map (id_at old.ids) members v h)
@@ -121,8 +119,7 @@ module _ (view : View) (resolved : List (List TxnId)) (done ids : List TxnId) (k
                 all_get _ members within v m,
                 (executable_in_resolved view More done km (id_at old.ids v) ids (has_last resolved ids) (of_member v m)).1 (
                   resolvable_waits view resolved done ids k x (id_at old.ids v) (of_member v m),
-                  λ u hu s. sooner_of_next (IsSooner view) (sooner_breaks_ties.irreflexive view) (sooner_breaks_ties.transitive view) (map (id_at old.ids) members) ordered done 0 opened.front_done opened.rest_waits
-                      (id_at old.ids v) (first_at v at) u ((same u).1 hu) s,
+                  sooner_of_next opened (id_at old.ids v) (first_at v at),
                 ),
               )
         ]
@@ -136,9 +133,7 @@ module _ (view : View) (resolved : List (List TxnId)) (done ids : List TxnId) (k
             at_first : Has ids (id_at old.ids v) → slice_get members 0 ≡ Some v
             at_first m =
                 let f = (executable_in_resolved view More done km (id_at old.ids v) ids (has_last resolved ids) m).0 e.1 in
-                let here_first : slice_get (map (id_at old.ids) members) 0 ≡ Some (id_at old.ids v) =
-                next_of_soonest (IsSooner view) (sooner_breaks_ties.irreflexive view) (sooner_breaks_ties.transitive view) (map (id_at old.ids) members) ordered done 0 opened.front_done opened.rest_waits
-                (id_at old.ids v) ((same (id_at old.ids v)).1 m) f.0 (λ u h s. f.1 u ((same u).0 h) s) in
+                let here_first : slice_get (map (id_at old.ids) members) 0 ≡ Some (id_at old.ids v) = next_of_soonest opened (id_at old.ids v) m f.0 f.1 in
                 back_first members (λ u h. h) here_first
               where
                 back_first : (vs : List ℕ) → ((u : ℕ) → Has vs u → Has members u) → slice_get (map (id_at old.ids) vs) 0 ≡ Some (id_at old.ids v) → slice_get vs 0 ≡ Some v

@@ -1,9 +1,14 @@
 -- A class in the order in which it runs, of which a front is done: the next one is the only member that isn't done, while all
 -- sooner ones are.
-use Rattle.std.proofs.Common.{◌≡◌, ◌≢◌, ◌⊎◌, ◌∙◌, ℕ, zero, suc, List, [], ◌∷◌, ◌++◌, take, drop, set, slice_get, Some, refl, sym, ap, subst, inl, inr, arith}
+use Rattle.std.proofs.Common.{◌≡◌, ◌≢◌, ◌⊎◌, ◌∙◌, ℕ, zero, suc, List, [], ◌∷◌, ◌++◌, map, take, drop, set, slice_get, Some, refl, sym, ap, subst, inl, inr, arith}
 use Rattle.dt_lists.specs.Lists.{AllIn, Has, EachThen, Pairwise}
-use Rattle.dt_lists.proofs.Callers.{all_get, all_map, all_put, has_longer, has_more, has_dropped}
+use Rattle.dt_lists.proofs.Callers.{all_get, all_map, all_put, has_last, has_longer, has_more, has_dropped}
 use Rattle.dt_access.specs.declared.TxnId.{TxnId}
+use Rattle.dt_sched.specs.Views.{View, IsSooner}
+use Rattle.dt_sched.proofs.Callers.{sooner_breaks_ties}
+use Rattle.dt_waits.specs.declared.open.Open.{Open}
+use Rattle.dt_waits.specs.Waits.{id_at}
+use Rattle.dt_waits.specs.Graph.{IsOpened}
 
 -- an item is in a front of a list, or in the rest
 split_has : {A : Type 0} (n : ℕ) (xs : List A) (x : A) → Has xs x → Has (take n xs) x ⊎ Has (drop n xs) x
@@ -34,51 +39,64 @@ take_more P n [] x e all p = tt
 take_more P zero (y ∷ ys) x e all p = let s : x ≡ y = cc in (subst P s p, tt)
 take_more P (suc n) (y ∷ ys) x e all p = (all.0, take_more P n ys x e all.1 p)
 
-module _ (S : TxnId → TxnId → Type 0) (irreflexive : (x : TxnId) → ¬ (S x x)) (transitive : (x y z : TxnId) → S x y → S y z → S x z) (ts : List TxnId) (ordered : EachThen S ts)
-    (done : List TxnId) (n : ℕ) (front_done : AllIn (Has done) (take n ts)) (rest_waits : AllIn (λ t. ¬ (Has done t)) (drop n ts)) where
-  pub next_of_soonest : (t : TxnId) → Has ts t → ¬ (Has done t) → ((u : TxnId) → Has ts u → S u t → Has done u) → slice_get ts n ≡ Some t
-  next_of_soonest t h nd sooner = by (drop n ts) refl (elim (split_has n ts t h) [ inl a ↦ absurd (nd (all_get _ (take n ts) front_done t a)) | inr b ↦ b ])
+-- a class that is kept open
+module _ {view : View} {done ids class : List TxnId} {kept : Open} (opened : IsOpened view done ids class kept) where
+  -- the ids of its members, in the order in which they run
+  abbrev Row : List TxnId
+  Row = map (id_at ids) kept.members
+
+  irreflexive : (t : TxnId) → ¬ (IsSooner view t t)
+  irreflexive = sooner_breaks_ties.irreflexive view
+
+  -- what no member is done before is the next one
+  pub next_of_soonest : (t : TxnId) → Has class t → ¬ (Has done t) → ((u : TxnId) → Has class u → IsSooner view u t → Has done u) → slice_get Row kept.next ≡ Some t
+  next_of_soonest t h nd sooner = by (drop kept.next Row) refl (elim (split_has kept.next Row t ((opened.members t).1 h)) [ inl a ↦ absurd (nd (all_get _ (take kept.next Row) opened.front_done t a)) | inr b ↦ b ])
     where
-      by : (rest : List TxnId) → drop n ts ≡ rest → Has rest t → slice_get ts n ≡ Some t
+      by : (rest : List TxnId) → drop kept.next Row ≡ rest → Has rest t → slice_get Row kept.next ≡ Some t
       by [] e m = absurd m
-      by (z ∷ zs) e (inl s) = at_drop n ts z zs e ∙ ap Some s
-      by (z ∷ zs) e (inr m) = absurd (waits (sooner z (has_dropped n ts z (subst (λ l. Has l z) (sym e) (inl refl))) (all_get (S z) zs first t m)))
+      by (z ∷ zs) e (inl s) = at_drop kept.next Row z zs e ∙ ap Some s
+      by (z ∷ zs) e (inr m) = absurd (waits (sooner z ((opened.members z).0 (has_dropped kept.next Row z (subst (λ l. Has l z) (sym e) (inl refl)))) (all_get (IsSooner view z) zs first t m)))
         where
-          first : AllIn (S z) zs
-          first = (subst (EachThen S) e (each_drop S n ts ordered)).0
+          first : AllIn (IsSooner view z) zs
+          first = (subst (EachThen (IsSooner view)) e (each_drop (IsSooner view) kept.next Row opened.ordered)).0
 
           waits : ¬ (Has done z)
-          waits = (subst (AllIn (λ t. ¬ (Has done t))) e rest_waits).0
+          waits = (subst (AllIn (λ t. ¬ (Has done t))) e opened.rest_waits).0
 
-  pub waits_of_next : (t : TxnId) → slice_get ts n ≡ Some t → ¬ (Has done t)
-  waits_of_next t e = (subst (AllIn (λ t. ¬ (Has done t))) (drop_at n ts t e) rest_waits).0
+  -- the member that runs next
+  module _ (t : TxnId) (next : slice_get Row kept.next ≡ Some t) where
+    at_next : drop kept.next Row ≡ t ∷ drop (suc kept.next) Row
+    at_next = drop_at kept.next Row t next
 
-  -- all later ones come after it
-  after_next : (t : TxnId) → slice_get ts n ≡ Some t → AllIn (S t) (drop (suc n) ts)
-  after_next t e = (subst (EachThen S) (drop_at n ts t e) (each_drop S n ts ordered)).0
+    -- it and those after it wait
+    waiting : AllIn (λ u. ¬ (Has done u)) (t ∷ drop (suc kept.next) Row)
+    waiting = subst (AllIn (λ u. ¬ (Has done u))) at_next opened.rest_waits
 
-  pub sooner_of_next : (t : TxnId) → slice_get ts n ≡ Some t → (u : TxnId) → Has ts u → S u t → Has done u
-  sooner_of_next t e u h s = elim (split_has n ts u h) [
-    | inl a ↦ all_get _ (take n ts) front_done u a
-    | inr b ↦ elim (subst (λ l. Has l u) (drop_at n ts t e) b) [
-      | inl same ↦ absurd (irreflexive t (subst (λ x. S x t) (sym same) s))
-      | inr m ↦ absurd (irreflexive t (transitive t u t (all_get (S t) (drop (suc n) ts) (after_next t e) u m) s))
+    pub waits_of_next : ¬ (Has done t)
+    waits_of_next = waiting.0
+
+    -- all later ones come after it
+    after_next : AllIn (IsSooner view t) (drop (suc kept.next) Row)
+    after_next = (subst (EachThen (IsSooner view)) at_next (each_drop (IsSooner view) kept.next Row opened.ordered)).0
+
+    pub sooner_of_next : (u : TxnId) → Has class u → IsSooner view u t → Has done u
+    sooner_of_next u h s = elim (split_has kept.next Row u ((opened.members u).1 h)) [
+      | inl a ↦ all_get _ (take kept.next Row) opened.front_done u a
+      | inr b ↦ elim (subst (λ l. Has l u) at_next b) [
+        | inl same ↦ absurd (irreflexive t (subst (λ x. IsSooner view x t) (sym same) s))
+        | inr m ↦ absurd (irreflexive t (sooner_breaks_ties.transitive view t u t (all_get (IsSooner view t) (drop (suc kept.next) Row) after_next u m) s))
+      ]
     ]
-  ]
 
-  -- when the next one is done too, the front is longer by one
-  pub front_longer : (t : TxnId) → slice_get ts n ≡ Some t → AllIn (Has (done ++ t ∷ [])) (take (suc n) ts)
-  front_longer t e = take_more (Has (done ++ t ∷ [])) n ts t e (all_map _ _ (take n ts) (λ u h. has_longer done (t ∷ []) u h) front_done) (last done)
-    where
-      last : (xs : List TxnId) → Has (xs ++ t ∷ []) t
-      last [] = inl refl
-      last (x ∷ xs) = inr (last xs)
+    -- when it is done too, the front is longer by one
+    pub front_longer : AllIn (Has (done ++ t ∷ [])) (take (suc kept.next) Row)
+    front_longer = take_more (Has (done ++ t ∷ [])) kept.next Row t next (all_map _ _ (take kept.next Row) (λ u h. has_longer done (t ∷ []) u h) opened.front_done) (has_last done t)
 
-  pub rest_shorter : (t : TxnId) → slice_get ts n ≡ Some t → AllIn (λ u. ¬ (Has (done ++ t ∷ []) u)) (drop (suc n) ts)
-  rest_shorter t e = all_put _ (drop (suc n) ts) (λ u h d. elim (has_more done t u d) [
-    | inl o ↦ all_get _ (drop (suc n) ts) (subst (AllIn (λ t. ¬ (Has done t))) (drop_at n ts t e) rest_waits).1 u h o
-    | inr same ↦ irreflexive t (subst (S t) (sym same) (all_get (S t) (drop (suc n) ts) (after_next t e) u h))
-  ])
+    pub rest_shorter : AllIn (λ u. ¬ (Has (done ++ t ∷ []) u)) (drop (suc kept.next) Row)
+    rest_shorter = all_put _ (drop (suc kept.next) Row) (λ u h d. elim (has_more done t u d) [
+      | inl o ↦ all_get _ (drop (suc kept.next) Row) waiting.1 u h o
+      | inr same ↦ irreflexive t (subst (IsSooner view t) (sym same) (all_get (IsSooner view t) (drop (suc kept.next) Row) after_next u h))
+    ])
 
 -- pairs, one of which is replaced
 pub pairwise_set : {A B : Type 0} (R S : A → B → Type 0) (xs : List A) (ys : List B) (i : ℕ) (z : B)

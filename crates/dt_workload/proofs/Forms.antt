@@ -3,6 +3,7 @@ use Rattle.std.proofs.Common.{◌≡◌, ◌≢◌, ℕ, zero, suc, ◌<◌, ◌
 use Rattle.std.proofs.Common.{None, MatchOption, inl, inr, ◌++◌, refl, ap, sym, ◌∙◌, subst, arith}
 use Rattle.std.proofs.lemmas.Bool.{false≢true, not-false, not-true}
 use Rattle.std.proofs.Math.Seq.{drop-append_seam, take-append_seam}
+use Rattle.std.proofs.lemmas.List.{take-append-drop}
 use Rattle.std.specs.Cmp.Lexicographic.{pointwise, bytes_decides}
 use Rattle.std.specs.Fmt.{decimal}
 use Rattle.std.proofs.lemmas.Fmt.{decimal_injective}
@@ -170,9 +171,7 @@ no_digit kind word digits other cut none rank low (inr h) = none rank low (same_
 -- ---- the front of a word
 
 front_cut : (front word : Bytes) → take (length front) word ≡ front → word ≡ front ++ drop (length front) word
-front_cut [] word e = refl
-front_cut (b ∷ front) [] e = cc
-front_cut (b ∷ front) (c ∷ word) e = λ i. same_head e i ∷ front_cut front word (same_tail e) i
+front_cut front word e = sym (take-append-drop (length front) word) ∙ ap (λ bs. bs ++ drop (length front) word) e
 
 one_slash : (left rest : Bytes) → take 1 left ≡ 47 ∷ [] → rest ≡ drop 1 left → left ≡ 47 ∷ rest
 one_slash [] rest e after = absurd cc

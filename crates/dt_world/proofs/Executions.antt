@@ -45,7 +45,7 @@ outcome_there (d ∷ done) id h = go (cases_Bool (same_id id d.0)) h (λ r. outc
 pub executed_next : (cluster : Cluster) (workload : Workload) (w : World) (order : List TxnId) (region : ℕ) (id : TxnId) → IsLegal cluster workload w (Execute region id) → Inv cluster workload w order
     → IsExecutedAt (next cluster workload w (Execute region id)) region id
 executed_next cluster workload w order region id l i =
-    let k : WasSubmitted w id = executable_known cluster workload w order region id l.regions l.allowed i in
+    let k : WasSubmitted w id = executable_known i region id l.regions l.allowed in
     let node : node_at (next cluster workload w (Execute region id)) region ≡ record (node_at w region) { here = executed cluster.procs (node_at w region).here (txn_of w id) } =
     get_or-set_same w.nodes region _ no_node (subst (λ n. region < n) (sym i.nodes) l.regions) in
     let here : node_at (next cluster workload w (Execute region id)) region ≡ record (node_at w region) { here = executed cluster.procs (node_at w region).here (Some k.0) } = node

@@ -60,8 +60,7 @@ module _ (cluster : Cluster) (workload : Workload) (w : World) where
     where
       go : (b : Bool) → NodeGrows (node_at w r) (node_at (cond b (received w region home last) w) r)
       go false = same_node (node_at w r)
-      go true = grows_set w.nodes region (record (node_at w region) { received = set (node_at w region).received home last })
-          (kept_node (node_at w region) (record (node_at w region) { received = set (node_at w region).received home last }) refl refl) r
+      go true = grows_set w.nodes region _ (kept_node (node_at w region) (record (node_at w region) { received = set (node_at w region).received home last }) refl refl) r
   grows (Insert region home) r = grows_set w.nodes region _ (kept_node (node_at w region) _ refl refl) r
   grows (Resolve region ids) r = grows_set w.nodes region _ (kept_node (node_at w region) _ refl refl) r
   grows (Execute region id) r = go (txn_of w id)
@@ -79,11 +78,15 @@ module _ (cluster : Cluster) (workload : Workload) (w : World) where
 pub grows_on : (cluster : Cluster) (workload : Workload) (w : World) (events : List Event) (r : ℕ) → NodeGrows (node_at w r) (node_at (world_from cluster workload w events) r)
 grows_on cluster workload w [] r = same_node (node_at w r)
 grows_on cluster workload w (event ∷ events) r =
-    let a : NodeGrows (node_at w r) (node_at (next cluster workload w event) r) = grows cluster workload w event r in
-    let b : NodeGrows (node_at (next cluster workload w event) r) (node_at (world_from cluster workload (next cluster workload w event) events) r) = grows_on cluster workload (next cluster workload w event) events r in
+    let after = next cluster workload w event in
+    let first = node_at w r in
+    let second = node_at after r in
+    let last = node_at (world_from cluster workload after events) r in
+    let a : NodeGrows first second = grows cluster workload w event r in
+    let b : NodeGrows second last = grows_on cluster workload after events r in
     record {
-      submitted = front_trans (node_at w r).submitted (node_at (next cluster workload w event) r).submitted (node_at (world_from cluster workload (next cluster workload w event) events) r).submitted a.submitted b.submitted;
-      done = front_trans (node_at w r).here.done (node_at (next cluster workload w event) r).here.done (node_at (world_from cluster workload (next cluster workload w event) events) r).here.done a.done b.done;
+      submitted = front_trans first.submitted second.submitted last.submitted a.submitted b.submitted;
+      done = front_trans first.here.done second.here.done last.here.done a.done b.done;
     }
 
 -- events up to one of them, that one, and those after it

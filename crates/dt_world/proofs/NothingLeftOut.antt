@@ -6,6 +6,7 @@ use Rattle.std.proofs.lemmas.List.{map-append}
 use Rattle.std.proofs.lemmas.List.Elements.{filter_map-append}
 use Rattle.dt_lists.specs.Lists.{AllIn}
 use Rattle.dt_lists.proofs.Callers.{from_right, all_put}
+use Rattle.dt_access.specs.Clash.{Bytes}
 use Rattle.dt_access.specs.declared.TxnId.{TxnId}
 use Rattle.dt_events.specs.declared.Event.{Event}
 use Rattle.dt_events.specs.declared.Event.TheVariants.{Submit, Append, Deliver, Insert, Resolve, Execute, Answer}
@@ -45,8 +46,20 @@ module _ {cluster : Cluster} {workload : Workload} {events : List Event} (run : 
 
   -- the replies have each answer
 
+  -- the sessions that replies name, in their order
+  abbrev names_in : List Reply → List Bytes
+  names_in = map (λ (r : Reply). r.session)
+
+  -- the replies to the first of the events
+  abbrev replies_to : List Event → List Reply
+  replies_to = replies_from cluster workload events (opening_world cluster workload)
+
+  -- the reply to an event that stands after these, where these are all
+  abbrev reply_after : List Event → Event → List Event → List Reply
+  reply_after xs event all = option_to_list (reply_for cluster workload all (answered_session workload (world_after cluster workload xs) event))
+
   one_reply : (xs ys : List Event) (event : Event) → events ≡ xs ++ event ∷ ys
-      → map (λ (r : Reply). r.session) (option_to_list (reply_for cluster workload events (answered_session workload (world_after cluster workload xs) event))) ≡ filter_map answered_name (event ∷ [])
+      → names_in (reply_after xs event events) ≡ filter_map answered_name (event ∷ [])
   one_reply xs ys (Submit region name) e = refl
   one_reply xs ys (Append home source number) e = refl
   one_reply xs ys (Deliver region home first last) e = refl
@@ -54,7 +67,7 @@ module _ {cluster : Cluster} {workload : Workload} {events : List Event} (run : 
   one_reply xs ys (Resolve region ids) e = refl
   one_reply xs ys (Execute region id) e = refl
   one_reply xs ys (Answer region name) e =
-      subst (λ all. map (λ (r : Reply). r.session) (option_to_list (reply_for cluster workload all (answered_session workload (world_after cluster workload xs) (Answer region name)))) ≡ name ∷ []) (sym e) here
+      subst (λ all. names_in (reply_after xs (Answer region name) all) ≡ name ∷ []) (sym e) here
     where
       a : IsAnswered cluster workload (xs ++ Answer region name ∷ ys) xs region name
       a = answer_accounted xs region name ys (subst (IsLegalRun cluster workload) e run)
@@ -65,17 +78,17 @@ module _ {cluster : Cluster} {workload : Workload} {events : List Event} (run : 
           ∙ ap (λ o. option_map (reply_to a.session a.place) (option_and_then (serial_outcome cluster workload (xs ++ Answer region name ∷ ys)) o)) a.waits
           ∙ ap (option_map (reply_to a.session a.place)) a.accounted.serial
 
-      here : map (λ (r : Reply). r.session) (option_to_list (reply_for cluster workload (xs ++ Answer region name ∷ ys) (answered_session workload (world_after cluster workload xs) (Answer region name)))) ≡ name ∷ []
+      here : names_in (reply_after xs (Answer region name) (xs ++ Answer region name ∷ ys)) ≡ name ∷ []
       here =
-          ap (λ o. map (λ (r : Reply). r.session) (option_to_list o)) replied
+          ap (λ o. names_in (option_to_list o)) replied
           ∙ ap (λ n. n ∷ []) (found_is_named workload.sessions (world_after cluster workload xs).places region name a.session a.place a.found)
 
   pub all_are_answered : map (λ (r : Reply). r.session) (replies_of cluster workload events) ≡ filter_map answered_name events
-  all_are_answered = from_right (λ xs. (ys : List Event) → events ≡ xs ++ ys → map (λ (r : Reply). r.session) (replies_from cluster workload events (opening_world cluster workload) xs) ≡ filter_map answered_name xs)
+  all_are_answered = from_right (λ xs. (ys : List Event) → events ≡ xs ++ ys → names_in (replies_to xs) ≡ filter_map answered_name xs)
       (λ ys e. refl)
       (λ xs event before ys e.
-      ap (map (λ (r : Reply). r.session)) (replies_more cluster workload events (opening_world cluster workload) xs event)
-      ∙ map-append (λ (r : Reply). r.session) (replies_from cluster workload events (opening_world cluster workload) xs) _
+      ap names_in (replies_more cluster workload events (opening_world cluster workload) xs event)
+      ∙ map-append (λ (r : Reply). r.session) (replies_to xs) _
       ∙ ap₂ (λ x y. x ++ y) (before (event ∷ ys) (e ∙ append_assoc xs (event ∷ []) ys)) (one_reply xs ys event (e ∙ append_assoc xs (event ∷ []) ys))
       ∙ sym (filter_map-append answered_name xs (event ∷ [])))
       events [] (sym (append-nil events))

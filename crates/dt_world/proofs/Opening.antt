@@ -23,14 +23,18 @@ use Rattle.dt_world.specs.WorldSessions.{WorldSessions, opening_sessions, places
 use Rattle.dt_world.specs.WorldInner.{IsLawful, kept_in, opening_sites, sessions_of, site_at, view_in, world_of}
 use Rattle.dt_world.specs.WorldView.{opening_view}
 
+-- the site of the region of this number before anything happens
+abbrev opened : Cluster → ℕ → SiteView
+opened cluster number = opening_site number cluster.regions (opening_table cluster)
+
 -- one more site is opened
 pub opened_more : (cluster : Cluster) (n : ℕ) (items new : List SiteView) (p : SiteView)
-    → items ≡ map (λ number. opening_site number cluster.regions (opening_table cluster)) (range_with_len 0 n)
-    → p ≡ opening_site n cluster.regions (opening_table cluster) → new ≡ items ++ p ∷ []
-    → new ≡ map (λ number. opening_site number cluster.regions (opening_table cluster)) (range_with_len 0 (n + 1))
+    → items ≡ map (opened cluster) (range_with_len 0 n)
+    → p ≡ opened cluster n → new ≡ items ++ p ∷ []
+    → new ≡ map (opened cluster) (range_with_len 0 (n + 1))
 opened_more cluster n items new p before is now =
     now ∙ ap₂ (λ l x. l ++ x ∷ []) before is
-    ∙ sym (map-range_with_len_more (λ number. opening_site number cluster.regions (opening_table cluster)) 0 n n (omega arith))
+    ∙ sym (map-range_with_len_more (opened cluster) 0 n n (omega arith))
 
 all_nodes : (regions : ℕ) (t : Table) (a n : ℕ) → map node_of (map (λ number. opening_site number regions t) (range_with_len a n)) ≡ replicate n (opening_node regions t)
 all_nodes regions t a zero = refl
@@ -52,8 +56,12 @@ abbrev idle : Cluster → Workload → WorldSessions
 idle cluster workload = record { workload = workload; by_region = opening_sessions cluster workload }
 
 module _ (cluster : Cluster) (workload : Workload) (fits : IsValidWorkload cluster workload) where
-  opened_at : (region : ℕ) → region < cluster.regions → SessionsStandIn cluster workload (opening_world cluster workload) region (sessions_of (opening_sessions cluster workload) region)
-  opened_at region lr = subst (SessionsStandIn cluster workload (opening_world cluster workload) region)
+  -- the sessions of a region stand in the opening world
+  abbrev StandFirst : ℕ → SessionsView → Type 0
+  StandFirst = SessionsStandIn cluster workload (opening_world cluster workload)
+
+  opened_at : (region : ℕ) → region < cluster.regions → StandFirst region (sessions_of (opening_sessions cluster workload) region)
+  opened_at region lr = subst (StandFirst region)
       (sym (get_or-map-range_with_len (λ r. all_idle cluster.tries r workload) 0 cluster.regions region region no_sessions lr (omega arith)))
       (opening_sessions_stand cluster workload region fits.names_once)
 

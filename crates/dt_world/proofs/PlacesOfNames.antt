@@ -45,58 +45,62 @@ position_is p (x ∷ xs) = go (cases_Bool (p x)) (position_is p xs)
 -- a session is found where the test passes first, and it is that place which changes
 
 module _ (region : ℕ) (name : Bytes) where
-  at_where : (sessions : List Session) (places : List Place) → length places ≡ length sessions → (i : ℕ) (d : Session) (e : Place) → place_where (is_session region name) sessions ≡ Some i
+  -- the place of the session in a list, if it is there
+  abbrev where_in : List Session → Option ℕ
+  where_in = place_where (is_session region name)
+
+  at_where : (sessions : List Session) (places : List Place) → length places ≡ length sessions → (i : ℕ) (d : Session) (e : Place) → where_in sessions ≡ Some i
       → session_at sessions places region name ≡ Some (get_or sessions i d, get_or places i e)
   at_where [] places same i d e found = cc
   at_where (s ∷ sessions) [] same i d e found = absurd (omega arith)
-  at_where (s ∷ sessions) (p ∷ places) same i d e found = go (cases_Bool (is_session region name s)) (place_where (is_session region name) sessions) refl (λ j f. at_where sessions places (omega arith) j d e f)
+  at_where (s ∷ sessions) (p ∷ places) same i d e found = go (cases_Bool (is_session region name s)) (where_in sessions) refl (λ j f. at_where sessions places (omega arith) j d e f)
     where
-      go : (is_session region name s ≡ true) ⊎ (is_session region name s ≡ false) → (o : Option ℕ) → place_where (is_session region name) sessions ≡ o
-          → ((j : ℕ) → place_where (is_session region name) sessions ≡ Some j → session_at sessions places region name ≡ Some (get_or sessions j d, get_or places j e))
+      go : (is_session region name s ≡ true) ⊎ (is_session region name s ≡ false) → (o : Option ℕ) → where_in sessions ≡ o
+          → ((j : ℕ) → where_in sessions ≡ Some j → session_at sessions places region name ≡ Some (get_or sessions j d, get_or places j e))
           → session_at (s ∷ sessions) (p ∷ places) region name ≡ Some (get_or (s ∷ sessions) i d, get_or (p ∷ places) i e)
       go (inl y) o is later =
           let here : ◌≡◌ {A = Option ℕ} (Some 0) (Some i) = rw y at found in
           let zero_is : 0 ≡ i = cc in
           subst (λ j. session_at (s ∷ sessions) (p ∷ places) region name ≡ Some (get_or (s ∷ sessions) j d, get_or (p ∷ places) j e)) zero_is (rw y refl)
       go (inr n) None is later =
-          let none : ◌≡◌ {A = Option ℕ} (option_map suc (place_where (is_session region name) sessions)) (Some i) = rw n at found in
+          let none : ◌≡◌ {A = Option ℕ} (option_map suc (where_in sessions)) (Some i) = rw n at found in
           absurd (cc)
       go (inr n) (Some j) is later =
-          let there : ◌≡◌ {A = Option ℕ} (option_map suc (place_where (is_session region name) sessions)) (Some i) = rw n at found in
+          let there : ◌≡◌ {A = Option ℕ} (option_map suc (where_in sessions)) (Some i) = rw n at found in
           let next_is : ◌≡◌ {A = Option ℕ} (Some (suc j)) (Some i) = sym (ap (option_map suc) is) ∙ there in
           let suc_is : suc j ≡ i = cc in
           subst (λ k. session_at (s ∷ sessions) (p ∷ places) region name ≡ Some (get_or (s ∷ sessions) k d, get_or (p ∷ places) k e)) suc_is (rw n (later j is))
 
-  not_where : (sessions : List Session) (places : List Place) → place_where (is_session region name) sessions ≡ None → session_at sessions places region name ≡ None
+  not_where : (sessions : List Session) (places : List Place) → where_in sessions ≡ None → session_at sessions places region name ≡ None
   not_where [] places none = refl
   not_where (s ∷ sessions) [] none = refl
-  not_where (s ∷ sessions) (p ∷ places) none = go (cases_Bool (is_session region name s)) (place_where (is_session region name) sessions) refl (not_where sessions places)
+  not_where (s ∷ sessions) (p ∷ places) none = go (cases_Bool (is_session region name s)) (where_in sessions) refl (not_where sessions places)
     where
-      go : (is_session region name s ≡ true) ⊎ (is_session region name s ≡ false) → (o : Option ℕ) → place_where (is_session region name) sessions ≡ o
-          → (place_where (is_session region name) sessions ≡ None → session_at sessions places region name ≡ None) → session_at (s ∷ sessions) (p ∷ places) region name ≡ None
+      go : (is_session region name s ≡ true) ⊎ (is_session region name s ≡ false) → (o : Option ℕ) → where_in sessions ≡ o
+          → (where_in sessions ≡ None → session_at sessions places region name ≡ None) → session_at (s ∷ sessions) (p ∷ places) region name ≡ None
       go (inl y) o is f = let here : ◌≡◌ {A = Option ℕ} (Some 0) None = rw y at none in absurd (cc)
       go (inr n) None is f = rw n (f is)
       go (inr n) (Some j) is f =
-          let there : ◌≡◌ {A = Option ℕ} (option_map suc (place_where (is_session region name) sessions)) None = rw n at none in
+          let there : ◌≡◌ {A = Option ℕ} (option_map suc (where_in sessions)) None = rw n at none in
           absurd (cc)
 
-  with_where : (sessions : List Session) (places : List Place) (p : Place) → length places ≡ length sessions → (i : ℕ) → place_where (is_session region name) sessions ≡ Some i
+  with_where : (sessions : List Session) (places : List Place) (p : Place) → length places ≡ length sessions → (i : ℕ) → where_in sessions ≡ Some i
       → with_place sessions places region name p ≡ set places i p
   with_where [] places p same i found = cc
   with_where (s ∷ sessions) [] p same i found = absurd (omega arith)
-  with_where (s ∷ sessions) (q ∷ places) p same i found = go (cases_Bool (is_session region name s)) (place_where (is_session region name) sessions) refl (λ j f. with_where sessions places p (omega arith) j f)
+  with_where (s ∷ sessions) (q ∷ places) p same i found = go (cases_Bool (is_session region name s)) (where_in sessions) refl (λ j f. with_where sessions places p (omega arith) j f)
     where
-      go : (is_session region name s ≡ true) ⊎ (is_session region name s ≡ false) → (o : Option ℕ) → place_where (is_session region name) sessions ≡ o
-          → ((j : ℕ) → place_where (is_session region name) sessions ≡ Some j → with_place sessions places region name p ≡ set places j p) → with_place (s ∷ sessions) (q ∷ places) region name p ≡ set (q ∷ places) i p
+      go : (is_session region name s ≡ true) ⊎ (is_session region name s ≡ false) → (o : Option ℕ) → where_in sessions ≡ o
+          → ((j : ℕ) → where_in sessions ≡ Some j → with_place sessions places region name p ≡ set places j p) → with_place (s ∷ sessions) (q ∷ places) region name p ≡ set (q ∷ places) i p
       go (inl y) o is later =
           let here : ◌≡◌ {A = Option ℕ} (Some 0) (Some i) = rw y at found in
           let zero_is : 0 ≡ i = cc in
           subst (λ j. with_place (s ∷ sessions) (q ∷ places) region name p ≡ set (q ∷ places) j p) zero_is (rw y refl)
       go (inr n) None is later =
-          let none : ◌≡◌ {A = Option ℕ} (option_map suc (place_where (is_session region name) sessions)) (Some i) = rw n at found in
+          let none : ◌≡◌ {A = Option ℕ} (option_map suc (where_in sessions)) (Some i) = rw n at found in
           absurd (cc)
       go (inr n) (Some j) is later =
-          let there : ◌≡◌ {A = Option ℕ} (option_map suc (place_where (is_session region name) sessions)) (Some i) = rw n at found in
+          let there : ◌≡◌ {A = Option ℕ} (option_map suc (where_in sessions)) (Some i) = rw n at found in
           let next_is : ◌≡◌ {A = Option ℕ} (Some (suc j)) (Some i) = sym (ap (option_map suc) is) ∙ there in
           let suc_is : suc j ≡ i = cc in
           subst (λ k. with_place (s ∷ sessions) (q ∷ places) region name p ≡ set (q ∷ places) k p) suc_is (rw n (ap (λ l. q ∷ l) (later j is)))
@@ -138,27 +142,31 @@ is_session_there : (region : ℕ) (name : Bytes) (s : Session) → s.name ≡ na
 is_session_there region name s n r = rw ((bytes_decides s.name name).1 n) (eq-eqb s.region region r)
 
 module _ (region : ℕ) (name : Bytes) (sessions : List Session) (once : Distinct (map (λ s. s.name) sessions)) where
-  name_at : (k : ℕ) (d : Session) → get_or (map (λ s. s.name) sessions) k d.name ≡ (get_or sessions k d).name
+  -- the names of the sessions, in their order
+  abbrev names : List Bytes
+  names = map (λ s. s.name) sessions
+
+  has_name : (k : ℕ) → k < length sessions → k < length names
+  has_name k lt = subst (λ n. k < n) (sym (length-map sessions (λ s. s.name))) lt
+
+  name_at : (k : ℕ) (d : Session) → get_or names k d.name ≡ (get_or sessions k d).name
   name_at k d = get_or-map (λ s. s.name) sessions k d
 
-  module _ (i : ℕ) (found : position (same_key name) (map (λ s. s.name) sessions) ≡ Some i) (d : Session) where
+  module _ (i : ℕ) (found : position (same_key name) names ≡ Some i) (d : Session) where
+    stands : (i < length names) × (same_key name (get_or names i d.name) ≡ true) × ((k : ℕ) → k < i → same_key name (get_or names k d.name) ≡ false)
+    stands = position-Some (same_key name) names i d.name found
+
     within : i < length sessions
-    within = let r : (i < length (map (λ s. s.name) sessions)) × (same_key name (get_or (map (λ s. s.name) sessions) i d.name) ≡ true)
-        × ((k : ℕ) → k < i → same_key name (get_or (map (λ s. s.name) sessions) k d.name) ≡ false) =
-        position-Some (same_key name) (map (λ s. s.name) sessions) i d.name found in
-        subst (λ n. i < n) (length-map sessions (λ s. s.name)) r.0
+    within = subst (λ n. i < n) (length-map sessions (λ s. s.name)) stands.0
 
     named : (get_or sessions i d).name ≡ name
-    named = let r : (i < length (map (λ s. s.name) sessions)) × (same_key name (get_or (map (λ s. s.name) sessions) i d.name) ≡ true)
-        × ((k : ℕ) → k < i → same_key name (get_or (map (λ s. s.name) sessions) k d.name) ≡ false) =
-        position-Some (same_key name) (map (λ s. s.name) sessions) i d.name found in
-        sym (key_of_test name (get_or (map (λ s. s.name) sessions) i d.name) r.1 ∙ name_at i d)
+    named = sym (key_of_test name (get_or names i d.name) stands.1 ∙ name_at i d)
 
     only : (k : ℕ) (e : Session) → k < length sessions → k ≢ i → (get_or sessions k e).name ≢ name
     only k e lt n same =
-        let there : get_or (map (λ s. s.name) sessions) k e.name ≡ get_or (map (λ s. s.name) sessions) i e.name = name_at k e ∙ same ∙ sym named ∙ sym (name_at i d)
-        ∙ get_or_default (map (λ s. s.name) sessions) i d.name e.name (subst (λ m. i < m) (sym (length-map sessions (λ s. s.name))) within) in
-        distinct_places (map (λ s. s.name) sessions) k i e.name once (subst (λ m. k < m) (sym (length-map sessions (λ s. s.name))) lt) (subst (λ m. i < m) (sym (length-map sessions (λ s. s.name))) within) n there
+        let there : get_or names k e.name ≡ get_or names i e.name = name_at k e ∙ same ∙ sym named ∙ sym (name_at i d)
+        ∙ get_or_default names i d.name e.name (has_name i within) in
+        distinct_places names k i e.name once (has_name k lt) (has_name i within) n there
 
     pub place_found : (get_or sessions i d).region ≡ region → position (is_session region name) sessions ≡ Some i
     place_found here = position_is (is_session region name) sessions ∙ some_where (is_session region name) sessions i d within (is_session_there region name (get_or sessions i d) named here)
@@ -171,7 +179,7 @@ module _ (region : ℕ) (name : Bytes) (sessions : List Session) (once : Distinc
         go k e lt n r (inl same) = away (ap (λ s. s.region) (get_or_default sessions i d e within) ∙ subst (λ j. (get_or sessions j e).region ≡ region) same r)
         go k e lt n r (inr other) = only k e lt other n
 
-  pub place_unknown : position (same_key name) (map (λ s. s.name) sessions) ≡ None → position (is_session region name) sessions ≡ None
+  pub place_unknown : position (same_key name) names ≡ None → position (is_session region name) sessions ≡ None
   place_unknown none = position_is (is_session region name) sessions ∙ none_where (is_session region name) sessions (λ k e lt. not_session region name (get_or sessions k e) (λ n r. absent k e lt n))
     where
       fails : (p : Bytes → Bool) (xs : List Bytes) → place_where p xs ≡ None → (k : ℕ) (d : Bytes) → k < length xs → p (get_or xs k d) ≡ false
@@ -188,9 +196,9 @@ module _ (region : ℕ) (name : Bytes) (sessions : List Session) (once : Distinc
 
       absent : (k : ℕ) (e : Session) → k < length sessions → (get_or sessions k e).name ≢ name
       absent k e lt same =
-          let no : same_key name (get_or (map (λ s. s.name) sessions) k e.name) ≡ false =
-          fails (same_key name) (map (λ s. s.name) sessions) (sym (position_is (same_key name) (map (λ s. s.name) sessions)) ∙ none) k e.name (subst (λ m. k < m) (sym (length-map sessions (λ s. s.name))) lt) in
-          let yes : same_key name (get_or (map (λ s. s.name) sessions) k e.name) ≡ true = (bytes_decides name (get_or (map (λ s. s.name) sessions) k e.name)).1 (sym (name_at k e ∙ same)) in
+          let no : same_key name (get_or names k e.name) ≡ false =
+          fails (same_key name) names (sym (position_is (same_key name) names) ∙ none) k e.name (has_name k lt) in
+          let yes : same_key name (get_or names k e.name) ≡ true = (bytes_decides name (get_or names k e.name)).1 (sym (name_at k e ∙ same)) in
           absurd (cc)
 
 -- a new name is not among the names before it

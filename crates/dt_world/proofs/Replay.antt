@@ -19,14 +19,14 @@ use Rattle.dt_report.specs.declared.Reply.{Reply}
 use Rattle.dt_cluster.specs.declared.Cluster.{Cluster}
 use Rattle.dt_workload.specs.declared.Session.{Session}
 use Rattle.dt_workload.specs.declared.Workload.{Workload}
-use Rattle.dt_session.specs.World.{World, Node, Place, asked_of, idle_place, is_session, no_node, node_at, opening_world, outcome_at, received_of, session_at, submission_of, taken_of, txn_of}
+use Rattle.dt_session.specs.World.{World, Node, Place, Submission, asked_of, idle_place, is_session, no_node, node_at, opening_world, outcome_at, received_of, session_at, submission_of, taken_of, txn_of}
 use Rattle.dt_session.specs.Step.{IsLegal, MayAnswer, MayEnd, MaySubmit, answered, awaited_at, next, upcoming_id, node_submitted, placed, received, attempt_for}
 use Rattle.dt_session.specs.Run.{AreLegalFrom, order_of, serial_outcome, world_after, world_from}
 use Rattle.dt_session.specs.Agreement.{WaitsFor}
 use Rattle.dt_agreement.specs.Invariant.{Inv, IsExecutedAt, IsPlaceOf}
 use Rattle.dt_agreement.specs.LegalRun.{IsLegalRun}
 use Rattle.dt_agreement.proofs.Callers.{answered_done, lookup_has, WaitsAt, places_parallel, from_region, submission_is_found, waiting_for}
-use Rattle.dt_agreement.proofs.Callers.{legal_agree, legal_keeps, run_front, world_after_more, session_found, session_of_test, find_has, Submits, submits}
+use Rattle.dt_agreement.proofs.Callers.{legal_agree, legal_keeps, run_front, world_after_more, session_found, session_of_test, find_has, Submits, next_call_submits}
 use Rattle.dt_world.specs.WorldSessions.{no_session}
 use Rattle.dt_world.specs.SessionReplayInner.{IsReply, after_reply, after_submission, replay_of, count_at, wait_at}
 use Rattle.dt_world.specs.WorldReport.{IsReplyOf, answered_session, replies_from, reply_for, reply_to}
@@ -40,8 +40,9 @@ pub replies_more : (cluster : Cluster) (workload : Workload) (all : List Event) 
     → replies_from cluster workload all w (xs ++ event ∷ []) ≡ replies_from cluster workload all w xs ++ option_to_list (reply_for cluster workload all (answered_session workload (world_from cluster workload w xs) event))
 replies_more cluster workload all w [] event = append-nil (option_to_list (reply_for cluster workload all (answered_session workload w event)))
 replies_more cluster workload all w (x ∷ xs) event =
-    ap (λ l. option_to_list (reply_for cluster workload all (answered_session workload w x)) ++ l) (replies_more cluster workload all (next cluster workload w x) xs event)
-    ∙ sym (append_assoc (option_to_list (reply_for cluster workload all (answered_session workload w x))) (replies_from cluster workload all (next cluster workload w x) xs) _)
+    let first = option_to_list (reply_for cluster workload all (answered_session workload w x)) in
+    let later = next cluster workload w x in
+    ap (λ l. first ++ l) (replies_more cluster workload all later xs event) ∙ sym (append_assoc first (replies_from cluster workload all later xs) _)
 
 -- how much a region has submitted, and what a session waits for
 
@@ -82,34 +83,38 @@ execute_same cluster workload w region id = same_counts w region _ w.places refl
 -- an event of a legal run, and what holds before it
 
 module _ {cluster : Cluster} {workload : Workload} (xs ys : List Event) (event : Event) (run : IsLegalRun cluster workload (xs ++ event ∷ ys)) where
-  before : IsLegalRun cluster workload xs × AreLegalFrom cluster workload (world_after cluster workload xs) (event ∷ ys)
+  abbrev world_before : World
+  world_before = world_after cluster workload xs
+
+  before : IsLegalRun cluster workload xs × AreLegalFrom cluster workload world_before (event ∷ ys)
   before = run_front xs (event ∷ ys) run
 
-  pub now_legal : IsLegal cluster workload (world_after cluster workload xs) event
+  pub now_legal : IsLegal cluster workload world_before event
   now_legal = before.1.0
 
-  pub now_inv : Inv cluster workload (world_after cluster workload xs) (order_of xs)
+  pub now_inv : Inv cluster workload world_before (order_of xs)
   now_inv = legal_keeps before.0
 
-  pub now_places : length (world_after cluster workload xs).places ≡ length workload.sessions
-  now_places = sym (places_parallel cluster workload (world_after cluster workload xs) (order_of xs) now_inv)
+  pub now_places : length world_before.places ≡ length workload.sessions
+  now_places = sym (places_parallel now_inv)
+
+  unlisted : (region : ℕ) (name : Bytes) → position (is_session region name) workload.sessions ≡ None → session_at workload.sessions world_before.places region name ≡ None
+  unlisted region name none = no_session_of_none region name workload.sessions world_before.places none
 
   -- the session that it submits for or answers is one of the workload
   pub now_listed : (region : ℕ) (name : Bytes) → (event ≡ Submit region name) ⊎ (event ≡ Answer region name) → ¬ (position (is_session region name) workload.sessions ≡ None)
-  now_listed region name (inl is) none = subst (MaySubmit cluster (world_after cluster workload xs) region)
-      (no_session_of_none region name workload.sessions (world_after cluster workload xs).places none) (subst (IsLegal cluster workload (world_after cluster workload xs)) is now_legal).allowed
-  now_listed region name (inr is) none = subst (MayAnswer cluster (world_after cluster workload xs) region)
-      (no_session_of_none region name workload.sessions (world_after cluster workload xs).places none) (subst (IsLegal cluster workload (world_after cluster workload xs)) is now_legal).allowed
+  now_listed region name (inl is) none = subst (MaySubmit cluster world_before region) (unlisted region name none) (subst (IsLegal cluster workload world_before) is now_legal).allowed
+  now_listed region name (inr is) none = subst (MayAnswer cluster world_before region) (unlisted region name none) (subst (IsLegal cluster workload world_before) is now_legal).allowed
 
   -- and what a session of the workload waits for has the session's place
-  pub now_followed : (region : ℕ) (name : Bytes) (place : ℕ) → position (is_session region name) workload.sessions ≡ Some place → place < length (replay_of (world_after cluster workload xs)).waits
-  now_followed region name place found = subst (λ n. place < n) (sym (length-map (world_after cluster workload xs).places (λ p. p.waits) ∙ now_places))
+  pub now_followed : (region : ℕ) (name : Bytes) (place : ℕ) → position (is_session region name) workload.sessions ≡ Some place → place < length (replay_of world_before).waits
+  now_followed region name place found = subst (λ n. place < n) (sym (length-map world_before.places (λ p. p.waits) ∙ now_places))
       (position-Some (is_session region name) workload.sessions place no_session found).0
 
   pub end_inv : Inv cluster workload (world_after cluster workload (xs ++ event ∷ ys)) (order_of (xs ++ event ∷ ys))
   end_inv = legal_keeps run
 
-  pub to_end : (r : ℕ) → NodeGrows (node_at (world_after cluster workload xs) r) (node_at (world_after cluster workload (xs ++ event ∷ ys)) r)
+  pub to_end : (r : ℕ) → NodeGrows (node_at world_before r) (node_at (world_after cluster workload (xs ++ event ∷ ys)) r)
   to_end r = grows_past cluster workload xs (event ∷ ys) r
 
 -- a submission
@@ -131,24 +136,30 @@ module _ {cluster : Cluster} {workload : Workload} (xs ys : List Event) (region 
         (now_legal xs ys (Submit region name) run).regions
 
     r : Submits cluster workload submit_before region name
-    r = submits cluster run.sound workload submit_before (order_of xs) region name (now_legal xs ys (Submit region name) run).allowed
-        (now_inv xs ys (Submit region name) run)
+    r = next_call_submits (now_inv xs ys (Submit region name) run) run.sound region name (now_legal xs ys (Submit region name) run).allowed
 
     found_own : position (is_session region r.session.name) workload.sessions ≡ Some place
     found_own = subst (λ n. position (is_session region n) workload.sessions ≡ Some place) (sym r.named) found
+
+    -- where it stands after the submission, and what it submits
+    abbrev waiting : Place
+    waiting = record r.place { waits = Some (upcoming_id submit_before region) }
+
+    abbrev attempt : Submission
+    attempt = attempt_for cluster submit_before region r.session r.place r.call
 
     pub submit_follows : replay_of submit_after ≡ after_submission (replay_of submit_before) place region
     submit_follows =
         ap replay_of (world_after_more cluster workload xs (Submit region name) ∙ r.next)
         ∙ ap₂ (λ (a : List (Option TxnId)) (b : List ℕ). record { waits = a; submitted = b })
-        (ap (map (λ p. p.waits)) (place_set region r.session.name workload.sessions submit_before.places (record r.place { waits = Some (upcoming_id submit_before region) })
+        (ap (map (λ p. p.waits)) (place_set region r.session.name workload.sessions submit_before.places waiting
         (now_places xs ys (Submit region name) run) place found_own)
-        ∙ map-set (λ p. p.waits) submit_before.places place (record r.place { waits = Some (upcoming_id submit_before region) })
+        ∙ map-set (λ p. p.waits) submit_before.places place waiting
         ∙ ap (λ n. set (map (λ p. p.waits) submit_before.places) place (Some (record { seq = n + 1; region = region }))) (sym (count_is submit_before region)))
         (map-set (λ n. length n.submitted) submit_before.nodes region
-        (node_submitted (node_at submit_before region) (attempt_for cluster submit_before region r.session r.place r.call))
+        (node_submitted (node_at submit_before region) attempt)
         ∙ ap (set (map (λ n. length n.submitted) submit_before.nodes) region)
-        (length_push (node_at submit_before region).submitted (attempt_for cluster submit_before region r.session r.place r.call)
+        (length_push (node_at submit_before region).submitted attempt
         ∙ ap (λ n. n + 1) (sym (count_is submit_before region))))
 
     -- the region has one submission more at the end, or still more
@@ -227,7 +238,7 @@ module _ {cluster : Cluster} {workload : Workload} (xs ys : List Event) (region 
           let x : Has workload.sessions session × (session.name ≡ name) × (session.region ≡ region) × IsPlaceOf cluster.tries answer_before session seat =
           session_found (IsPlaceOf cluster.tries answer_before) workload.sessions answer_before.places region name session seat
           (now_inv xs ys (Answer region name) run).sessions.places at_session in
-          waiting_for cluster workload answer_before (order_of xs) (now_inv xs ys (Answer region name) run) session seat id
+          waiting_for (now_inv xs ys (Answer region name) run) session seat id
           (subst (λ q. q < cluster.regions) (sym x.2) answer_region) x.3 waits_here
 
       pub answer_own : id.region ≡ region

@@ -15,7 +15,7 @@ use Rattle.dt_agreement.proofs.Callers.{WasSubmitted, done_known, numbered, subm
 use Rattle.dt_site.specs.declared.Origin.{Origin}
 use Rattle.dt_site.specs.Site.{SiteView, attempt, attempts, no_site}
 use Rattle.dt_site.specs.StandsIn.{IsReached}
-use Rattle.dt_site.proofs.Callers.{attempt_at, inv, order, outcome_here}
+use Rattle.dt_site.proofs.Callers.{attempt_at, inv, outcome_here}
 use Rattle.dt_world.specs.ReportSourceInner.{LedTo, ReportSourceView, world_told}
 use Rattle.dt_world.proofs.Executions.{outcome_there}
 
@@ -74,7 +74,7 @@ module _ {told : ReportSourceView} (led : LedTo told) where
       pub origin : (d : Origin) → submission ≡ attempt submission.txn (get_or (get_or told.sites id.region no_site).origins (id.seq - 1) d)
 
     pub stands_among : StandsAmong
-    stands_among = go (all_get (WasSubmitted w) (done_ids (node_at w region).here) (done_known told.cluster told.workload w (order reached) (inv reached) region lr) id done)
+    stands_among = go (all_get (WasSubmitted w) (done_ids (node_at w region).here) (done_known (inv reached) region lr) id done)
       where
         go : WasSubmitted w id → StandsAmong
         go x =

@@ -54,6 +54,10 @@ use Rattle.dt_world.proofs.WorldLaws.{many_sites, submitted_few}
 
 -- tables
 
+-- what is shown of the table of a region that ran what it executed
+abbrev table_of : Cluster → Workload → List Event → ℕ → List Shown
+table_of cluster workload events region = shown (region_table cluster workload events region)
+
 by_number : {A B : Type 0} (f : ℕ → B) (g : A → B) (xs : List A) (a : ℕ) (d : A) → ((i : ℕ) → i < length xs → f (a + i) ≡ g (get_or xs i d)) → map f (range_with_len a (length xs)) ≡ map g xs
 by_number f g [] a d e = refl
 by_number f g (x ∷ xs) a d e =
@@ -91,12 +95,12 @@ pub record FollowsAnswer (told : ReportSourceView) (at region place : ℕ) (cour
 module _ {told : ReportSourceView} (led : LedTo told) where
   -- the tables that sites keep are those of the report
   pub tables_are : map (λ (p : SiteView). shown p.region.state.here.table) told.sites ≡ tables_of told.cluster told.workload told.events
-  tables_are = sym (subst (λ m. map (λ region. shown (region_table told.cluster told.workload told.events region)) (range_with_len 0 m) ≡ map (λ (p : SiteView). shown p.region.state.here.table) told.sites) led.many
-      (by_number (λ region. shown (region_table told.cluster told.workload told.events region)) (λ (p : SiteView). shown p.region.state.here.table) told.sites 0 no_site
-      (λ i lt. let same : 0 + i ≡ i = omega arith in subst (λ r. shown (region_table told.cluster told.workload told.events r) ≡ shown (get_or told.sites i no_site).region.state.here.table) (sym same)
+  tables_are = sym (subst (λ m. map (table_of told.cluster told.workload told.events) (range_with_len 0 m) ≡ map (λ (p : SiteView). shown p.region.state.here.table) told.sites) led.many
+      (by_number (table_of told.cluster told.workload told.events) (λ (p : SiteView). shown p.region.state.here.table) told.sites 0 no_site
+      (λ i lt. let same : 0 + i ≡ i = omega arith in subst (λ r. table_of told.cluster told.workload told.events r ≡ shown (get_or told.sites i no_site).region.state.here.table) (sym same)
       (here i (subst (λ m. i < m) led.many lt)))))
     where
-      here : (i : ℕ) → i < told.cluster.regions → shown (region_table told.cluster told.workload told.events i) ≡ shown (get_or told.sites i no_site).region.state.here.table
+      here : (i : ℕ) → i < told.cluster.regions → table_of told.cluster told.workload told.events i ≡ shown (get_or told.sites i no_site).region.state.here.table
       here i lr = sym (ap (λ (n : Node). shown n.here.table) (led.stands i lr).node ∙ ap shown ((legal_agree (run_told led)).tables i lr))
 
   -- what an execution adds to the order
@@ -137,14 +141,18 @@ module _ {told : ReportSourceView} (led : LedTo told) where
   run_split : (at : ℕ) (event : Event) → slice_get told.events at ≡ Some event → IsLegalRun told.cluster told.workload (take at told.events ++ event ∷ drop (at + 1) told.events)
   run_split at event item = subst (IsLegalRun told.cluster told.workload) (split_at told.events at event item).0 (run_told led)
 
+  -- the replies to the first of all events
+  abbrev replies_to : List Event → List Event → List Reply
+  replies_to all = replies_from told.cluster told.workload all (opening_world told.cluster told.workload)
+
   -- an event that neither submits nor answers
 
   plain_replies : (at : ℕ) (event : Event) → slice_get told.events at ≡ Some event → answered_session told.workload (world_after told.cluster told.workload (take at told.events)) event ≡ None
       → replies_at told at ≡ replies_at told (at + 1)
   plain_replies at event item none = sym (
-      ap (replies_from told.cluster told.workload told.events (opening_world told.cluster told.workload)) (split_at told.events at event item).1
+      ap (replies_to told.events) (split_at told.events at event item).1
       ∙ replies_more told.cluster told.workload told.events (opening_world told.cluster told.workload) (take at told.events) event
-      ∙ ap (λ o. replies_from told.cluster told.workload told.events (opening_world told.cluster told.workload) (take at told.events) ++ option_to_list (reply_for told.cluster told.workload told.events o)) none
+      ∙ ap (λ o. replies_at told at ++ option_to_list (reply_for told.cluster told.workload told.events o)) none
       ∙ append-nil (replies_at told at))
 
   plain_course : (at : ℕ) (event : Event) → slice_get told.events at ≡ Some event → ((w : World) → replay_of (next told.cluster told.workload w event) ≡ replay_of w) → replay_at told at ≡ replay_at told (at + 1)
@@ -245,13 +253,12 @@ module _ {told : ReportSourceView} (led : LedTo told) where
 
         reply_added : (reply : Reply) → IsReply (world_told told) region name id reply → replies_at told (at + 1) ≡ replies_at told at ++ reply ∷ []
         reply_added reply r =
-            let added : replies_from told.cluster told.workload (take at told.events ++ Answer region name ∷ drop (at + 1) told.events) (opening_world told.cluster told.workload) (take at told.events ++ Answer region name ∷ [])
-            ≡ replies_from
-            told.cluster told.workload (take at told.events ++ Answer region name ∷ drop (at + 1) told.events) (opening_world told.cluster told.workload) (take at told.events) ++ reply ∷ [] =
+            let split = take at told.events ++ Answer region name ∷ drop (at + 1) told.events in
+            let added : replies_to split (take at told.events ++ Answer region name ∷ []) ≡ replies_to split (take at told.events) ++ reply ∷ [] =
             answer_replies (take at told.events) (drop (at + 1) told.events) region name (run_split at (Answer region name) item) place found id waits_then reply
             (subst (λ w. IsReply w region name id reply) the_end r) in
-            subst₂ (λ (all now : List Event). replies_from told.cluster told.workload all (opening_world told.cluster told.workload) now ≡ replies_from told.cluster told.workload all (opening_world told.cluster told.workload)
-            (take at told.events) ++ reply ∷ []) (sym (split_at told.events at (Answer region name) item).0) (sym (split_at told.events at (Answer region name) item).1) added
+            subst₂ (λ (all now : List Event). replies_to all now ≡ replies_to all (take at told.events) ++ reply ∷ [])
+            (sym (split_at told.events at (Answer region name) item).0) (sym (split_at told.events at (Answer region name) item).1) added
 
         pub adds_reply : (id.region < told.cluster.regions) × IsExecutedAt (world_told told) id.region id
             × ((reply : Reply) → IsReply (world_told told) id.region name id reply → replies_at told (at + 1) ≡ replies_at told at ++ reply ∷ [])
@@ -264,43 +271,47 @@ module _ {told : ReportSourceView} (led : LedTo told) where
 -- all replies are of what regions keep
 
 module _ {cluster : Cluster} {workload : Workload} {events : List Event} (run : IsLegalRun cluster workload events) where
-  one_kept : (xs ys : List Event) (event : Event) → events ≡ xs ++ event ∷ ys
-      → AllIn (IsReplyOf cluster.regions (world_after cluster workload events)) (option_to_list (reply_for cluster workload events (answered_session workload (world_after cluster workload xs) event)))
+  -- the replies are of what regions keep after these events
+  abbrev AreKept : List Event → List Reply → Type 0
+  AreKept all = AllIn (IsReplyOf cluster.regions (world_after cluster workload all))
+
+  -- the reply to an event that stands after these, where these are all
+  abbrev reply_after : List Event → Event → List Event → List Reply
+  reply_after xs event all = option_to_list (reply_for cluster workload all (answered_session workload (world_after cluster workload xs) event))
+
+  one_kept : (xs ys : List Event) (event : Event) → events ≡ xs ++ event ∷ ys → AreKept events (reply_after xs event events)
   one_kept xs ys (Submit region name) e = tt
   one_kept xs ys (Append home source number) e = tt
   one_kept xs ys (Deliver region home first last) e = tt
   one_kept xs ys (Insert region home) e = tt
   one_kept xs ys (Resolve region ids) e = tt
   one_kept xs ys (Execute region id) e = tt
-  one_kept xs ys (Answer region name) e = subst (λ all. AllIn (IsReplyOf cluster.regions (world_after cluster workload all))
-      (option_to_list (reply_for cluster workload all (answered_session workload (world_after cluster workload xs) (Answer region name))))) (sym e)
+  one_kept xs ys (Answer region name) e = subst (λ all. AreKept all (reply_after xs (Answer region name) all)) (sym e)
       (by (position (is_session region name) workload.sessions) refl)
     where
       l : IsLegalRun cluster workload (xs ++ Answer region name ∷ ys)
       l = subst (IsLegalRun cluster workload) e run
 
       one : (o : Option Reply) → ((reply : Reply) → o ≡ Some reply → IsReplyOf cluster.regions (world_after cluster workload (xs ++ Answer region name ∷ ys)) reply)
-          → AllIn (IsReplyOf cluster.regions (world_after cluster workload (xs ++ Answer region name ∷ ys))) (option_to_list o)
+          → AreKept (xs ++ Answer region name ∷ ys) (option_to_list o)
       one None f = tt
       one (Some reply) f = (f reply refl, tt)
 
       waiting : (place : ℕ) → position (is_session region name) workload.sessions ≡ Some place → (o : Option TxnId) → wait_at (replay_of (world_after cluster workload xs)) place ≡ o
-          → AllIn (IsReplyOf cluster.regions (world_after cluster workload (xs ++ Answer region name ∷ ys)))
-          (option_to_list (reply_for cluster workload (xs ++ Answer region name ∷ ys) (answered_session workload (world_after cluster workload xs) (Answer region name))))
+          → AreKept (xs ++ Answer region name ∷ ys) (reply_after xs (Answer region name) (xs ++ Answer region name ∷ ys))
       waiting place found None w = absurd (answer_waits xs ys region name l place found w)
       waiting place found (Some id) w = one _ (λ reply is. answer_kept xs ys region name l place found id w reply is)
 
       by : (o : Option ℕ) → position (is_session region name) workload.sessions ≡ o
-          → AllIn (IsReplyOf cluster.regions (world_after cluster workload (xs ++ Answer region name ∷ ys)))
-          (option_to_list (reply_for cluster workload (xs ++ Answer region name ∷ ys) (answered_session workload (world_after cluster workload xs) (Answer region name))))
+          → AreKept (xs ++ Answer region name ∷ ys) (reply_after xs (Answer region name) (xs ++ Answer region name ∷ ys))
       by None f = absurd (now_listed xs ys (Answer region name) l region name (inr refl) f)
       by (Some place) f = waiting place f (wait_at (replay_of (world_after cluster workload xs)) place) refl
 
-  pub replies_kept : AllIn (IsReplyOf cluster.regions (world_after cluster workload events)) (replies_of cluster workload events)
-  replies_kept = from_right (λ xs. (ys : List Event) → events ≡ xs ++ ys → AllIn (IsReplyOf cluster.regions (world_after cluster workload events)) (replies_from cluster workload events (opening_world cluster workload) xs))
+  pub replies_kept : AreKept events (replies_of cluster workload events)
+  replies_kept = from_right (λ xs. (ys : List Event) → events ≡ xs ++ ys → AreKept events (replies_from cluster workload events (opening_world cluster workload) xs))
       (λ ys e. tt)
-      (λ xs event keeps ys e. subst (AllIn (IsReplyOf cluster.regions (world_after cluster workload events))) (sym (replies_more cluster workload events (opening_world cluster workload) xs event))
-      (all_append (IsReplyOf cluster.regions (world_after cluster workload events)) (replies_from cluster workload events (opening_world cluster workload) xs) _
+      (λ xs event keeps ys e. subst (AreKept events) (sym (replies_more cluster workload events (opening_world cluster workload) xs event))
+      (all_append (IsReplyOf cluster.regions (world_after cluster workload events)) _ _
       (keeps (event ∷ ys) (e ∙ append_assoc xs (event ∷ []) ys)) (one_kept xs ys event (e ∙ append_assoc xs (event ∷ []) ys))))
       events [] (sym (append-nil events))
 
@@ -414,9 +425,9 @@ module _ {cluster : Cluster} {sessions : WorldSessions} {sites : List SiteView} 
 
     pub nodes_tables : tables_of now.cluster now.workload events ≡ map (λ (n : Node). shown n.here.table) now.state.nodes
     nodes_tables = subst (λ (w : World). tables_of now.cluster now.workload events ≡ map (λ (n : Node). shown n.here.table) w.nodes) (sym led_to)
-        (subst (λ m. map (λ region. shown (region_table now.cluster now.workload events region)) (range_with_len 0 m) ≡ map (λ (n : Node). shown n.here.table) (world_after now.cluster now.workload events).nodes) many
-        (by_number (λ region. shown (region_table now.cluster now.workload events region)) (λ (n : Node). shown n.here.table) (world_after now.cluster now.workload events).nodes 0 no_node
-        (λ i lt. let same : 0 + i ≡ i = omega arith in subst (λ r. shown (region_table now.cluster now.workload events r) ≡ shown (node_at (world_after now.cluster now.workload events) i).here.table) (sym same)
+        (subst (λ m. map (table_of now.cluster now.workload events) (range_with_len 0 m) ≡ map (λ (n : Node). shown n.here.table) (world_after now.cluster now.workload events).nodes) many
+        (by_number (table_of now.cluster now.workload events) (λ (n : Node). shown n.here.table) (world_after now.cluster now.workload events).nodes 0 no_node
+        (λ i lt. let same : 0 + i ≡ i = omega arith in subst (λ r. table_of now.cluster now.workload events r ≡ shown (node_at (world_after now.cluster now.workload events) i).here.table) (sym same)
         (ap shown (sym ((legal_agree run_now).tables i (subst (λ m. i < m) many lt)))))))
       where
         many : length (world_after now.cluster now.workload events).nodes ≡ now.cluster.regions

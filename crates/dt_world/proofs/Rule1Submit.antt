@@ -15,7 +15,7 @@ use Rattle.dt_region.specs.Region.{RegionView, outcome_of}
 use Rattle.dt_region.specs.Sound.{IsSoundRegion}
 use Rattle.dt_cluster.specs.declared.Cluster.{Cluster}
 use Rattle.dt_session.specs.Sessions.{MayGo, SessionsView, after_wait, waiting, waits_of}
-use Rattle.dt_session.specs.World.{World, session_at}
+use Rattle.dt_session.specs.World.{World}
 use Rattle.dt_session.specs.Step.{IsLegal, MaySubmit, body_of, next, upcoming_id}
 use Rattle.dt_agreement.proofs.Callers.{session_found}
 use Rattle.dt_agreement.specs.Invariant.{IsPlaceOf}
@@ -53,9 +53,12 @@ module _ {cluster : Cluster} {sessions : WorldSessions} {sites : List SiteView} 
   elsewhere : StandsElsewhere sessions.workload w v region name next_is.session next_is.place (record next_is.place { waits = Some id' })
   elsewhere = submit_elsewhere k.reached lr (k.stands region lr) submits
 
-  -- the sessions of each region, after this one waits for the attempt
+  -- the sessions of the region, and of each region, after this one waits for the attempt
+  abbrev waiting_here : TxnId → SessionsView
+  waiting_here = after_wait (sessions_of sessions.by_region region) name
+
   abbrev later : TxnId → List SessionsView
-  later id = set sessions.by_region region (after_wait (sessions_of sessions.by_region region) name id)
+  later id = set sessions.by_region region (waiting_here id)
 
   standing : (r : ℕ) → r < cluster.regions → SessionsStandIn cluster sessions.workload v r (sessions_of (later id') r)
   standing r lq = at (either_nat r region)
@@ -63,10 +66,10 @@ module _ {cluster : Cluster} {sessions : WorldSessions} {sites : List SiteView} 
       at : Either (r ≡ region) → SessionsStandIn cluster sessions.workload v r (sessions_of (later id') r)
       at (inl e) = subst (λ x. SessionsStandIn cluster sessions.workload v x (sessions_of (later id') x)) (sym e)
           (subst (SessionsStandIn cluster sessions.workload v region)
-          (sym (get_or-set_same sessions.by_region region (after_wait (sessions_of sessions.by_region region) name id') no_sessions (subst (λ n. region < n) (sym k.listed) lr)))
+          (sym (get_or-set_same sessions.by_region region (waiting_here id') no_sessions (subst (λ n. region < n) (sym k.listed) lr)))
           (sessions_changed k.reached (Submit region name) try_legal lr elsewhere (λ seat. waiting seat id') (k.attended region lr) (waits_as k.reached lr (k.stands region lr) submits)))
       at (inr n) = subst (SessionsStandIn cluster sessions.workload v r)
-          (sym (get_or-set_other sessions.by_region region r (after_wait (sessions_of sessions.by_region region) name id') no_sessions n))
+          (sym (get_or-set_other sessions.by_region region r (waiting_here id') no_sessions n))
           (others_sessions k.reached (Submit region name) try_legal lr elsewhere lq n (k.attended r lq))
 
   -- the site and the sessions after the call
@@ -83,7 +86,7 @@ module _ {cluster : Cluster} {sessions : WorldSessions} {sites : List SiteView} 
       let id_is : id' ≡ id = sym (m'.0 ∙ ids k.reached lr (k.stands region lr) submits) in
       subst (λ x. IsMade cluster sessions sites steps (Submit region name) (record sessions { by_region = later x }) (set sites region after)) id_is
       (sessions_made k (Submit region name) lr (submit_made k.reached lr (k.stands region lr) submits id after m' sound) refl refl (later id')
-      (length-set sessions.by_region region (after_wait (sessions_of sessions.by_region region) name id') ∙ k.listed) standing)
+      (length-set sessions.by_region region (waiting_here id') ∙ k.listed) standing)
 
 -- where the session may submit nothing, the event is not legal
 pub submit_refused : {view now : WorldView} (region : ℕ) (name : Bytes) → view ≡ now → IsNextOf view region name None → ¬ (IsLegal now.cluster now.workload now.state (Submit region name))
@@ -146,8 +149,7 @@ module _ {cluster : Cluster} {sessions : WorldSessions} {sites : List SiteView} 
         ∙ ap (λ (x : SiteView). outcome_of x.region.state) m.1 ∙ ap (λ (x : SiteView). outcome_of x.region.state) at.site in
         let here_told : last ≡ option_and_then (outcome_of (site_at sites region).region.state) (waits_of (sessions_of sessions.by_region region) name) =
         told ∙ (λ j. option_and_then (outcomes j) (waits_of (sessions_are read read_at j) name)) in
-        let allowed : MaySubmit cluster (world_of sites (places_in sessions)) region (session_at sessions.workload.sessions (places_in sessions) region name) =
-        subst (MaySubmit cluster (world_of sites (places_in sessions)) region) (sym at.next.found) at.next.may in
+        let allowed = subst (MaySubmit cluster (world_of sites (places_in sessions)) region) (sym at.next.found) at.next.may in
         subst (λ x. MayGo x name last) (sym (sessions_are s s_at)) (submit_go k lr name last here_told allowed)
 
     -- with the sessions that wait so, the event is made

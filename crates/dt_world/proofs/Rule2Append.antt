@@ -76,9 +76,9 @@ module _ {cluster : Cluster} {sessions : WorldSessions} {sites : List SiteView} 
       (is_turn k.reached lh (k.stands home lh) ls asked_for m'.0))
   append_done later false m sound =
       let m' = subst (λ x. MakesAppend x source number txn (Ok false) later) b.region_is m in
-      let other : eqb number (taken_of (world_of sites (places_in sessions)) home source) ≡ false =
-      false_from_ne_true (eqb number (taken_of (world_of sites (places_in sessions)) home source))
-      (λ t. m'.0 (eqb-true number (taken_of (world_of sites (places_in sessions)) home source) t ∙ ap (λ n. taken_from n.here source) (node_is k home))) in
+      let taken = taken_of (world_of sites (places_in sessions)) home source in
+      let other : eqb number taken ≡ false = false_from_ne_true (eqb number taken)
+      (λ t. m'.0 (eqb-true number taken t ∙ ap (λ n. taken_from n.here source) (node_is k home))) in
       subst (λ l. IsMade cluster sessions sites steps (Append home source number) sessions l) (sym (same_sites at later (m'.1 ∙ sym b.region_is)))
       (still_made k (Append home source number) (append_legal k.reached lh (k.stands home lh) ls asked_for) (append_still k.reached lh (k.stands home lh) ls asked_for m'.0) other)
 

@@ -25,21 +25,25 @@ use Rattle.dt_world.specs.WorldSessions.{WorldSessions, places_in}
 use Rattle.dt_world.specs.WorldInner.{IsLawful, site_at, world_of}
 use Rattle.dt_world.proofs.WorldLaws.{HoldsSite, IsBehind, IsMade, short, step_made, still_made, with_region}
 
+-- the log of a home, as far as the site of a region has it
+abbrev pub log_in : List SiteView → ℕ → ℕ → List Part
+log_in sites region home = log_at (site_at sites region).region.state.logs home
+
 -- what the call reads of the sites: how far the home's log reaches, how far the region received it, and whether the
 -- delivery joins that
 pub record IsDelivery (sites : List SiteView) (region home first last has : ℕ) (join : Bool) : Type 0 where
-  pub reaches : last ≤ length (log_at (site_at sites home).region.state.logs home)
-  pub has_is : has ≡ length (log_at (site_at sites region).region.state.logs home)
-  pub joined : joins (length (log_at (site_at sites region).region.state.logs home)) first last ≡ join
+  pub reaches : last ≤ length (log_in sites home home)
+  pub has_is : has ≡ length (log_in sites region home)
+  pub joined : joins (length (log_in sites region home)) first last ≡ join
 
 -- the entries that it takes from the home's site
 pub record AreOfLog (sites : List SiteView) (home first last : ℕ) (entries : List Entry) : Type 0 where
-  pub parts : map (λ e. e.part) entries ≡ drop first (take last (log_at (site_at sites home).region.state.logs home))
+  pub parts : map (λ e. e.part) entries ≡ drop first (take last (log_in sites home home))
   pub txns : AllIn (λ e. held (site_at sites home).region.state e.part.id ≡ Some e.txn) entries
 
 -- the length of a log that was read is that of the site's log
 length_is : {sites : List SiteView} {region : ℕ} {r : RegionView} {origins : List Origin} → IsBehind sites region r origins → (home : ℕ) {log : List Part} {n : ℕ} → n ≡ length log → log ≡ log_at r.state.logs home
-    → n ≡ length (log_at (site_at sites region).region.state.logs home)
+    → n ≡ length (log_in sites region home)
 length_is b home n_is log_is = n_is ∙ ap length (log_is ∙ ap (λ (x : RegionView). log_at x.state.logs home) b.region_is)
 
 module _ {sites : List SiteView} {home region : ℕ} {r r' : RegionView} {origins origins' : List Origin} (source : IsBehind sites home r origins) (here : IsBehind sites region r' origins') where
@@ -59,7 +63,7 @@ entries_are {sites} {home} b first last entries parts txns = record {
 }
 
 module _ {cluster : Cluster} {sessions : WorldSessions} {sites : List SiteView} {steps : ℕ} (k : IsLawful cluster sessions sites steps) {home : ℕ} (lh : home < cluster.regions) where
-  home_log : log_at (site_at sites home).region.state.logs home ≡ log_of (world_of sites (places_in sessions)) home
+  home_log : log_in sites home home ≡ log_of (world_of sites (places_in sessions)) home
   home_log = own_log k.reached (k.stands home lh)
 
   within : {region first last has : ℕ} {join : Bool} → IsDelivery sites region home first last has join → last ≤ length (log_of (world_of sites (places_in sessions)) home)
@@ -85,14 +89,14 @@ module _ {cluster : Cluster} {sessions : WorldSessions} {sites : List SiteView} 
   abbrev b : IsBehind sites region r origins
   b = at.site
 
-  on : joins (length (log_at (site_at sites region).region.state.logs home)) first last ≡ true
+  on : joins (length (log_in sites region home)) first last ≡ true
   on = delivery.joined
 
   ends : last ≤ length (log_of (world_of sites (places_in sessions)) home)
   ends = within k lh delivery
 
   new_ordered : has ≤ last
-  new_ordered = let more = joins_to (length (log_at (site_at sites region).region.state.logs home)) first last on in omega (arith, more, delivery.has_is)
+  new_ordered = let more = joins_to (length (log_in sites region home)) first last on in omega (arith, more, delivery.has_is)
 
   parts_are : map (λ e. e.part) entries ≡ drop has (take last (log_of (world_of sites (places_in sessions)) home))
   parts_are = taken.parts ∙ ap (λ l. drop has (take last l)) (home_log k lh)
@@ -135,7 +139,7 @@ pub out_of_order : {cluster : Cluster} {workload : Workload} {w : World} {region
 out_of_order lt l = absurd (omega (arith, lt, l.allowed.0))
 
 pub past_log : {cluster : Cluster} {sessions : WorldSessions} {sites : List SiteView} {steps : ℕ} → IsLawful cluster sessions sites steps → {region home first last : ℕ} → home < cluster.regions
-    → length (log_at (site_at sites home).region.state.logs home) < last → ¬ (IsLegal cluster sessions.workload (world_of sites (places_in sessions)) (Deliver region home first last))
+    → length (log_in sites home home) < last → ¬ (IsLegal cluster sessions.workload (world_of sites (places_in sessions)) (Deliver region home first last))
 past_log k {region} {home} {first} {last} lh lt l =
     let far = subst (λ l. length l < last) (home_log k lh) lt in
     absurd (omega (arith, far, l.allowed.1))

@@ -67,7 +67,7 @@ module _ {cluster : Cluster} {sessions : WorldSessions} {sites : List SiteView} 
   -- the site and the sessions after the call
   answer_done : MayBeTold (view_in cluster sessions sites steps) region name → {r : RegionView} {origins : List Origin} → IsBehind sites region r origins → (after : RegionView) → MakesAnswer r name (Ok tt) after
       → IsMade cluster sessions sites steps (Answer region name) (record sessions { by_region = later }) (with_region sites region after origins)
-  answer_done may {r} {origins} b after m = go (session_at sessions.workload.sessions (places_in sessions) region name) refl may
+  answer_done may {r} {origins} b after m = go _ refl may
     where
       go : (o : Option (Session × Place)) → session_at sessions.workload.sessions (places_in sessions) region name ≡ o → MayAnswer cluster w region o
           → IsMade cluster sessions sites steps (Answer region name) (record sessions { by_region = later }) (with_region sites region after origins)

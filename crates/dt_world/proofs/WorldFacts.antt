@@ -20,14 +20,14 @@ use Rattle.dt_session.specs.declared.sessions.Seat.{Seat}
 use Rattle.dt_session.specs.Sessions.{IsNext, MayBeAnswered, MayGo, MaySeatEnd, SessionsView, StandsAt, numbers_next, seat_of, waits_of, wanted_of}
 use Rattle.dt_session.specs.World.{World, Place, session_at}
 use Rattle.dt_session.specs.Step.{MaySubmit, MayTry, awaited_at, next_attempt, ranked_body}
-use Rattle.dt_agreement.proofs.Callers.{body_fits, session_found}
-use Rattle.dt_agreement.proofs.Callers as agreed
+use Rattle.dt_agreement.proofs.Callers.{body_fits, next_call_submits, session_found}
 use Rattle.dt_agreement.specs.Invariant.{IsPlaceOf}
 use Rattle.dt_site.specs.declared.Origin.{Origin}
+use Rattle.dt_site.specs.NextAttempt.{HasNextCall, IsNextHere, last_here}
 use Rattle.dt_site.specs.SessionsStandIn.{no_sessions, seat_in}
 use Rattle.dt_site.specs.Site.{SiteView}
-use Rattle.dt_site.proofs.Callers.{fits_region, inv, kept_here, last_in, may_answer, may_be_answered, may_go, may_submit, numbers_are, order, outcome_here}
-use Rattle.dt_world.specs.WorldInner.{HasNextCall, IsLawful, IsNextHere, IsNextOf, IsNextTry, MayBeTold, last_here, sessions_of, site_at, view_in, world_of}
+use Rattle.dt_site.proofs.Callers.{fits_region, inv, kept_here, last_in, may_answer, may_be_answered, may_go, may_submit, numbers_are, outcome_here}
+use Rattle.dt_world.specs.WorldInner.{IsLawful, IsNextOf, IsNextTry, MayBeTold, sessions_of, site_at, view_in, world_of}
 use Rattle.dt_world.specs.WorldSessions.{WorldSessions, places_in}
 use Rattle.dt_world.specs.WorldView.{WorldView}
 use Rattle.dt_world.proofs.WorldLaws.{IsBehind}
@@ -127,7 +127,7 @@ module _ {cluster : Cluster} {sessions : WorldSessions} {sites : List SiteView} 
 
               left : place.answered < length session.calls
               left =
-                  let r = agreed.submits cluster k.reached.run.sound sessions.workload w (order k.reached) region name (subst (MaySubmit cluster w region) (sym e) m) (inv k.reached) in
+                  let r = next_call_submits (inv k.reached) k.reached.run.sound region name (subst (MaySubmit cluster w region) (sym e) m) in
                   let same : ◌≡◌ {A = Option (Session × Place)} (Some (r.session, r.place)) (Some (session, place)) = sym r.found ∙ e in
                   let pair : ◌≡◌ {A = Session × Place} (r.session, r.place) (session, place) = same_Some _ _ same in
                   subst (λ (x : Session × Place). x.1.answered < length x.0.calls) pair r.on.call

@@ -19,7 +19,7 @@ use Rattle.dt_site.specs.declared.Origin.{Origin}
 use Rattle.dt_site.specs.Site.{SiteView, in_region, no_site, node_of}
 use Rattle.dt_site.specs.SessionsStandIn.{SessionsStandIn, places_of}
 use Rattle.dt_site.specs.StandsIn.{IsReached, StandsIn}
-use Rattle.dt_site.proofs.Callers.{HasShortLists, Steps, after_more, inv, legal_short, many_here, order, others_stand, places_are, run_more, sessions_stay}
+use Rattle.dt_site.proofs.Callers.{HasShortLists, Steps, after_more, inv, legal_short, many_here, others_stand, places_are, run_more, sessions_stay}
 use Rattle.dt_world.specs.WorldSessions.{WorldSessions, places_in}
 use Rattle.dt_world.specs.WorldInner.{IsLawful, kept_in, sessions_of, site_at, view_in, world_of}
 use Rattle.dt_world.specs.WorldView.{Makes, WorldView, kept_next, made, takes_effect}
@@ -113,7 +113,7 @@ module _ {cluster : Cluster} {sessions : WorldSessions} {sites : List SiteView} 
       stamped r lq (inr n) = subst (λ x. latest_stamp x.region ≤ steps + 1) (sym (get_or-set_other sites region r q no_site n)) (let a = k.stamps r lq in omega (arith, a))
 
       places_are_v : places_of sessions.workload later ≡ (w_after event).places
-      places_are_v = places_are k.reached.run.fits.names_once at_region (sym (places_parallel cluster sessions.workload (w_after event) (order then_reached) (inv then_reached))) later standing
+      places_are_v = places_are k.reached.run.fits.names_once at_region (sym (places_parallel (inv then_reached))) later standing
 
       is : world_of (set sites region q) (places_of sessions.workload later) ≡ w_after event
       is = ap₂ (λ l p. record { nodes = l; places = p }) (map-set node_of sites region q) (places_are_v ∙ ap (λ x. x.places) s.is) ∙ sym s.is
@@ -175,6 +175,10 @@ pub record HoldsSite (cluster : Cluster) (sessions : WorldSessions) (sites : Lis
   pub lawful : IsLawful cluster sessions sites steps
   pub there : region < cluster.regions
   pub site : IsBehind sites region r origins
+
+-- the same of the world that is known to be lawful
+abbrev pub SiteOf : {cluster : Cluster} {sessions : WorldSessions} {sites : List SiteView} {steps : ℕ} → IsLawful cluster sessions sites steps → ℕ → RegionView → List Origin → Type 0
+SiteOf {cluster} {sessions} {sites} {steps} k region r origins = HoldsSite cluster sessions sites steps region r origins
 
 pub holds_site : {cluster : Cluster} {sessions : WorldSessions} {sites : List SiteView} {steps : ℕ} → IsLawful cluster sessions sites steps → {region : ℕ} → region < cluster.regions
     → {p : SiteView} {r : RegionView} {origins : List Origin} → p ≡ get_or sites region p → record { region = r; origins = origins } ≡ p → HoldsSite cluster sessions sites steps region r origins

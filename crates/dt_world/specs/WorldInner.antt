@@ -1,20 +1,19 @@
 -- Only proofs need this file, and the private calls of a world. It says what the type of a world keeps of its own fields:
 -- of the sessions that its regions keep, of the sites of all regions, and of the number of steps (`IsLawful`). And it has
 -- words for what the private calls answer of one session. Read `WorldView` for what callers see.
-use Rattle.std.specs.Prelude.{◌≡◌, ◌<◌, ◌≤◌, ◌+◌, ℕ, List, length, map, get_or, slice_get, Option, Some, None, IsSome, option_and_then, option_map}
+use Rattle.std.specs.Prelude.{◌≡◌, ◌<◌, ◌≤◌, ◌+◌, ℕ, List, length, map, get_or, slice_get, Option, Some, None}
 use Rattle.std.specs.List.{range_with_len}
 use Rattle.dt_access.specs.Clash.{Bytes}
 use Rattle.dt_events.specs.declared.Event.{Event}
 use Rattle.dt_events.specs.Stamps.{events_of}
 use Rattle.dt_txn.specs.declared.Body.{Body}
-use Rattle.dt_txn.specs.declared.Outcome.{Outcome}
-use Rattle.dt_region.specs.Region.{RegionState, latest_stamp, outcome_of}
+use Rattle.dt_region.specs.Region.{latest_stamp}
 use Rattle.dt_cluster.specs.declared.Cluster.{Cluster}
 use Rattle.dt_workload.specs.declared.Session.{Session}
 use Rattle.dt_workload.specs.declared.Ranked.{Ranked}
-use Rattle.dt_session.specs.Sessions.{IsNext, SessionsView, waits_of, wanted_of}
+use Rattle.dt_session.specs.Sessions.{SessionsView}
 use Rattle.dt_session.specs.World.{World, Place, opening_table, session_at}
-use Rattle.dt_session.specs.Step.{MayAnswer, MaySubmit, MayTry, awaited_at, body_of, next_attempt, ranked_body}
+use Rattle.dt_session.specs.Step.{MayAnswer, MaySubmit, MayTry, awaited_at, body_of, next_attempt}
 use Rattle.dt_site.specs.declared.Origin.{Origin}
 use Rattle.dt_site.specs.SessionsStandIn.{SessionsStandIn, no_sessions}
 use Rattle.dt_site.specs.Site.{SiteView, no_site, node_of, opening_site}
@@ -62,21 +61,6 @@ pub record IsLawful (cluster : Cluster) (sessions : WorldSessions) (sites : List
 -- the sites of a cluster before anything happens
 abbrev pub opening_sites : Cluster → List SiteView
 opening_sites cluster = map (λ number. opening_site number cluster.regions (opening_table cluster)) (range_with_len 0 cluster.regions)
-
--- the outcome that a region has of the attempt that a session of this name waits for, if there are both
-abbrev pub last_here : SessionsView → RegionState → Bytes → Option Outcome
-last_here s r name = option_and_then (outcome_of r) (waits_of s name)
-
--- where the session of this name may go on, by what its region keeps, the call that comes next is there
-abbrev pub HasNextCall : SessionsView → RegionState → Bytes → Type 0
-HasNextCall s r name = (call attempt : ℕ) → IsNext s name (last_here s r name) (Some (call, attempt)) → IsSome (wanted_of s name call)
-
--- what the session of this name submits next, by what its region keeps: the call that comes next, under its numbers and
--- with its rank; none exactly where it may submit nothing
-abbrev pub IsNextHere : SessionsView → RegionState → Bytes → Option (Origin × ℕ × Body) → Type 0
-IsNextHere s r name None = IsNext s name (last_here s r name) None
-IsNextHere s r name (Some (origin, rank, body)) =
-    (origin.session ≡ name) × IsNext s name (last_here s r name) (Some (origin.call, origin.attempt)) × (option_map ranked_body (wanted_of s name origin.call) ≡ Some (rank, body))
 
 -- what a session of this name at a region submits next: its next call or the same again, with its rank, and whose that is
 pub record IsNextTry (view : WorldView) (region : ℕ) (name : Bytes) (origin : Origin) (rank : ℕ) (body : Body) : Type 0 where

@@ -13,10 +13,9 @@ ghost use Rattle.dt_cluster.specs.Valid.{IsValidCluster};
 ghost use Rattle.dt_cluster.specs.declared.Cluster.{Cluster};
 ghost use Rattle.dt_workload.specs.Valid.{IsValidWorkload};
 ghost use Rattle.dt_workload.specs.declared.Workload.{Workload};
-ghost use Rattle.dt_session.specs.Sessions.{StandsAt};
 ghost use Rattle.dt_session.specs.Step.{IsLegal, next, rule_of};
 ghost use Rattle.dt_session.specs.Run.{AreLegal, order_of, world_after};
-ghost use Rattle.dt_world.specs.WorldInner.{HasNextCall, IsNextHere, opening_sites};
+ghost use Rattle.dt_world.specs.WorldInner.{opening_sites};
 ghost use Rattle.dt_world.specs.WorldReport.{IsOutcomeOf, IsReplyOf, IsToldBy, TextsTellOneRun, answered_name, report_of};
 ghost use Rattle.dt_world.specs.WorldSessions.{opening_sessions};
 ghost use Rattle.dt_world.specs.WorldView.{Makes, kept_next, kept_after, opening_view, own_events};
@@ -29,9 +28,9 @@ use dt_region::Region;
 use dt_report::Report;
 use dt_sched::Scheduler;
 use dt_session::Sessions;
-use dt_site::{Origin, Site, first_site, last_outcome_at, opening_of};
+use dt_site::{Site, first_site, last_outcome_at, next_attempt, opening_of};
 use dt_text::{Name, NoMemory};
-use dt_txn::{Body, Entry};
+use dt_txn::Entry;
 use dt_workload::Workload;
 use std::alloc::Global;
 use std::marker::Model;
@@ -170,7 +169,7 @@ impl<S: Scheduler + Drop> World<S> {
             return Err(StepError::Illegal(1));
         };
         let site = &self.sites[region as usize];
-        let next = next_attempt(alloc, sessions, &site.region, name, place)?;
+        let next = next_attempt(alloc, sessions, &site.region, place)?;
         let Some((origin, rank, body)) = next else {
             return Err(StepError::Illegal(1));
         };
@@ -434,32 +433,6 @@ fn call_count(workload: &Workload) -> u32 {
         calls = calls.saturating_add(session.calls.len());
     }
     u32::try_from(calls).unwrap_or(u32::MAX)
-}
-
-/// What the session of a name may submit next, with its rank, and whose it is: the sessions and the outcomes are those that its
-/// region keeps, and the session stands at this place among them. `None` exactly where it may submit nothing.
-fn next_attempt<S: Scheduler>(
-    alloc: Global,
-    sessions: &Sessions,
-    region: &Region<S>,
-    name: &Name,
-    place: u32,
-) -> Result<Option<(Origin, u8, Body)>, NoMemory>
-    requires place { StandsAt sessions.now place name.now }
-    requires calls { HasNextCall sessions.now region.now.state name.now }
-    ensures { IfOk result (IsNextHere sessions.now region.now.state name.now) }
-{
-    let last = last_outcome_at(sessions, region, place);
-    let Some((call, attempt)) = sessions.next_at(place, last) else {
-        return Ok(None);
-    };
-    let (rank, body) = sessions.body_at(alloc, place, call)?;
-    let origin = Origin {
-        session: name.copy(alloc)?,
-        call,
-        attempt,
-    };
-    Ok(Some((origin, rank, body)))
 }
 
 /// Each of some sites, lent.

@@ -14,9 +14,9 @@ returns c =
     let n = c.args.number in
     let k = c.index_mut-kept.result.now in
     let r = subst (λ v. IsIn v n) (sym c.self.view_is) c.requires.within in
-    let is = read_at s.gone.records s.kept.items s.first n c.self.invariant.after r.0 r.1 k c.index_mut-kept.ensures.value in
+    let is = read_at s.gone.records s.kept.items s.first n c.self.invariant.after r.0 k c.index_mut-kept.ensures.value in
     let now : Kept = record k { degree = c.args.degree; vertex = record k.vertex { slots = c.args.slots; missing = k.vertex.missing - 1 } } in
-    let at = set_at s.gone.records s.kept.items s.first n c.self.invariant.after r.0 r.1 now in
+    let at = set_at s.gone.records s.kept.items s.first n c.self.invariant.after r.0 now in
     let vertices = ap vertices_of at ∙ map-set (λ x. x.vertex) items n now
     ∙ ap (λ x. set (vertices_of items) n (record x { slots = c.args.slots; missing = x.missing - 1 })) (vertex_read items n r.1 k is) in
     let degrees = ap degrees_of at ∙ map-set (λ x. x.degree) items n now in

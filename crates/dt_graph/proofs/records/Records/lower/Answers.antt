@@ -14,9 +14,9 @@ returns c =
     let n = c.args.number in
     let k = c.index_mut.result.now in
     let r = subst (λ v. IsIn v n) (sym c.self.view_is) c.requires.within in
-    let is = read_at s.gone.records s.kept.items s.first n c.self.invariant.after r.0 r.1 k c.index_mut.ensures.value in
+    let is = read_at s.gone.records s.kept.items s.first n c.self.invariant.after r.0 k c.index_mut.ensures.value in
     let now : Kept = record k { degree = k.degree - 1 } in
-    let at = set_at s.gone.records s.kept.items s.first n c.self.invariant.after r.0 r.1 now in
+    let at = set_at s.gone.records s.kept.items s.first n c.self.invariant.after r.0 now in
     let vertices = ap vertices_of at ∙ vertices_beside items n r.1 k is now refl in
     let degrees = ap degrees_of at ∙ map-set (λ x. x.degree) items n now ∙ ap (λ d. set (degrees_of items) n (d - 1)) (degree_read items n r.1 k is) in
     let states = ap states_of at ∙ states_beside items n r.1 k is now refl in

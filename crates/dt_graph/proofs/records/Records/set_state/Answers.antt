@@ -14,9 +14,9 @@ returns c =
     let n = c.args.number in
     let k = c.index_mut.result.now in
     let r = subst (λ v. IsIn v n) (sym c.self.view_is) c.requires in
-    let is = read_at s.gone.records s.kept.items s.first n c.self.invariant.after r.0 r.1 k c.index_mut.ensures.value in
+    let is = read_at s.gone.records s.kept.items s.first n c.self.invariant.after r.0 k c.index_mut.ensures.value in
     let now : Kept = record k { state = c.args.state } in
-    let at = set_at s.gone.records s.kept.items s.first n c.self.invariant.after r.0 r.1 now in
+    let at = set_at s.gone.records s.kept.items s.first n c.self.invariant.after r.0 now in
     let vertices = ap vertices_of at ∙ vertices_beside items n r.1 k is now refl in
     let degrees = ap degrees_of at ∙ degrees_beside items n r.1 k is now refl in
     let states = ap states_of at ∙ map-set (λ x. x.state) items n now in

@@ -7,32 +7,38 @@ use Rattle.dt_region.specs.Rules.{after_finishing}
 use Rattle.dt_region.proofs.Callers.{moves_left, stamp_left}
 use Rattle.dt_lock.specs.Held.{Commits, HeldView, IsHeld, as_running, without_claim}
 use Rattle.dt_lock.proofs.HeldSteps.{can_commit, committed, comes_now, found_running, has_run}
+use Rattle.dt_lock.proofs.held.Held.commit.Given.{Over}
 use Rattle.dt_lock.proofs.held.Held.commit.Goals as goal
+use Rattle.dt_lock.proofs.held.Held.commit.Goals.{After-take_off}
+
+-- the claim is running
+is_there : (g : Over) (c : After-take_off g) → Has c.self.inside.running.items (as_running c.args.finished.claim)
+is_there g c = found_running _ _ _ _ c.args.finished.claim c.as_slice.ensures.value c.id-id.ensures c.seen.ensures (c.is_running.ensures.0 c.if-not-is_running.false)
 
 pub finish-requires-clause-stamp : goal.finish-requires-clause-stamp
 finish-requires-clause-stamp g c = stamp_left g.N.Named.procs g.N.Named.before _ c.self.invariant.underway
 
 pub finish-requires-clause-executable : goal.finish-requires-clause-executable
 finish-requires-clause-executable g c =
-    let there : Has c.self.inside.running.items (as_running c.args.finished.claim) = found_running _ _ _ _ c.args.finished.claim c.as_slice.ensures.value c.id-id.ensures c.seen.ensures (c.is_running.ensures.0 c.if-not-is_running.false) in
+    let there = is_there g (goal.at.finish-requires-clause-executable g c).After-take_off in
     subst (CanExecute (sched_of c.self.inside.region.state.logs c.self.inside.region.state.here)) (sym c.id-id.ensures) (can_commit g.N.Named.procs g.N.Named.before _ c.self.invariant (as_running c.args.finished.claim) there)
 
 pub finish-requires-clause-place : goal.finish-requires-clause-place
 finish-requires-clause-place g c =
-    let there : Has c.self.inside.running.items (as_running c.args.finished.claim) = found_running _ _ _ _ c.args.finished.claim c.as_slice.ensures.value c.id-id.ensures c.seen.ensures (c.is_running.ensures.0 c.if-not-is_running.false) in
+    let there = is_there g (goal.at.finish-requires-clause-place g c).After-take_off in
     subst (CanMove c.self.inside.region.state) (sym c.id-id.ensures)
     (moves_left g.N.Named.procs g.N.Named.before _ c.self.invariant.underway c.args.finished.claim.txn.id (can_commit g.N.Named.procs g.N.Named.before _ c.self.invariant (as_running c.args.finished.claim) there))
 
 pub finish-requires-clause-run : goal.finish-requires-clause-run
 finish-requires-clause-run g c =
-    let there : Has c.self.inside.running.items (as_running c.args.finished.claim) = found_running _ _ _ _ c.args.finished.claim c.as_slice.ensures.value c.id-id.ensures c.seen.ensures (c.is_running.ensures.0 c.if-not-is_running.false) in
+    let there = is_there g (goal.at.finish-requires-clause-run g c).After-take_off in
     let run = has_run g.N.Named.procs g.N.Named.before _ c.self.invariant c.args.finished there c.into_run-outcome.ensures.claim c.into_run-outcome.ensures.finished in
     subst (λ i. HasRun c.self.inside.region.state i c.into_run-outcome.result.0 c.into_run-outcome.result.1) (sym c.id-id.ensures)
     (subst (λ r. HasRun c.self.inside.region.state c.args.finished.claim.txn.id r.0 r.1) (sym c.into_run-outcome.ensures.run) run)
 
 pub invariant_of-self : goal.invariant_of-self
 invariant_of-self g c =
-    let there : Has c.self.inside.running.items (as_running c.args.finished.claim) = found_running _ _ _ _ c.args.finished.claim c.as_slice.ensures.value c.id-id.ensures c.seen.ensures (c.is_running.ensures.0 c.if-not-is_running.false) in
+    let there = is_there g (goal.at.invariant_of-self g c).After-take_off in
     let comes = comes_now g.N.Named.procs g.N.Named.before _ c.self.invariant c.args.finished there c.into_run-outcome.ensures.claim c.into_run-outcome.ensures.finished in
     let so = subst (λ i. ComesTo g.N.Named.procs c.self.inside.region.state i c.into_run-outcome.result.0 c.into_run-outcome.result.1) (sym c.id-id.ensures)
     (subst (λ r. ComesTo g.N.Named.procs c.self.inside.region.state c.args.finished.claim.txn.id r.0 r.1) (sym c.into_run-outcome.ensures.run) comes) in
@@ -42,7 +48,7 @@ invariant_of-self g c =
 
 pub returns : goal.returns
 returns g c =
-    let there : Has c.self.inside.running.items (as_running c.args.finished.claim) = found_running _ _ _ _ c.args.finished.claim c.as_slice.ensures.value c.id-id.ensures c.seen.ensures (c.is_running.ensures.0 c.if-not-is_running.false) in
+    let there = is_there g (goal.at.returns g c).After-take_off in
     let comes = comes_now g.N.Named.procs g.N.Named.before _ c.self.invariant c.args.finished there c.into_run-outcome.ensures.claim c.into_run-outcome.ensures.finished in
     let so = subst (λ i. ComesTo g.N.Named.procs c.self.inside.region.state i c.into_run-outcome.result.0 c.into_run-outcome.result.1) (sym c.id-id.ensures)
     (subst (λ r. ComesTo g.N.Named.procs c.self.inside.region.state c.args.finished.claim.txn.id r.0 r.1) (sym c.into_run-outcome.ensures.run) comes) in

@@ -1,18 +1,13 @@
-use Rattle.std.proofs.Common.{◌≡◌, suc, List, [], ◌∷◌, length, refl, sym, ap, arith, ◌∙◌}
+use Rattle.std.proofs.Common.{◌≡◌, [], sym, ap, arith, ◌∙◌}
 use Rattle.std.proofs.lemmas.Bool.{eqb-true}
 use Rattle.std.specs.Prelude.{vec_len}
-use Rattle.dt_lock.specs.declared.running.Running.{Running}
+use Rattle.std.proofs.lemmas.List.{nil_from_length}
 use Rattle.dt_lock.specs.Held.{HeldView}
 use Rattle.dt_lock.proofs.held.Held.leave.Goals as goal
-
--- a list of no length has no items
-none_in : (running : List Running) → length running ≡ 0 → running ≡ []
-none_in [] e = refl
-none_in (r ∷ running) e = absurd (let more : suc (length running) ≡ 0 = e in omega (arith, more))
 
 pub returns-clause-left : goal.returns-clause-left
 returns-clause-left g c =
     let zero : vec_len c.self.inside.running ≡ 0 = eqb-true _ _ (sym c.is_empty.ensures ∙ c.if-not-is_empty.false) in
     let stored = c.self.inside.running.ok.0 in
-    let none : c.self.inside.running.items ≡ [] = none_in c.self.inside.running.items (omega (arith, zero, stored)) in
+    let none : c.self.inside.running.items ≡ [] = nil_from_length c.self.inside.running.items (omega (arith, zero, stored)) in
     (sym (ap (λ (h : HeldView). h.running) c.self.view_is) ∙ none, ap (λ (h : HeldView). h.region) c.self.view_is)

@@ -1,7 +1,8 @@
 use Rattle.std.proofs.Common.{refl, sym, subst}
 use Rattle.dt_session.specs.Sessions.{MayBeAnswered}
+use Rattle.dt_site.proofs.Callers.{no_name_at}
 use Rattle.dt_node.proofs.CallAfterCall.{made_nothing, same_moves}
-use Rattle.dt_node.proofs.PartsOfNode.{WasAnswered, call_moves, call_on, call_seats, call_step, no_name_at, opened, was_answered}
+use Rattle.dt_node.proofs.PartsOfNode.{WasAnswered, call_moves, call_on, call_seats, call_step, opened, was_answered}
 use Rattle.dt_node.proofs.CallConditions.{has_stamp}
 use Rattle.dt_node.proofs.node.Node.answer_one.Given.{Over}
 use Rattle.dt_node.proofs.node.Node.answer_one.Goals as goal

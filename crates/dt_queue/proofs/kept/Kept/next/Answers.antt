@@ -35,12 +35,13 @@ returns-in-Read-clause-marks c =
     let x = c.args.cell.now in
     let o = c.first_between-whole.result in
     let within : k.next_number ≤ 18446744073709551615 = omega (arith, c.requires.kept.last) in
+    let high = number_or o 18446744073709551615 in
     let first : IsFirstBetween x.number 18446744073709551615 (lane k Whole (granule_at (links k.rows) x.row)) o = rw c.granule_of-granule.ensures at c.first_between-whole.ensures in
     let writes = lane k Write x.row in
-    let told : marks_left c.of_read.result ≡ or_else_one (option_to_list (first_in x.number (number_or o 18446744073709551615) writes)) o = rw (c.as_slice-table.ensures.value, c.number_or-high.ensures) at c.of_read.ensures.marks in
+    let marks = option_to_list (first_in x.number high writes) in
+    let told : marks_left c.of_read.result ≡ or_else_one marks o = rw (c.as_slice-table.ensures.value, c.number_or-high.ensures) at c.of_read.ensures.marks in
     subst (AreEachOnce (IsNextMark k x)) (sym told)
-    (next_of_this k c.requires.kept x c.requires.there 18446744073709551615 within o first Read c.in-Read.is (option_to_list (first_in x.number (number_or o 18446744073709551615) writes))
-    (writes_next writes x.number (number_or o 18446744073709551615) (c.requires.kept.lanes Write x.row).numbered))
+    (next_of_this k c.requires.kept x c.requires.there 18446744073709551615 within o first Read c.in-Read.is marks (writes_next writes x.number high (c.requires.kept.lanes Write x.row).numbered))
 
 pub returns-in-Write-clause-marks : goal.returns-in-Write-clause-marks
 returns-in-Write-clause-marks c =
@@ -48,14 +49,15 @@ returns-in-Write-clause-marks c =
     let x = c.args.cell.now in
     let o = c.first_between-whole.result in
     let within : k.next_number ≤ 18446744073709551615 = omega (arith, c.requires.kept.last) in
+    let high = number_or o 18446744073709551615 in
     let first : IsFirstBetween x.number 18446744073709551615 (lane k Whole (granule_at (links k.rows) x.row)) o = rw c.granule_of-granule.ensures at c.first_between-whole.ensures in
     let reads = lane k Read x.row in let writes = lane k Write x.row in
-    let told : marks_left c.of_write.result ≡ or_else_one (next_of_row reads writes x.number (number_or o 18446744073709551615)) o = rw (c.as_slice-table.ensures.value, c.number_or-high.ensures) at c.of_write.ensures.marks in
+    let marks = next_of_row reads writes x.number high in
+    let told : marks_left c.of_write.result ≡ or_else_one marks o = rw (c.as_slice-table.ensures.value, c.number_or-high.ensures) at c.of_write.ensures.marks in
     let row = row_of (lanes_read k.rows.table.items) (lanes_written k.rows.table.items) (apart_lanes k c.requires.kept) x.row in
     subst (AreEachOnce (IsNextMark k x)) (sym told)
-    (next_of_this k c.requires.kept x c.requires.there 18446744073709551615 within o first Write c.in-Write.is (next_of_row reads writes x.number (number_or o 18446744073709551615))
-    (once_of_marks (IsNextInRow reads writes x.number (number_or o 18446744073709551615)) (next_of_row reads writes x.number (number_or o 18446744073709551615))
-    (row_next reads writes x.number (number_or o 18446744073709551615) row)))
+    (next_of_this k c.requires.kept x c.requires.there 18446744073709551615 within o first Write c.in-Write.is marks
+    (once_of_marks (IsNextInRow reads writes x.number high) marks (row_next reads writes x.number high row)))
 
 pub returns-in-Whole-clause-marks : goal.returns-in-Whole-clause-marks
 returns-in-Whole-clause-marks c =
@@ -63,13 +65,14 @@ returns-in-Whole-clause-marks c =
     let x = c.args.cell.now in
     let o = c.first_between-whole.result in
     let within : k.next_number ≤ 18446744073709551615 = omega (arith, c.requires.kept.last) in
+    let high = number_or o 18446744073709551615 in
     let first : IsFirstBetween x.number 18446744073709551615 (lane k Whole (granule_at (links k.rows) x.row)) o = rw c.granule_of-granule.ensures at c.first_between-whole.ensures in
     let reads = lanes_read k.rows.table.items in let writes = lanes_written k.rows.table.items in
-    let rows = rows_between k.listed (granule_at (links k.rows) x.row) x.number (number_or o 18446744073709551615) in
+    let rows = rows_between k.listed (granule_at (links k.rows) x.row) x.number high in
     let same : listed_left c.between-rows.result ≡ rows = rw (c.granule_of-granule.ensures, c.number_or-high.ensures) at c.between-rows.ensures in
-    let once : Distinct rows = once_between k.listed c.requires.kept.listed.logged (granule_at (links k.rows) x.row) x.number (number_or o 18446744073709551615) in
-    let told : marks_left c.of_rows.result ≡ or_else_one (next_of_rows reads writes x.number (number_or o 18446744073709551615) rows) o =
-    rw (c.as_slice-table.ensures.value, c.number_or-high.ensures, same) at c.of_rows.ensures.marks in
+    let once : Distinct rows = once_between k.listed c.requires.kept.listed.logged (granule_at (links k.rows) x.row) x.number high in
+    let marks = next_of_rows reads writes x.number high rows in
+    let told : marks_left c.of_rows.result ≡ or_else_one marks o = rw (c.as_slice-table.ensures.value, c.number_or-high.ensures, same) at c.of_rows.ensures.marks in
     subst (AreEachOnce (IsNextMark k x)) (sym told)
-    (next_of_this k c.requires.kept x c.requires.there 18446744073709551615 within o first Whole c.in-Whole.is (next_of_rows reads writes x.number (number_or o 18446744073709551615) rows)
-    (rows_next reads writes (apart_lanes k c.requires.kept) x.number (number_or o 18446744073709551615) rows once))
+    (next_of_this k c.requires.kept x c.requires.there 18446744073709551615 within o first Whole c.in-Whole.is marks
+    (rows_next reads writes (apart_lanes k c.requires.kept) x.number high rows once))

@@ -14,7 +14,7 @@ use Rattle.dt_queue.specs.TableInner.{lanes_read, lanes_written}
 use Rattle.dt_queue.specs.RowsInner.{AreRowsLinked, KeepsRows, RowLinks, links, name_at}
 use Rattle.dt_queue.specs.KeptInner.{AreQueuesKept, lane, place_at}
 use Rattle.dt_queue.proofs.LanesOfCells.{all_before, kept_same, rows_refl, same_lanes, same_self, to_err}
-use Rattle.dt_queue.proofs.RowsUsed.{all_the_same, listed_same, push_steps}
+use Rattle.dt_queue.proofs.RowsUsed.{all_the_same, listed_same, queues_pushed}
 use Rattle.dt_queue.proofs.NewNumbers.{reserved}
 use Rattle.dt_queue.proofs.kept.Kept.push.Goals as goal
 
@@ -92,13 +92,24 @@ returns-clause-kept c =
     let n : Kept = record marked { cells = c.insert_reserved.new.self; next_number = k.next_number + 1 } in
     let cell : Cell = record { row = c.in_ok-row.row; mode = c.args.mode; vertex = c.args.vertex; number = k.next_number } in
     let added = c.in_ok-add_mark.ensures.added in
-    let at = c.insert_reserved.ensures.key ∙ ap (λ (x : Slab Cell). x.vacant_key) added.cells ∙ sym c.vacant_key-slot.ensures.value in
     let within : k.next_number + 1 < 2 ^ 64 = omega (arith, c.requires.left) in
-    push_steps mid marked n c.vacant_key-slot.result cell kept added refl refl
-    (λ m p. same_lanes n marked (same_self _) (same_self _) refl m p)
-    (subst (λ s. Updates marked.cells n.cells s (Some cell)) at c.insert_reserved.ensures.updates) (subst (λ s. get marked.cells s ≡ None) at c.insert_reserved.ensures.was_vacant)
-    (sym (ap (λ (y : Kept). y.next_number) entered)) refl within
-    (subst (λ (l : RowLinks). c.in_ok-row.row < length l.names) (sym rows) (slice_get_within c.row.new.self.names.keys c.in_ok-row.row _ c.in_ok-row.ensures.found)) c.in_ok-enter.ensures.entered
+    let slot : ℕ = c.vacant_key-slot.result in
+    let at : c.insert_reserved.result ≡ slot = c.insert_reserved.ensures.key ∙ ap (λ (x : Slab Cell). x.vacant_key) added.cells ∙ sym c.vacant_key-slot.ensures.value in
+    let up : Updates marked.cells n.cells slot (Some cell) = subst (λ s. Updates marked.cells n.cells s (Some cell)) at c.insert_reserved.ensures.updates in
+    let old : (s : ℕ) → get marked.cells s ≡ get mid.cells s = λ s. ap (λ (x : Slab Cell). get x s) added.cells in
+    let same : (m : Mode) (p : ℕ) → lane n m p ≡ lane marked m p = λ m p. same_lanes n marked (same_self _) (same_self _) refl m p in
+    queues_pushed mid n slot cell kept (record {
+      cells = record { changed = up.changed; others = λ s ne. up.others s ne ∙ old s };
+      vacant = sym (old slot) ∙ subst (λ s. get marked.cells s ≡ None) at c.insert_reserved.ensures.was_vacant;
+      row_in = subst (λ (l : RowLinks). c.in_ok-row.row < length l.names) (sym rows) (slice_get_within c.row.new.self.names.keys c.in_ok-row.row _ c.in_ok-row.ensures.found);
+      number = sym (ap (λ (y : Kept). y.next_number) entered);
+      next = refl;
+      fits = within;
+      changed = same cell.mode (place_at (links mid.rows) cell.mode cell.row) ∙ added.changed;
+      others = λ m p ne. same m p ∙ added.others m p ne;
+      rows = added.rows;
+      listed = added.listed;
+    }) c.in_ok-enter.ensures.entered
 
 pub returns-clause-rows : goal.returns-clause-rows
 returns-clause-rows c = subst (λ (l : RowLinks). IsFront c.args.self.now.rows.names.keys l.names)

@@ -1,5 +1,6 @@
 use Rattle.std.proofs.Common.{◌≡◌, Some, ap, refl, subst, sym, ◌∙◌}
 use Rattle.slab.specs.Slab.{Slab, Updates, get, with_value}
+use Rattle.dt_lists.proofs.Callers.{some_same}
 use Rattle.dt_queue.specs.RowsInner.{links}
 use Rattle.dt_queue.specs.declared.cell.Cell.{Cell}
 use Rattle.dt_queue.specs.declared.kept.Kept.{Kept}
@@ -22,7 +23,7 @@ returns-clause-same c =
     let marked : Kept = c.renumber_mark.new.self in
     let change = c.renumber_mark.ensures in
     let n : Kept = record marked { cells = with_value marked.cells c.args.slot (record y { number = c.args.number }) } in
-    let one : y ≡ x = value y x (sym c.index_mut.ensures.value ∙ ap (λ (s : Slab Cell). get s c.args.slot) change.cells ∙ c.index-cell.ensures) in
+    let one : y ≡ x = some_same (sym c.index_mut.ensures.value ∙ ap (λ (s : Slab Cell). get s c.args.slot) change.cells ∙ c.index-cell.ensures) in
     let up : Updates k.cells n.cells c.args.slot (Some (record x { number = c.args.number })) =
     subst (λ (z : Cell). Updates k.cells n.cells c.args.slot (Some (record z { number = c.args.number }))) one
     (cell_set k.cells marked.cells c.args.slot x (record y { number = c.args.number }) change.cells c.index-cell.ensures) in
@@ -35,6 +36,3 @@ returns-clause-same c =
       rows = change.rows;
       shown = shown_renumbered k n c.args.slot x c.args.number c.requires.kept change.rows c.index-cell.ensures up first.0 first.1 kept;
     }
-  where
-    value : (a b : Cell) → Some a ≡ Some b → a ≡ b
-    value a b e = cc

@@ -17,9 +17,9 @@ returns-clause-linked c =
     let g = c.in_ok-granule-2.granule in
     let fresh : ¬ (Has r.names.keys c.args.name) = λ h. c.requires.absent (subst (λ l. Has l c.args.name) c.in_ok-granule-2.ensures.names h) in
     let keys = c.in_ok-insert.ensures.keys ∙ added_name c.args.name r.names.keys fresh in
-    let granules = ap granules_of (c.push_reserved.ensures.items ∙ ap (λ l. l ++ c.new.result ∷ []) c.in_ok-reserve.ensures.items)
-    ∙ map-append (λ (x : Row). x.granule) r.table.items (c.new.result ∷ []) ∙ ap (λ i. granules_of r.table.items ++ i ∷ []) c.new.ensures.granule in
-    let tabled = ap row_names (c.push_reserved.ensures.items ∙ ap (λ l. l ++ c.new.result ∷ []) c.in_ok-reserve.ensures.items)
+    let rows = c.push_reserved.ensures.items ∙ ap (λ l. l ++ c.new.result ∷ []) c.in_ok-reserve.ensures.items in
+    let granules = ap granules_of rows ∙ map-append (λ (x : Row). x.granule) r.table.items (c.new.result ∷ []) ∙ ap (λ i. granules_of r.table.items ++ i ∷ []) c.new.ensures.granule in
+    let tabled = ap row_names rows
     ∙ map-append (λ (x : Row). x.name) r.table.items (c.new.result ∷ []) ∙ ap (λ n. row_names r.table.items ++ n ∷ []) (c.new.ensures.name ∙ ap (λ k. (c.args.name.0, k)) c.in_ok-copy.ensures.same) in
     let name = c.in_ok-granule-2.ensures.found ∙ ap (λ k. Some (c.args.name.0, k)) c.in_ok-granule.ensures in
     rw (keys, tabled, granules) (tied_row r.names.keys r.granules.keys (row_names r.table.items) (granules_of r.table.items) c.args.name g c.in_ok-granule-2.ensures.linked fresh name)

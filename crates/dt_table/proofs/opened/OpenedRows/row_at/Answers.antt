@@ -1,8 +1,9 @@
 use Rattle.std.proofs.Common.{◌<◌, Some, ap, length, slice_get, sym, subst, arith, ◌∙◌}
 use Rattle.std.specs.Vec.{vec_len}
 use Rattle.std.proofs.lemmas.Option.{slice_get_read}
+use Rattle.dt_lists.proofs.Callers.{at_place, none_some}
 use Rattle.dt_table.specs.RowsInner.{KeyValues}
-use Rattle.dt_table.proofs.RowsNow.{length-rows_now, not_within, row_at}
+use Rattle.dt_table.proofs.RowsNow.{length-rows_now, row_at}
 use Rattle.dt_table.proofs.opened.OpenedRows.row_at.Goals as goal
 
 pub unreachable-requires : goal.unreachable-requires
@@ -10,7 +11,7 @@ unreachable-requires c =
     let rows = c.self.inside.opening.value.entries in
     let within = subst (λ (es : KeyValues). c.args.place < length es) (sym c.self.view_is) c.requires in
     let none = c.in_default.ensures.entry ∙ ap (λ m. slice_get m.entries c.args.place) c.deref.ensures in
-    not_within rows c.args.place none (omega (arith, length-rows_now rows c.self.inside.kept.items c.self.invariant.each, within))
+    none_some (sym none) (at_place rows c.args.place (omega (arith, length-rows_now rows c.self.inside.kept.items c.self.invariant.each, within))).1
 
 pub index-requires : goal.index-requires
 index-requires c =

@@ -7,7 +7,7 @@ use Rattle.dt_world.specs.WorldInner.{MayBeTold, view_in}
 use Rattle.dt_world.proofs.OneSite.{same_lawful, same_view, stamp_here}
 use Rattle.dt_world.proofs.Rule7Answer.{answer_refused, answers_made, may_end}
 use Rattle.dt_world.proofs.WorldFacts.{HasRead, away_told, has_read, of_told, sessions_at_place, some_sessions, stands_again, steps_few, told_of}
-use Rattle.dt_world.proofs.WorldLaws.{HoldsSite, a_site, behind, holds_site, made_before, out_of_memory}
+use Rattle.dt_world.proofs.WorldLaws.{SiteOf, a_site, behind, holds_site, made_before, out_of_memory}
 use Rattle.dt_world.proofs.world.World.answer.Given.{Over}
 use Rattle.dt_world.proofs.world.World.answer.Goals as goal
 use Rattle.dt_world.proofs.world.World.answer.Goals.{After-behind-self-2, After-index_mut-2, After-last_outcome_at-last}
@@ -20,9 +20,7 @@ read g c =
     has_read (some_sessions c.self.invariant c.self.view_is c.if-region-self.false) c.index-sessions.ensures site c.args.name.now (c.last_outcome_at-last.ensures.outcome c.args.name.now c.in-Some.ensures)
 
 -- the region's site, which the call reaches
-site : (g : Over) (c : After-behind-self-2 g) →
-    let w = c.self.inside in
-    HoldsSite w.cluster (record { workload = w.workload; by_region = w.sessions.items }) w.sites.items w.steps c.args.region c.behind-self-2.inside.region c.behind-self-2.inside.origins.items
+site : (g : Over) (c : After-behind-self-2 g) → SiteOf c.self.invariant c.args.region c.behind-self-2.inside.region c.behind-self-2.inside.origins.items
 site g c = holds_site c.self.invariant c.if-region-self.false c.index_mut.ensures.value c.behind-self-2.view_is
 
 -- the session may be answered

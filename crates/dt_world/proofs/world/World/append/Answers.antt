@@ -7,22 +7,18 @@ use Rattle.dt_site.proofs.Callers.{asked_held}
 use Rattle.dt_world.specs.WorldView.{WorldView}
 use Rattle.dt_world.proofs.OneSite.{region_here, same_lawful, same_view, stamp_here}
 use Rattle.dt_world.proofs.Rule2Append.{append_done, append_not, asks, can_place, few_asked, id_in, wanted_in}
-use Rattle.dt_world.proofs.WorldLaws.{HoldsSite, a_site, holds_site, made_before, out_of_memory}
+use Rattle.dt_world.proofs.WorldLaws.{SiteOf, a_site, holds_site, made_before, out_of_memory}
 use Rattle.dt_world.proofs.WorldFacts.{steps_few}
 use Rattle.dt_world.proofs.world.World.append.Given.{Over}
 use Rattle.dt_world.proofs.world.World.append.Goals as goal
 use Rattle.dt_world.proofs.world.World.append.Goals.{After-behind-self, After-behind-self-2}
 
 -- the site of the request's source
-source : (g : Over) (c : After-behind-self g) →
-    let w = c.self.inside in
-    HoldsSite w.cluster (record { workload = w.workload; by_region = w.sessions.items }) w.sites.items w.steps c.args.source c.behind-self.inside.region c.behind-self.inside.origins.items
+source : (g : Over) (c : After-behind-self g) → SiteOf c.self.invariant c.args.source c.behind-self.inside.region c.behind-self.inside.origins.items
 source g c = holds_site c.self.invariant c.if-source-self.false c.index.ensures c.behind-self.view_is
 
 -- the home's site
-home : (g : Over) (c : After-behind-self-2 g) →
-    let w = c.self.inside in
-    HoldsSite w.cluster (record { workload = w.workload; by_region = w.sessions.items }) w.sites.items w.steps c.args.home c.behind-self-2.inside.region c.behind-self-2.inside.origins.items
+home : (g : Over) (c : After-behind-self-2 g) → SiteOf c.self.invariant c.args.home c.behind-self-2.inside.region c.behind-self-2.inside.origins.items
 home g c = holds_site c.self.invariant c.if-home-self.false c.index_mut.ensures.value c.behind-self-2.view_is
 
 pub asked-asked-requires : goal.asked-asked-requires

@@ -8,28 +8,22 @@ use Rattle.dt_site.proofs.Callers.{joins_from, joins_to}
 use Rattle.dt_world.specs.WorldView.{WorldView}
 use Rattle.dt_world.proofs.OneSite.{region_here, sound_here, same_lawful, same_view, stamp_here}
 use Rattle.dt_world.proofs.Rule3Deliver.{IsDelivery, can_take, deliver_done, deliver_none, delivery_is, entries_are, out_of_order, past_log}
-use Rattle.dt_world.proofs.WorldLaws.{HoldsSite, a_site, holds_site, made_before, out_of_memory}
+use Rattle.dt_world.proofs.WorldLaws.{SiteOf, a_site, holds_site, made_before, out_of_memory}
 use Rattle.dt_world.proofs.WorldFacts.{steps_few}
 use Rattle.dt_world.proofs.world.World.deliver.Given.{Over}
 use Rattle.dt_world.proofs.world.World.deliver.Goals as goal
 use Rattle.dt_world.proofs.world.World.deliver.Goals.{After-behind-self, After-behind-self-2, After-behind-self-3, After-joins, then-first-last-via-then-first-last, then-first-last-via-else-first-last+then-last-len}
 
 -- the home's site
-home : (g : Over) (c : After-behind-self g) →
-    let w = c.self.inside in
-    HoldsSite w.cluster (record { workload = w.workload; by_region = w.sessions.items }) w.sites.items w.steps c.args.home c.behind-self.inside.region c.behind-self.inside.origins.items
+home : (g : Over) (c : After-behind-self g) → SiteOf c.self.invariant c.args.home c.behind-self.inside.region c.behind-self.inside.origins.items
 home g c = holds_site c.self.invariant c.if-home-self.false c.index.ensures c.behind-self.view_is
 
 -- the region's site, as it is read
-region : (g : Over) (c : After-behind-self-2 g) →
-    let w = c.self.inside in
-    HoldsSite w.cluster (record { workload = w.workload; by_region = w.sessions.items }) w.sites.items w.steps c.args.region c.behind-self-2.inside.region c.behind-self-2.inside.origins.items
+region : (g : Over) (c : After-behind-self-2 g) → SiteOf c.self.invariant c.args.region c.behind-self-2.inside.region c.behind-self-2.inside.origins.items
 region g c = holds_site c.self.invariant c.if-region-self.false c.index-2.ensures c.behind-self-2.view_is
 
 -- the region's site, as it is changed
-here : (g : Over) (c : After-behind-self-3 g) →
-    let w = c.self.inside in
-    HoldsSite w.cluster (record { workload = w.workload; by_region = w.sessions.items }) w.sites.items w.steps c.args.region c.behind-self-3.inside.region c.behind-self-3.inside.origins.items
+here : (g : Over) (c : After-behind-self-3 g) → SiteOf c.self.invariant c.args.region c.behind-self-3.inside.region c.behind-self-3.inside.origins.items
 here g c = holds_site c.self.invariant c.if-region-self.false c.index_mut.ensures.value c.behind-self-3.view_is
 
 -- the delivery, by what the call read of both

@@ -6,15 +6,13 @@ use Rattle.std.proofs.lemmas.Grind.{common_steps}
 use Rattle.std.proofs.Common.{refl, sym, subst, ◌∙◌, ◌<◌, length, arith}
 use Rattle.dt_world.proofs.OneSite.{execute_done, execute_not, holds_here, moves_here, refused_same, same_lawful, same_view, stamp_here}
 use Rattle.dt_world.proofs.WorldFacts.{steps_few}
-use Rattle.dt_world.proofs.WorldLaws.{HoldsSite, a_site, holds_site, made_before}
+use Rattle.dt_world.proofs.WorldLaws.{SiteOf, a_site, holds_site, made_before}
 use Rattle.dt_world.proofs.world.World.execute.Given.{Over}
 use Rattle.dt_world.proofs.world.World.execute.Goals as goal
 use Rattle.dt_world.proofs.world.World.execute.Goals.{After-behind-self}
 
 -- the region's site, which the call reaches
-site : (g : Over) (c : After-behind-self g) →
-    let w = c.self.inside in
-    HoldsSite w.cluster (record { workload = w.workload; by_region = w.sessions.items }) w.sites.items w.steps c.args.region c.behind-self.inside.region c.behind-self.inside.origins.items
+site : (g : Over) (c : After-behind-self g) → SiteOf c.self.invariant c.args.region c.behind-self.inside.region c.behind-self.inside.origins.items
 site g c = holds_site c.self.invariant c.if-region-self.false c.index_mut.ensures.value c.behind-self.view_is
 
 pub execute-requires-clause-place : goal.execute-requires-clause-place

@@ -4,16 +4,14 @@ use Rattle.dt_events.specs.declared.Event.TheVariants.{Resolve}
 use Rattle.std.proofs.lemmas.Grind.{common_steps}
 use Rattle.std.proofs.Common.{refl, sym, subst, ◌∙◌, ◌<◌, length, arith, []}
 use Rattle.dt_world.proofs.OneSite.{refused_same, resolve_done, resolve_not, same_lawful, same_view, stamp_here}
-use Rattle.dt_world.proofs.WorldLaws.{HoldsSite, a_site, holds_site, made_before}
+use Rattle.dt_world.proofs.WorldLaws.{SiteOf, a_site, holds_site, made_before}
 use Rattle.dt_world.proofs.WorldFacts.{steps_few}
 use Rattle.dt_world.proofs.world.World.resolve.Given.{Over}
 use Rattle.dt_world.proofs.world.World.resolve.Goals as goal
 use Rattle.dt_world.proofs.world.World.resolve.Goals.{After-behind-self}
 
 -- the region's site, which the call reaches
-site : (g : Over) (c : After-behind-self g) →
-    let w = c.self.inside in
-    HoldsSite w.cluster (record { workload = w.workload; by_region = w.sessions.items }) w.sites.items w.steps c.args.region c.behind-self.inside.region c.behind-self.inside.origins.items
+site : (g : Over) (c : After-behind-self g) → SiteOf c.self.invariant c.args.region c.behind-self.inside.region c.behind-self.inside.origins.items
 site g c = holds_site c.self.invariant c.if-region-self.false c.index_mut.ensures.value c.behind-self.view_is
 
 pub invariant_of-self-2 : goal.invariant_of-self-2

@@ -1,8 +1,9 @@
 use Rattle.std.proofs.lemmas.Grind.{common_steps}
 use Rattle.std.proofs.Common.{◌<◌, Some, None, length, refl, ap, subst, arith}
+use Rattle.dt_access.specs.Clash.{Bytes}
 use Rattle.dt_session.specs.Sessions.{StandsAt}
+use Rattle.dt_site.specs.NextAttempt.{IsNextHere, last_here}
 use Rattle.dt_site.specs.Site.{SiteView}
-use Rattle.dt_world.specs.WorldInner.{IsNextHere, last_here}
 use Rattle.dt_world.proofs.OneSite.{put_back, stamp_left}
 use Rattle.dt_world.proofs.Rule1Submit.{SubmitsAt, may_wait, submit_fits, submit_place, submit_rank, submit_refused, submits_at, waits_made}
 use Rattle.dt_world.proofs.WorldFacts.{HasRead, has_next_call, has_read, next_of, some_sessions, stands_again, steps_few}
@@ -11,13 +12,13 @@ use Rattle.dt_world.proofs.world.World.submit.Given.{Over}
 use Rattle.dt_world.proofs.world.World.submit.Goals as goal
 use Rattle.dt_world.proofs.world.World.submit.Goals.{After-index_mut, After-index_mut-2, After-site}
 
--- what the call reads at the region
-read : (g : Over) (c : After-site g) →
-    HasRead c.self.inside.sessions.items c.self.inside.sites.items c.args.region c.args.name.now c.index-sessions.result.now
-    (last_here c.index-sessions.result.now c.site.inside.region.state c.args.name.now)
-read g c =
+-- what the call reads at the region of a session
+read : (g : Over) (c : After-site g) (name : Bytes) →
+    HasRead c.self.inside.sessions.items c.self.inside.sites.items c.args.region name c.index-sessions.result.now
+    (last_here c.index-sessions.result.now c.site.inside.region.state name)
+read g c name =
     let site = behind (a_site c.self.invariant c.if-region-self.false) c.index-site.ensures c.site.view_is in
-    has_read (some_sessions c.self.invariant c.self.view_is c.if-region-self.false) c.index-sessions.ensures site c.args.name.now refl
+    has_read (some_sessions c.self.invariant c.self.view_is c.if-region-self.false) c.index-sessions.ensures site name refl
 
 -- what the session submits next, at the region's site
 submits : (g : Over) (c : After-index_mut g) →
@@ -28,7 +29,7 @@ submits g c =
     let name = c.args.name.now in
     let site = behind (a_site c.self.invariant c.if-region-self.false) c.index-site.ensures c.site.view_is in
     let seen = has_read (some_sessions c.self.invariant c.self.view_is c.if-region-self.false) c.index-sessions.ensures site name {last = last_here c.index-sessions.result.now c.site.inside.region.state name} refl in
-    let here = subst (IsNextHere c.index-sessions.result.now c.site.inside.region.state name) c.in-Some-next.is c.in_ok-next.ensures in
+    let here = subst (IsNextHere c.index-sessions.result.now c.site.inside.region.state name) c.in-Some-next.is (c.in_ok-next.ensures.next name c.in-Some.ensures) in
     submits_at c.self.invariant c.if-region-self.false name c.index_mut.ensures.value
     (next_of c.self.invariant c.if-region-self.false name c.site.inside.region.state seen (Some (c.in-Some-next.origin, c.in-Some-next.rank, c.in-Some-next.body)) here)
 
@@ -41,14 +42,14 @@ stands g c =
 pub index-site-requires : goal.index-site-requires
 index-site-requires g c = let here : c.args.region < length c.self.inside.sites.items = a_site c.self.invariant c.if-region-self.false in grind (arith, common_steps, here)
 
-pub next_attempt-requires-clause-calls : goal.next_attempt-requires-clause-calls
-next_attempt-requires-clause-calls g c = has_next_call c.self.invariant c.if-region-self.false c.args.name.now c.site.inside.region.state (read g c)
+pub next_attempt-requires : goal.next_attempt-requires
+next_attempt-requires g c name stands = has_next_call c.self.invariant c.if-region-self.false name c.site.inside.region.state (read g c name)
 
 pub returns-in_default-next : goal.returns-in_default-next
 returns-in_default-next g c =
     let name = c.args.name.now in
-    let here = subst (IsNextHere c.index-sessions.result.now c.site.inside.region.state name) c.in_default-next.is c.in_ok-next.ensures in
-    let none = next_of c.self.invariant c.if-region-self.false name c.site.inside.region.state (read g (goal.at.returns-in_default-next g c).After-site) None here in
+    let here = subst (IsNextHere c.index-sessions.result.now c.site.inside.region.state name) c.in_default-next.is (c.in_ok-next.ensures.next name c.in-Some.ensures) in
+    let none = next_of c.self.invariant c.if-region-self.false name c.site.inside.region.state (read g (goal.at.returns-in_default-next g c).After-site name) None here in
     (refl, submit_refused c.args.region name c.self.view_is none, refl)
 
 pub index_mut-requires : goal.index_mut-requires
