@@ -20,7 +20,8 @@ use Rattle.dt_eval.specs.declared.finish.Finish.{Finish}
 use Rattle.dt_eval.specs.declared.finish.Finish.TheVariants.{Gave, Aborted}
 use Rattle.dt_eval.specs.declared.state.Datum.{Datum}
 use Rattle.dt_eval.specs.declared.state.Datum.TheVariants.{Int, Text, Bool as Truth}
-use Rattle.dt_eval.specs.Data.{RunState, unless_aborted, datum_of, sort_of_datum, stored, row_at, with_variable, with_row_value, with_given, leaving}
+use Rattle.dt_proc.specs.AfterOk.{after_ok}
+use Rattle.dt_eval.specs.Data.{RunState, datum_of, sort_of_datum, stored, row_at, with_variable, with_row_value, with_given, leaving}
 use Rattle.dt_eval.specs.Expressions.{in_range, operate, decides, variable_in, number_in, text_in, byte_count, printed_datum, negated, other_truth, evaluated}
 use Rattle.dt_eval.specs.Statements.{value_now, after_gifts, chosen, after_step, after_block}
 use Rattle.dt_eval.specs.Meaning.{Fits, names_of, run_opening, finish_of, meaning}
@@ -54,7 +55,7 @@ not_decided o a false e n x y = ap (λ b. cond b x y) e
 
 -- what a binary expression gives, by what its right side gives and what its left side gave
 abbrev after_left : Op → Result Datum Cause → Result Datum Cause → Result Datum Cause
-after_left o right left = unless_aborted left (λ a. cond (decides o a) (Ok a) (unless_aborted right (operate o a)))
+after_left o right left = after_ok left (λ a. cond (decides o a) (Ok a) (after_ok right (operate o a)))
 
 pub value_is : (variables : List Datum) (rows : ℕ → Option Value) (f : ExprTree) (r : Result Datum Cause) → GivesDatum variables rows f r → evaluated variables rows f ≡ r
 value_is variables rows _ _ (a_number z) = refl
@@ -67,24 +68,24 @@ value_is variables rows _ _ (a_row_text k t e) = ap text_in e
 value_is variables rows _ _ (no_row_text k n) = no_text (rows k) n
 value_is variables rows _ _ (a_value k v e) = ap (λ o. Ok (Truth (is_some o))) e
 value_is variables rows _ _ (no_value k e) = ap (λ o. Ok (Truth (is_some o))) e
-value_is variables rows _ _ (a_length f t g) = ap (λ r. unless_aborted r byte_count) (value_is variables rows f _ g)
-value_is variables rows _ _ (no_length f c g) = ap (λ r. unless_aborted r byte_count) (value_is variables rows f _ g)
-value_is variables rows _ _ (a_printed f z g) = ap (λ r. unless_aborted r printed_datum) (value_is variables rows f _ g)
-value_is variables rows _ _ (no_printed f c g) = ap (λ r. unless_aborted r printed_datum) (value_is variables rows f _ g)
-value_is variables rows _ _ (a_negative f z r g h) = ap (λ r. unless_aborted r negated) (value_is variables rows f _ g) ∙ (ranged (neg_ℤ z)).1 r h
-value_is variables rows _ _ (no_negative f c g) = ap (λ r. unless_aborted r negated) (value_is variables rows f _ g)
-value_is variables rows _ _ (an_opposite f b g) = ap (λ r. unless_aborted r other_truth) (value_is variables rows f _ g)
-value_is variables rows _ _ (no_opposite f c g) = ap (λ r. unless_aborted r other_truth) (value_is variables rows f _ g)
+value_is variables rows _ _ (a_length f t g) = ap (λ r. after_ok r byte_count) (value_is variables rows f _ g)
+value_is variables rows _ _ (no_length f c g) = ap (λ r. after_ok r byte_count) (value_is variables rows f _ g)
+value_is variables rows _ _ (a_printed f z g) = ap (λ r. after_ok r printed_datum) (value_is variables rows f _ g)
+value_is variables rows _ _ (no_printed f c g) = ap (λ r. after_ok r printed_datum) (value_is variables rows f _ g)
+value_is variables rows _ _ (a_negative f z r g h) = ap (λ r. after_ok r negated) (value_is variables rows f _ g) ∙ (ranged (neg_ℤ z)).1 r h
+value_is variables rows _ _ (no_negative f c g) = ap (λ r. after_ok r negated) (value_is variables rows f _ g)
+value_is variables rows _ _ (an_opposite f b g) = ap (λ r. after_ok r other_truth) (value_is variables rows f _ g)
+value_is variables rows _ _ (no_opposite f c g) = ap (λ r. after_ok r other_truth) (value_is variables rows f _ g)
 value_is variables rows _ _ (left_aborts o f g c h) = ap (after_left o (evaluated variables rows g)) (value_is variables rows f _ h)
 value_is variables rows _ _ (left_decides o f g a h d) =
     ap (after_left o (evaluated variables rows g)) (value_is variables rows f _ h)
-    ∙ ap (λ b. cond b (Ok a) (unless_aborted (evaluated variables rows g) (operate o a))) (decides_is o a d)
+    ∙ ap (λ b. cond b (Ok a) (after_ok (evaluated variables rows g) (operate o a))) (decides_is o a d)
 value_is variables rows _ _ (right_aborts o f g a c h n k) =
     ap (after_left o (evaluated variables rows g)) (value_is variables rows f _ h)
-    ∙ not_decided o a (decides o a) refl n (Ok a) (unless_aborted (evaluated variables rows g) (operate o a)) ∙ ap (λ r. unless_aborted r (operate o a)) (value_is variables rows g _ k)
+    ∙ not_decided o a (decides o a) refl n (Ok a) (after_ok (evaluated variables rows g) (operate o a)) ∙ ap (λ r. after_ok r (operate o a)) (value_is variables rows g _ k)
 value_is variables rows _ _ (of_both o f g a b r h n k m) =
     ap (after_left o (evaluated variables rows g)) (value_is variables rows f _ h)
-    ∙ not_decided o a (decides o a) refl n (Ok a) (unless_aborted (evaluated variables rows g) (operate o a)) ∙ ap (λ r. unless_aborted r (operate o a)) (value_is variables rows g _ k) ∙ operate_is o a b r m
+    ∙ not_decided o a (decides o a) refl n (Ok a) (after_ok (evaluated variables rows g) (operate o a)) ∙ ap (λ r. after_ok r (operate o a)) (value_is variables rows g _ k) ∙ operate_is o a b r m
 
 -- from the function to the cases
 
@@ -107,38 +108,38 @@ module _ (variables : List Datum) (rows : ℕ → Option Value) where
   at_value k None e = no_value k e
   at_value k (Some v) e = a_value k v e
 
-  at_length : (f : ExprTree) (r : Result Datum Cause) → GivesDatum variables rows f r → GivesSort sort.Text r → GivesDatum variables rows (length_of f) (unless_aborted r byte_count)
+  at_length : (f : ExprTree) (r : Result Datum Cause) → GivesDatum variables rows f r → GivesSort sort.Text r → GivesDatum variables rows (length_of f) (after_ok r byte_count)
   at_length f (Ok (Text t)) g s = a_length f t g
   at_length f (Ok (Int z)) g s = cc
   at_length f (Ok (Truth b)) g s = cc
   at_length f (Err c) g s = no_length f c g
 
-  at_printed : (f : ExprTree) (r : Result Datum Cause) → GivesDatum variables rows f r → GivesSort sort.Int r → GivesDatum variables rows (shown f) (unless_aborted r printed_datum)
+  at_printed : (f : ExprTree) (r : Result Datum Cause) → GivesDatum variables rows f r → GivesSort sort.Int r → GivesDatum variables rows (shown f) (after_ok r printed_datum)
   at_printed f (Ok (Int z)) g s = a_printed f z g
   at_printed f (Ok (Text t)) g s = cc
   at_printed f (Ok (Truth b)) g s = cc
   at_printed f (Err c) g s = no_printed f c g
 
-  at_negative : (f : ExprTree) (r : Result Datum Cause) → GivesDatum variables rows f r → GivesSort sort.Int r → GivesDatum variables rows (negative f) (unless_aborted r negated)
+  at_negative : (f : ExprTree) (r : Result Datum Cause) → GivesDatum variables rows f r → GivesSort sort.Int r → GivesDatum variables rows (negative f) (after_ok r negated)
   at_negative f (Ok (Int z)) g s = a_negative f z (in_range (neg_ℤ z)) g (ranged (neg_ℤ z)).0
   at_negative f (Ok (Text t)) g s = cc
   at_negative f (Ok (Truth b)) g s = cc
   at_negative f (Err c) g s = no_negative f c g
 
-  at_opposite : (f : ExprTree) (r : Result Datum Cause) → GivesDatum variables rows f r → GivesSort sort.Bool r → GivesDatum variables rows (opposite f) (unless_aborted r other_truth)
+  at_opposite : (f : ExprTree) (r : Result Datum Cause) → GivesDatum variables rows f r → GivesSort sort.Bool r → GivesDatum variables rows (opposite f) (after_ok r other_truth)
   at_opposite f (Ok (Truth b)) g s = an_opposite f b g
   at_opposite f (Ok (Int z)) g s = cc
   at_opposite f (Ok (Text t)) g s = cc
   at_opposite f (Err c) g s = no_opposite f c g
 
   at_right : (o : Op) (f g : ExprTree) (a : Datum) (t : Sort) (r : Result Datum Cause) → TakesSort o t → GivesDatum variables rows f (Ok a) → sort_of_datum a ≡ t → GivesDatum variables rows g r → GivesSort t r →
-      (b : Bool) → decides o a ≡ b → GivesDatum variables rows (binary o f g) (cond b (Ok a) (unless_aborted r (operate o a)))
+      (b : Bool) → decides o a ≡ b → GivesDatum variables rows (binary o f g) (cond b (Ok a) (after_ok r (operate o a)))
   at_right o f g a t r k h p m q true e = left_decides o f g a h (is_decides o a e)
   at_right o f g a t (Ok b) k h p m q false e = of_both o f g a b (operate o a b) h (λ d. true≢false (sym (decides_is o a d) ∙ e)) m (is_operate o a b t k p q)
   at_right o f g a t (Err c) k h p m q false e = right_aborts o f g a c h (λ d. true≢false (sym (decides_is o a d) ∙ e)) m
 
   at_binary : (o : Op) (f g : ExprTree) (t : Sort) (x y : Result Datum Cause) → TakesSort o t → GivesDatum variables rows f x → GivesSort t x → GivesDatum variables rows g y → GivesSort t y →
-      GivesDatum variables rows (binary o f g) (unless_aborted x (λ a. cond (decides o a) (Ok a) (unless_aborted y (operate o a))))
+      GivesDatum variables rows (binary o f g) (after_ok x (λ a. cond (decides o a) (Ok a) (after_ok y (operate o a))))
   at_binary o f g t (Ok a) y k h p m q = at_right o f g a t y k h p m q (decides o a) refl
   at_binary o f g t (Err c) y k h p m q = left_aborts o f g c h
 
@@ -169,7 +170,7 @@ module _ (names : List Bytes) where
 
   -- the state behind an item of a value, by what its expression gave
   abbrev after_item : List GiveTree → RunState → Result Datum Cause → Result RunState Cause
-  after_item gs s given = unless_aborted (unless_aborted (unless_aborted given (λ d. Ok (stored d))) (λ v. Ok (with_given v s))) (after_gifts names gs)
+  after_item gs s given = after_ok (after_ok (after_ok given (λ d. Ok (stored d))) (λ v. Ok (with_given v s))) (after_gifts names gs)
 
   gifts_is : (s : RunState) (gs : List GiveTree) (r : Result RunState Cause) → Hands names s gs r → after_gifts names gs s ≡ r
   gifts_is _ _ _ (nothing s) = refl
@@ -181,10 +182,10 @@ module _ (names : List Bytes) where
 
   mutual
     step_is : (s : RunState) (st : StmtTree) (r : Result RunState Cause) → Does names s st r → after_step names st s ≡ r
-    step_is _ _ _ (lets s f d g) = ap (λ x. unless_aborted x (λ d. Ok (with_variable d s))) (now_is s f (Ok d) g)
-    step_is _ _ _ (no_let s f c g) = ap (λ x. unless_aborted x (λ d. Ok (with_variable d s))) (now_is s f (Err c) g)
-    step_is _ _ _ (sets s k f v g) = ap (λ x. unless_aborted x (λ d. Ok (with_row_value names k (stored d) s))) (now_is s f (Ok (datum_of v)) g) ∙ ap (λ x. Ok (with_row_value names k x s)) (stored_is v)
-    step_is _ _ _ (no_set s k f c g) = ap (λ x. unless_aborted x (λ d. Ok (with_row_value names k (stored d) s))) (now_is s f (Err c) g)
+    step_is _ _ _ (lets s f d g) = ap (λ x. after_ok x (λ d. Ok (with_variable d s))) (now_is s f (Ok d) g)
+    step_is _ _ _ (no_let s f c g) = ap (λ x. after_ok x (λ d. Ok (with_variable d s))) (now_is s f (Err c) g)
+    step_is _ _ _ (sets s k f v g) = ap (λ x. after_ok x (λ d. Ok (with_row_value names k (stored d) s))) (now_is s f (Ok (datum_of v)) g) ∙ ap (λ x. Ok (with_row_value names k x s)) (stored_is v)
+    step_is _ _ _ (no_set s k f c g) = ap (λ x. after_ok x (λ d. Ok (with_row_value names k (stored d) s))) (now_is s f (Err c) g)
     step_is _ _ _ (clears s k) = refl
     step_is _ _ _ (first_block s f a b r g h) =
         ap (after_choice names a b s) (now_is s f (Ok (Truth true)) g) ∙ ap (leaving s.variables) (block_is s a r h)
@@ -196,8 +197,8 @@ module _ (names : List Bytes) where
 
     block_is : (s : RunState) (b : BlockTree) (r : Result RunState Cause) → Runs names s b r → after_block names b s ≡ r
     block_is _ _ _ (at_end s) = refl
-    block_is _ _ _ (goes_on s t st rest r h k) = ap (λ x. unless_aborted x (after_block names rest)) (step_is s st (Ok t) h) ∙ block_is t rest r k
-    block_is _ _ _ (stops s st rest c h) = ap (λ x. unless_aborted x (after_block names rest)) (step_is s st (Err c) h)
+    block_is _ _ _ (goes_on s t st rest r h k) = ap (λ x. after_ok x (after_block names rest)) (step_is s st (Ok t) h) ∙ block_is t rest r k
+    block_is _ _ _ (stops s st rest c h) = ap (λ x. after_ok x (after_block names rest)) (step_is s st (Err c) h)
 
   -- where statements are sound, the cases lead to what the function gives
 
@@ -209,7 +210,7 @@ module _ (names : List Bytes) where
 
   at_item : (s : RunState) (f : ExprTree) (gs : List GiveTree) (x : Sort) → IsStoredSort x → (r : Result Datum Cause) → GivesNow names s f r → GivesSort x r →
       ((v : Option Value) → Hands names (with_given v s) gs (after_gifts names gs (with_given v s))) →
-      Hands names s (value f ∷ gs) (unless_aborted (unless_aborted (unless_aborted r (λ d. Ok (stored d))) (λ v. Ok (with_given v s))) (after_gifts names gs))
+      Hands names s (value f ∷ gs) (after_ok (after_ok (after_ok r (λ d. Ok (stored d))) (λ v. Ok (with_given v s))) (after_gifts names gs))
   at_item s f gs x k (Ok (Int z)) g q later = an_item s f (val.Int z) gs _ g (later (Some (val.Int z)))
   at_item s f gs x k (Ok (Text t)) g q later = an_item s f (val.Text t) gs _ g (later (Some (val.Text t)))
   at_item s f gs x (inl e) (Ok (Truth b)) g q later = let bad : sort.Bool ≡ sort.Int = q ∙ e in cc
@@ -222,12 +223,12 @@ module _ (names : List Bytes) where
   is_gifts writes (value f ∷ gs) s all =
       at_item s f gs all.0.0 all.0.1 (value_now names s f) (is_now s writes f all.0.0 all.0.2) (now_sort s writes f all.0.0 all.0.2) (λ v. is_gifts writes gs (with_given v s) all.1)
 
-  at_let : (s : RunState) (f : ExprTree) (r : Result Datum Cause) → GivesNow names s f r → Does names s (let_new f) (unless_aborted r (λ d. Ok (with_variable d s)))
+  at_let : (s : RunState) (f : ExprTree) (r : Result Datum Cause) → GivesNow names s f r → Does names s (let_new f) (after_ok r (λ d. Ok (with_variable d s)))
   at_let s f (Ok d) g = lets s f d g
   at_let s f (Err c) g = no_let s f c g
 
   at_set : (s : RunState) (k : ℕ) (f : ExprTree) (x : Sort) → IsStoredSort x → (r : Result Datum Cause) → GivesNow names s f r → GivesSort x r
-      → Does names s (set_row k f) (unless_aborted r (λ d. Ok (with_row_value names k (stored d) s)))
+      → Does names s (set_row k f) (after_ok r (λ d. Ok (with_row_value names k (stored d) s)))
   at_set s k f x i (Ok (Int z)) g q = sets s k f (val.Int z) g
   at_set s k f x i (Ok (Text t)) g q = sets s k f (val.Text t) g
   at_set s k f x (inl e) (Ok (Truth b)) g q = let bad : sort.Bool ≡ sort.Int = q ∙ e in cc
@@ -235,7 +236,7 @@ module _ (names : List Bytes) where
   at_set s k f x i (Err c) g q = no_set s k f c g
 
   at_choice : (s : RunState) (f : ExprTree) (a b : BlockTree) (x y : Result RunState Cause) → Runs names s a x → Runs names s b y → (r : Result Datum Cause) → GivesNow names s f r → GivesSort sort.Bool r →
-      Does names s (choose f a b) (unless_aborted r (λ d. leaving s.variables (chosen d x y)))
+      Does names s (choose f a b) (after_ok r (λ d. leaving s.variables (chosen d x y)))
   at_choice s f a b x y h k (Ok (Truth true)) g q = first_block s f a b x g h
   at_choice s f a b x y h k (Ok (Truth false)) g q = second_block s f a b y g k
   at_choice s f a b x y h k (Ok (Int z)) g q = cc
@@ -243,7 +244,7 @@ module _ (names : List Bytes) where
   at_choice s f a b x y h k (Err c) g q = no_choice s f a b c g
 
   at_step : (s : RunState) (st : StmtTree) (rest : BlockTree) (r : Result RunState Cause) → Does names s st r →
-      ((t : RunState) → r ≡ Ok t → Runs names t rest (after_block names rest t)) → Runs names s (then st rest) (unless_aborted r (after_block names rest))
+      ((t : RunState) → r ≡ Ok t → Runs names t rest (after_block names rest t)) → Runs names s (then st rest) (after_ok r (after_block names rest))
   at_step s st rest (Ok t) h k = goes_on s t st rest _ h (k t refl)
   at_step s st rest (Err c) h k = stops s st rest c h
 

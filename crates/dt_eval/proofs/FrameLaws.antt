@@ -17,7 +17,8 @@ use Rattle.dt_eval.specs.declared.finish.Cause.{Cause}
 use Rattle.dt_eval.specs.declared.state.Datum.{Datum}
 use Rattle.dt_eval.specs.declared.state.Datum.TheVariants.{Bool as Truth}
 use Rattle.dt_eval.specs.declared.frame.Frame.{Frame}
-use Rattle.dt_eval.specs.Data.{RunState, unless_aborted, sort_of_datum, stored, row_at, with_variable, with_row_value, with_given, leaving}
+use Rattle.dt_proc.specs.AfterOk.{after_ok}
+use Rattle.dt_eval.specs.Data.{RunState, sort_of_datum, stored, row_at, with_variable, with_row_value, with_given, leaving}
 use Rattle.dt_eval.specs.Statements.{value_now, gift_value, after_gift, after_gifts, chosen, after_step, after_block}
 use Rattle.dt_eval.specs.FrameInner.{seen, HasSortIn, IsSorted, IsSoundStep, IsSoundBlock, GivesSort}
 use Rattle.dt_eval.proofs.SortLaws.{sort_kept}
@@ -46,11 +47,11 @@ abbrev pub LeadsTo : (RunState → Type 0) → Result RunState Cause → Type 0
 LeadsTo P (Ok t) = P t
 LeadsTo P (Err c) = Unit {0}
 
-after_value : {A : Type 0} (P : RunState → Type 0) (r : Result A Cause) (f : A → Result RunState Cause) → ((d : A) → r ≡ Ok d → LeadsTo P (f d)) → LeadsTo P (unless_aborted r f)
+after_value : {A : Type 0} (P : RunState → Type 0) (r : Result A Cause) (f : A → Result RunState Cause) → ((d : A) → r ≡ Ok d → LeadsTo P (f d)) → LeadsTo P (after_ok r f)
 after_value P (Ok d) f k = k d refl
 after_value P (Err c) f k = tt
 
-after_state : (P : RunState → Type 0) (r : Result RunState Cause) (f : RunState → Result RunState Cause) → LeadsTo P r → ((t : RunState) → P t → LeadsTo P (f t)) → LeadsTo P (unless_aborted r f)
+after_state : (P : RunState → Type 0) (r : Result RunState Cause) (f : RunState → Result RunState Cause) → LeadsTo P r → ((t : RunState) → P t → LeadsTo P (f t)) → LeadsTo P (after_ok r f)
 after_state P (Ok t) f l k = k t l
 after_state P (Err c) f l k = tt
 
@@ -119,7 +120,7 @@ drop_step xs i x below is =
 
 -- the state behind a choice, by what its condition gave
 abbrev pub after_choice : List Bytes → BlockTree → BlockTree → RunState → Result Datum Cause → Result RunState Cause
-after_choice names a b s given = unless_aborted given (λ d. leaving s.variables (chosen d (after_block names a s) (after_block names b s)))
+after_choice names a b s given = after_ok given (λ d. leaving s.variables (chosen d (after_block names a s) (after_block names b s)))
 
 -- a choice by a truth
 pub choose_by : (names : List Bytes) (e : ExprTree) (a b : BlockTree) (s t : RunState) (truth : Bool) (d : Datum) (vs : List Datum) → value_now names s e ≡ Ok d → d ≡ Truth truth → after_block names (cond truth a b) s ≡ Ok t →

@@ -18,7 +18,8 @@ use Rattle.dt_eval.specs.declared.finish.Cause.{Cause}
 use Rattle.dt_eval.specs.declared.state.Datum.{Datum}
 use Rattle.dt_eval.specs.declared.state.Datum.TheVariants.{Int, Text, Bool as Truth}
 use Rattle.dt_eval.specs.declared.state.Row.{Row}
-use Rattle.dt_eval.specs.Data.{RunState, unless_aborted, stored, declared_key, changed, with_value, with_variable, with_row_value, with_given, leaving}
+use Rattle.dt_proc.specs.AfterOk.{after_ok}
+use Rattle.dt_eval.specs.Data.{RunState, stored, declared_key, changed, with_value, with_variable, with_row_value, with_given, leaving}
 use Rattle.dt_eval.specs.Statements.{value_now, gift_value, after_gift, after_gifts, chosen, after_step, after_block}
 use Rattle.dt_eval.specs.Meaning.{unchanged, writes_of}
 
@@ -56,11 +57,11 @@ Keeps P (Ok s) = P s.rows
 Keeps P (Err c) = Unit {0}
 
 module _ (names : List Bytes) (P : List Row → Type 0) (A : ℕ → Type 0) (keeps : (k : ℕ) (v : Option Value) (rows : List Row) → A k → P rows → P (with_value (declared_key names k) v rows)) where
-  on_value : (r : Result Datum Cause) (f : Datum → Result RunState Cause) → ((d : Datum) → Keeps P (f d)) → Keeps P (unless_aborted r f)
+  on_value : (r : Result Datum Cause) (f : Datum → Result RunState Cause) → ((d : Datum) → Keeps P (f d)) → Keeps P (after_ok r f)
   on_value (Ok d) f k = k d
   on_value (Err c) f k = tt
 
-  on_state : (r : Result RunState Cause) (f : RunState → Result RunState Cause) → Keeps P r → ((s : RunState) → P s.rows → Keeps P (f s)) → Keeps P (unless_aborted r f)
+  on_state : (r : Result RunState Cause) (f : RunState → Result RunState Cause) → Keeps P r → ((s : RunState) → P s.rows → Keeps P (f s)) → Keeps P (after_ok r f)
   on_state (Ok s) f p k = k s p
   on_state (Err c) f p k = tt
 
@@ -77,7 +78,7 @@ module _ (names : List Bytes) (P : List Row → Type 0) (A : ℕ → Type 0) (ke
   gift_keeps : (g : GiveTree) (s : RunState) → P s.rows → Keeps P (after_gift names g s)
   gift_keeps g s p = go (gift_value names g s)
     where
-      go : (r : Result (Option Value) Cause) → Keeps P (unless_aborted r (λ v. Ok (with_given v s)))
+      go : (r : Result (Option Value) Cause) → Keeps P (after_ok r (λ v. Ok (with_given v s)))
       go (Ok v) = p
       go (Err c) = tt
 

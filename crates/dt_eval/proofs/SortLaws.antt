@@ -16,7 +16,8 @@ use Rattle.dt_eval.specs.declared.finish.Cause.{Cause}
 use Rattle.dt_eval.specs.declared.finish.Cause.TheVariants as cause
 use Rattle.dt_eval.specs.declared.state.Datum.{Datum}
 use Rattle.dt_eval.specs.declared.state.Datum.TheVariants.{Int, Text, Bool as Truth}
-use Rattle.dt_eval.specs.Data.{row_at, unless_aborted, sort_of_datum}
+use Rattle.dt_proc.specs.AfterOk.{after_ok}
+use Rattle.dt_eval.specs.Data.{row_at, sort_of_datum}
 use Rattle.dt_eval.specs.Expressions.{in_range, is_small, is_zero, of_numbers, of_texts, of_truths, operate, decides, variable_in, number_in, text_in}
 use Rattle.dt_eval.specs.Expressions.{byte_count, printed_datum, negated, other_truth, evaluated}
 use Rattle.dt_eval.specs.declared.frame.Frame.{Frame}
@@ -108,7 +109,7 @@ other_sort (Int z) = tt
 other_sort (Text t) = tt
 other_sort (Truth b) = refl
 
-after : (s : Sort) (r : Result Datum Cause) (f : Datum → Result Datum Cause) → ((d : Datum) → GivesSort s (f d)) → GivesSort s (unless_aborted r f)
+after : (s : Sort) (r : Result Datum Cause) (f : Datum → Result Datum Cause) → ((d : Datum) → GivesSort s (f d)) → GivesSort s (after_ok r f)
 after s (Ok d) f k = k d
 after s (Err c) f k = tt
 
@@ -124,14 +125,14 @@ sort_kept variables row keys (variable n) s h = variable_sort s (slice_get varia
 sort_kept variables row keys (number_of k) s h = as_wanted s sort.Int (number_in (row k)) h.0 (number_sort (row k))
 sort_kept variables row keys (text_of k) s h = as_wanted s sort.Text (text_in (row k)) h.0 (text_sort (row k))
 sort_kept variables row keys (has_value k) s h = sym h.0
-sort_kept variables row keys (length_of f) s h = as_wanted s sort.Int (unless_aborted (evaluated variables row f) byte_count) h.0 (after sort.Int (evaluated variables row f) byte_count count_sort)
-sort_kept variables row keys (shown f) s h = as_wanted s sort.Text (unless_aborted (evaluated variables row f) printed_datum) h.0 (after sort.Text (evaluated variables row f) printed_datum printed_sort)
-sort_kept variables row keys (negative f) s h = as_wanted s sort.Int (unless_aborted (evaluated variables row f) negated) h.0 (after sort.Int (evaluated variables row f) negated negated_sort)
-sort_kept variables row keys (opposite f) s h = as_wanted s sort.Bool (unless_aborted (evaluated variables row f) other_truth) h.0 (after sort.Bool (evaluated variables row f) other_truth other_sort)
+sort_kept variables row keys (length_of f) s h = as_wanted s sort.Int (after_ok (evaluated variables row f) byte_count) h.0 (after sort.Int (evaluated variables row f) byte_count count_sort)
+sort_kept variables row keys (shown f) s h = as_wanted s sort.Text (after_ok (evaluated variables row f) printed_datum) h.0 (after sort.Text (evaluated variables row f) printed_datum printed_sort)
+sort_kept variables row keys (negative f) s h = as_wanted s sort.Int (after_ok (evaluated variables row f) negated) h.0 (after sort.Int (evaluated variables row f) negated negated_sort)
+sort_kept variables row keys (opposite f) s h = as_wanted s sort.Bool (after_ok (evaluated variables row f) other_truth) h.0 (after sort.Bool (evaluated variables row f) other_truth other_sort)
 sort_kept variables row keys (binary o f g) s h =
     as_wanted s (sort_given o) (evaluated variables row (binary o f g)) h.4
-    (after (sort_given o) (evaluated variables row f) (λ a. cond (decides o a) (Ok a) (unless_aborted (evaluated variables row g) (operate o a)))
-    (λ a. decided o a (decides o a) refl (unless_aborted (evaluated variables row g) (operate o a)) (after (sort_given o) (evaluated variables row g) (operate o a) (operate_sort o a))))
+    (after (sort_given o) (evaluated variables row f) (λ a. cond (decides o a) (Ok a) (after_ok (evaluated variables row g) (operate o a)))
+    (λ a. decided o a (decides o a) refl (after_ok (evaluated variables row g) (operate o a)) (after (sort_given o) (evaluated variables row g) (operate o a) (operate_sort o a))))
   where
     decided : (o : Op) (a : Datum) (b : Bool) → decides o a ≡ b → (r : Result Datum Cause) → GivesSort (sort_given o) r → GivesSort (sort_given o) (cond b (Ok a) r)
     decided o a true e r g = decides_sort o a e

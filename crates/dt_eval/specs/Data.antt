@@ -11,11 +11,6 @@ use Rattle.dt_eval.specs.declared.state.Datum.{Datum}
 use Rattle.dt_eval.specs.declared.state.Datum.TheVariants.{Int, Text, Bool as Truth}
 use Rattle.dt_eval.specs.declared.state.Row.{Row}
 
--- goes on with what was given; an abort stays an abort
-abbrev pub unless_aborted : {A B : Type 0} → Result A Cause → (A → Result B Cause) → Result B Cause
-unless_aborted (Ok a) f = f a
-unless_aborted (Err c) f = Err c
-
 -- the sort of what an expression gave
 abbrev pub sort_of_datum : Datum → Sort
 sort_of_datum (Int z) = sort.Int

@@ -17,7 +17,7 @@ use Rattle.dt_eval.specs.declared.finish.Cause.{Cause}
 use Rattle.dt_eval.specs.declared.finish.Cause.TheVariants as cause
 use Rattle.dt_eval.specs.declared.state.Datum.{Datum}
 use Rattle.dt_eval.specs.declared.state.Datum.TheVariants.{Int, Text, Bool as Truth}
-use Rattle.dt_eval.specs.Data.{unless_aborted}
+use Rattle.dt_proc.specs.AfterOk.{after_ok}
 
 -- whether a number has 64 bits with a sign
 abbrev pub is_small : ℤ → Bool
@@ -140,9 +140,9 @@ evaluated variables row (variable n) = variable_in (slice_get variables n)
 evaluated variables row (number_of k) = number_in (row k)
 evaluated variables row (text_of k) = text_in (row k)
 evaluated variables row (has_value k) = Ok (Truth (is_some (row k)))
-evaluated variables row (length_of f) = unless_aborted (evaluated variables row f) byte_count
-evaluated variables row (shown f) = unless_aborted (evaluated variables row f) printed_datum
-evaluated variables row (negative f) = unless_aborted (evaluated variables row f) negated
-evaluated variables row (opposite f) = unless_aborted (evaluated variables row f) other_truth
+evaluated variables row (length_of f) = after_ok (evaluated variables row f) byte_count
+evaluated variables row (shown f) = after_ok (evaluated variables row f) printed_datum
+evaluated variables row (negative f) = after_ok (evaluated variables row f) negated
+evaluated variables row (opposite f) = after_ok (evaluated variables row f) other_truth
 evaluated variables row (binary o f g) =
-    unless_aborted (evaluated variables row f) (λ a. cond (decides o a) (Ok a) (unless_aborted (evaluated variables row g) (operate o a)))
+    after_ok (evaluated variables row f) (λ a. cond (decides o a) (Ok a) (after_ok (evaluated variables row g) (operate o a)))

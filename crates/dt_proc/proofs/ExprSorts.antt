@@ -14,7 +14,8 @@ use Rattle.dt_proc.specs.declared.error.ProcError.TheVariants as fault
 use Rattle.dt_proc.specs.Names.{Scope, entry_of, meaning_in, as_entry, as_key_entry}
 use Rattle.dt_proc.specs.Sound.{TakesSort, sort_given, HasSort, IsStoredSort}
 use Rattle.dt_proc.specs.Tree as tree
-use Rattle.dt_proc.specs.SecondPass.{Checked, Typed, after_ok, same_sort, needs, needs_stored, fits_both, combined, as_variable, as_key, as_written, key_of, read_by, made_by, check, check_links}
+use Rattle.dt_proc.specs.AfterOk.{after_ok}
+use Rattle.dt_proc.specs.SecondPass.{Checked, Typed, same_sort, needs, needs_stored, fits_both, combined, as_variable, as_key, as_written, key_of, read_by, made_by, check, check_links}
 use Rattle.dt_syntax.specs.Grammar.{at, Syntax, chain, minus, denial, int, text, truth, name, parens, of_key, made, Links, no_link, link, syntax_tokens}
 use Rattle.dt_syntax.specs.Grammar.{links_tokens, Reader, reads_int, reads_text, reads_presence, Maker, makes_length, makes_text}
 use Rattle.dt_syntax.specs.Limits.{AllSound}

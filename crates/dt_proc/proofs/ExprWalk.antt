@@ -12,7 +12,8 @@ use Rattle.dt_proc.specs.declared.error.ProcError.TheVariants as fault
 use Rattle.dt_proc.specs.Sound.{sort_given}
 use Rattle.dt_proc.specs.Tree as tree
 use Rattle.dt_proc.specs.Names.{Scope, meaning_in}
-use Rattle.dt_proc.specs.SecondPass.{Checked, Typed, after_ok, check, check_links, as_variable, key_of, made_by, fits_both}
+use Rattle.dt_proc.specs.AfterOk.{after_ok}
+use Rattle.dt_proc.specs.SecondPass.{Checked, Typed, check, check_links, as_variable, key_of, made_by, fits_both}
 use Rattle.dt_proc.specs.WalkInner.{WalkAnswers}
 use Rattle.dt_syntax.specs.Grammar.{at, Bracketed, bracketed_tokens, Syntax, chain, minus, denial, int, text, truth, name, parens, of_key, made, Links, no_link}
 use Rattle.dt_syntax.specs.Grammar.{link, syntax_tokens, links_tokens, level_of, IsLevel, AreLinks, reads_int, reads_text, reads_presence, makes_length}

@@ -19,7 +19,8 @@ use Rattle.dt_syntax.specs.Grammar.{Syntax, chain, minus, denial, int, text, tru
 use Rattle.dt_syntax.specs.Grammar.{makes_text, Param, Params, no_param, params, KeyPart, text_part, name_part, show_part, KeySyntax, Item, row_item}
 use Rattle.dt_syntax.specs.Grammar.{value_item, Statement, let_new, set_key, clear_key, when, choose, abort, give, Statements, nothing, first, ProcSyntax}
 use Rattle.dt_syntax.specs.Grammar.{front_place, param_kinds}
-use Rattle.dt_proc.specs.SecondPass.{Checked, Typed, after_ok, same_sort, needs, needs_stored, fits_both, combined, as_variable, as_key, as_written, is_unknown}
+use Rattle.dt_proc.specs.AfterOk.{after_ok}
+use Rattle.dt_proc.specs.SecondPass.{Checked, Typed, same_sort, needs, needs_stored, fits_both, combined, as_variable, as_key, as_written, is_unknown}
 use Rattle.dt_proc.specs.SecondPass.{as_new, as_param, key_of, read_by, made_by, check, check_links, check_item, check_items, check_all_items}
 use Rattle.dt_proc.specs.SecondPass.{with_new_variable, with_new_key, one_block, two_blocks, check_block, check_statement, check_part, check_parts, check_key}
 use Rattle.dt_proc.specs.SecondPass.{check_keys, check_param, check_more_params, check_params, check_proc, check_procs}

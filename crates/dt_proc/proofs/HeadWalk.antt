@@ -9,7 +9,8 @@ use Rattle.dt_proc.specs.declared.tree.KeyItem.{KeyItem}
 use Rattle.dt_proc.specs.declared.tree.KeyDecl.{KeyDecl}
 use Rattle.dt_proc.specs.declared.error.ProcError.{ProcError}
 use Rattle.dt_proc.specs.Names.{Scope}
-use Rattle.dt_proc.specs.SecondPass.{Checked, after_ok, check_param, check_more_params, check_part, check_parts, check_key, check_keys, with_new_key}
+use Rattle.dt_proc.specs.AfterOk.{after_ok}
+use Rattle.dt_proc.specs.SecondPass.{Checked, check_param, check_more_params, check_part, check_parts, check_key, check_keys, with_new_key}
 use Rattle.dt_proc.proofs.ExprSorts.{ok_same}
 use Rattle.dt_proc.proofs.ExprWalk.{one_more}
 use Rattle.dt_proc.specs.WalkInner.{WalkAnswers, left_with, key_told, keys_told, params_told}
@@ -76,19 +77,19 @@ pair_ok : (s : Scope) (a b : List KeyDecl) → a ≡ b → ◌≡◌ {A = Checke
 pair_ok s a b e = λ i. Ok (s, e i)
 
 keys_one : (t : Checked (List KeyDecl × Scope)) (keys : List KeyDecl) (d : KeyDecl) →
-    after_ok {A = List KeyDecl × Scope} {B = Scope × List KeyDecl}
-    (after_ok {A = List KeyDecl × Scope} {B = List KeyDecl × Scope} t (λ r. Ok (d ∷ r.0, r.1))) (λ r. Ok (r.1, keys ++ r.0))
-    ≡ after_ok {A = List KeyDecl × Scope} {B = Scope × List KeyDecl} t (λ r. Ok (r.1, (keys ++ d ∷ []) ++ r.0))
+    after_ok {A = List KeyDecl × Scope} {B = Scope × List KeyDecl} {E = ProcError}
+    (after_ok {A = List KeyDecl × Scope} {B = List KeyDecl × Scope} {E = ProcError} t (λ r. Ok (d ∷ r.0, r.1))) (λ r. Ok (r.1, keys ++ r.0))
+    ≡ after_ok {A = List KeyDecl × Scope} {B = Scope × List KeyDecl} {E = ProcError} t (λ r. Ok (r.1, (keys ++ d ∷ []) ++ r.0))
 keys_one (Ok r) keys d = pair_ok r.1 (keys ++ d ∷ r.0) ((keys ++ d ∷ []) ++ r.0) (sym (append_assoc keys (d ∷ []) r.0))
 keys_one (Err e) keys d = refl
 
 -- one key more
 keys_after : (scope : Scope) (keys : List KeyDecl) (k : KeySyntax) (more : List KeySyntax) (t : Checked KeyDecl) (one : Scope) (made : List KeyDecl) → check_key scope k ≡ t →
-    after_ok {A = KeyDecl} {B = Scope × List KeyDecl} t (λ d. Ok (with_new_key scope k.name k.write, keys ++ d ∷ [])) ≡ Ok (one, made) → keys_told scope keys (k ∷ more) ≡ keys_told one made more
+    after_ok {A = KeyDecl} {B = Scope × List KeyDecl} {E = ProcError} t (λ d. Ok (with_new_key scope k.name k.write, keys ++ d ∷ [])) ≡ Ok (one, made) → keys_told scope keys (k ∷ more) ≡ keys_told one made more
 keys_after scope keys k more (Err e) one made is told = absurd cc
 keys_after scope keys k more (Ok d) one made is told =
-    ap (λ t. after_ok {A = List KeyDecl × Scope} {B = Scope × List KeyDecl} (after_ok {A = KeyDecl} {B = List KeyDecl × Scope} t
-    (λ d. after_ok {A = List KeyDecl × Scope} {B = List KeyDecl × Scope} (check_keys (with_new_key scope k.name k.write) more)
+    ap (λ t. after_ok {A = List KeyDecl × Scope} {B = Scope × List KeyDecl} {E = ProcError} (after_ok {A = KeyDecl} {B = List KeyDecl × Scope} {E = ProcError} t
+    (λ d. after_ok {A = List KeyDecl × Scope} {B = List KeyDecl × Scope} {E = ProcError} (check_keys (with_new_key scope k.name k.write) more)
     (λ r. Ok (d ∷ r.0, r.1)))) (λ r. Ok (r.1, keys ++ r.0))) is
     ∙ keys_one (check_keys (with_new_key scope k.name k.write) more) keys d
     ∙ ap (λ (v : Scope × List KeyDecl). keys_told v.0 v.1 more) (ok_same {A = Scope × List KeyDecl} (with_new_key scope k.name k.write, keys ++ d ∷ []) (one, made) told)
@@ -99,11 +100,12 @@ keys_next scope one keys made all k more is told =
     ap (keys_told scope keys) is ∙ keys_after scope keys k more (check_key scope k) one made refl told
 
 key_err : (scope : Scope) (keys : List KeyDecl) (k : KeySyntax) (more : List KeySyntax) (t : Checked KeyDecl) (e : ProcError) → check_key scope k ≡ t →
-    ◌≡◌ {A = Checked (Scope × List KeyDecl)} (after_ok {A = KeyDecl} {B = Scope × List KeyDecl} t (λ d. Ok (with_new_key scope k.name k.write, keys ++ d ∷ []))) (Err e) → keys_told scope keys (k ∷ more) ≡ Err e
+    ◌≡◌ {A = Checked (Scope × List KeyDecl)} (after_ok {A = KeyDecl} {B = Scope × List KeyDecl} {E = ProcError} t (λ d. Ok (with_new_key scope k.name k.write, keys ++ d ∷ [])))
+    (Err e) → keys_told scope keys (k ∷ more) ≡ Err e
 key_err scope keys k more (Ok d) e is told = absurd cc
 key_err scope keys k more (Err f) e is told =
-    ap (λ t. after_ok {A = List KeyDecl × Scope} {B = Scope × List KeyDecl} (after_ok {A = KeyDecl} {B = List KeyDecl × Scope} t
-    (λ d. after_ok {A = List KeyDecl × Scope} {B = List KeyDecl × Scope} (check_keys (with_new_key scope k.name k.write) more)
+    ap (λ t. after_ok {A = List KeyDecl × Scope} {B = Scope × List KeyDecl} {E = ProcError} (after_ok {A = KeyDecl} {B = List KeyDecl × Scope} {E = ProcError} t
+    (λ d. after_ok {A = List KeyDecl × Scope} {B = List KeyDecl × Scope} {E = ProcError} (check_keys (with_new_key scope k.name k.write) more)
     (λ r. Ok (d ∷ r.0, r.1)))) (λ r. Ok (r.1, keys ++ r.0))) is
     ∙ ap Err (fault_of told)
   where
@@ -134,19 +136,19 @@ pub params_told_is : (ps : Params) (one last : Scope) (m : Param) (more : List (
     check_param (record { variables = []; keys = [] }) m ≡ Ok one → check_more_params one more ≡ Ok last → kinds ≡ m.kind ∷ [] → made ≡ kinds ++ kinds_of more →
     params_told ps ≡ Ok (last, made)
 params_told_is ps one last m more kinds made is told others first rest =
-    ap params_told is ∙ ap (λ t. after_ok {A = Scope} {B = Scope × List Kind} (after_ok {A = Scope} {B = Scope} t (λ s. check_more_params s more)) (λ s. Ok (s, m.kind ∷ kinds_of more))) told
-    ∙ ap (λ t. after_ok {A = Scope} {B = Scope × List Kind} t (λ s. Ok (s, m.kind ∷ kinds_of more))) others
+    ap params_told is ∙ ap (λ t. after_ok {A = Scope} {B = Scope × List Kind} {E = ProcError} (after_ok {A = Scope} {B = Scope} {E = ProcError} t (λ s. check_more_params s more)) (λ s. Ok (s, m.kind ∷ kinds_of more))) told
+    ∙ ap (λ t. after_ok {A = Scope} {B = Scope × List Kind} {E = ProcError} t (λ s. Ok (s, m.kind ∷ kinds_of more))) others
     ∙ λ i. Ok (last, (sym (rest ∙ ap (λ v. v ++ kinds_of more) first)) i)
 
 pub params_first_fault : (ps : Params) (m : Param) (more : List (ℕ × Param)) (before rest : List Placed) (e : ProcError) → ps ≡ params m more →
     WalkAnswers (check_param (record { variables = []; keys = [] }) m) before (Err e) → WalkAnswers (params_told ps) rest (Err e)
 params_first_fault ps m more before rest e is (inl h) = inl h
 params_first_fault ps m more before rest e is (inr h) =
-    inr (ap params_told is ∙ ap (λ t. after_ok {A = Scope} {B = Scope × List Kind} (after_ok {A = Scope} {B = Scope} t (λ s. check_more_params s more)) (λ s. Ok (s, m.kind ∷ kinds_of more))) h)
+    inr (ap params_told is ∙ ap (λ t. after_ok {A = Scope} {B = Scope × List Kind} {E = ProcError} (after_ok {A = Scope} {B = Scope} {E = ProcError} t (λ s. check_more_params s more)) (λ s. Ok (s, m.kind ∷ kinds_of more))) h)
 
 pub params_more_fault : (ps : Params) (one : Scope) (m : Param) (more : List (ℕ × Param)) (before rest : List Placed) (e : ProcError) → ps ≡ params m more →
     check_param (record { variables = []; keys = [] }) m ≡ Ok one → WalkAnswers (check_more_params one more) before (Err e) → WalkAnswers (params_told ps) rest (Err e)
 params_more_fault ps one m more before rest e is told (inl h) = inl h
 params_more_fault ps one m more before rest e is told (inr h) =
-    inr (ap params_told is ∙ ap (λ t. after_ok {A = Scope} {B = Scope × List Kind} (after_ok {A = Scope} {B = Scope} t (λ s. check_more_params s more)) (λ s. Ok (s, m.kind ∷ kinds_of more))) told
-    ∙ ap (λ t. after_ok {A = Scope} {B = Scope × List Kind} t (λ s. Ok (s, m.kind ∷ kinds_of more))) h)
+    inr (ap params_told is ∙ ap (λ t. after_ok {A = Scope} {B = Scope × List Kind} {E = ProcError} (after_ok {A = Scope} {B = Scope} {E = ProcError} t (λ s. check_more_params s more)) (λ s. Ok (s, m.kind ∷ kinds_of more))) told
+    ∙ ap (λ t. after_ok {A = Scope} {B = Scope × List Kind} {E = ProcError} t (λ s. Ok (s, m.kind ∷ kinds_of more))) h)

@@ -7,7 +7,8 @@ use Rattle.dt_proc.specs.declared.error.ProcError.{ProcError}
 use Rattle.dt_proc.specs.Tree as tree
 use Rattle.dt_proc.specs.Tree.{GiveTree}
 use Rattle.dt_proc.specs.Names.{Scope}
-use Rattle.dt_proc.specs.SecondPass.{Checked, after_ok, check, key_of, needs_stored, check_item, check_items, check_all_items}
+use Rattle.dt_proc.specs.AfterOk.{after_ok}
+use Rattle.dt_proc.specs.SecondPass.{Checked, check, key_of, needs_stored, check_item, check_items, check_all_items}
 use Rattle.dt_syntax.specs.Grammar.{front_place, at, Bracketed, bracketed_tokens, Syntax, syntax_tokens, IsLevel, Item, row_item, value_item, item_tokens, IsItem}
 use Rattle.dt_proc.specs.WalkInner.{WalkAnswers}
 use Rattle.dt_proc.proofs.ExprWalk.{one_more}

@@ -17,7 +17,8 @@ use Rattle.dt_proc.specs.declared.scope.Meaning.TheVariants.{Variable, Key, Unkn
 use Rattle.dt_proc.specs.declared.error.ProcError.TheVariants as fault
 use Rattle.dt_proc.specs.Names.{Scope, meaning_in}
 use Rattle.dt_proc.specs.Sound.{IsSoundItem, sort_of}
-use Rattle.dt_proc.specs.SecondPass.{Checked, after_ok, same_sort, as_new, as_param, with_new_variable, with_new_key, check_part, check_parts, check_key, check_keys}
+use Rattle.dt_proc.specs.AfterOk.{after_ok}
+use Rattle.dt_proc.specs.SecondPass.{Checked, same_sort, as_new, as_param, with_new_variable, with_new_key, check_part, check_parts, check_key, check_keys}
 use Rattle.dt_proc.specs.SecondPass.{check_param, check_more_params, check_params}
 use Rattle.dt_syntax.specs.Grammar.{param_kinds, at, Param, Params, no_param, params, KeyPart, text_part, name_part, show_part, part_tokens, KeySyntax, key_tokens}
 use Rattle.dt_proc.proofs.ExprSorts.{Holds, holds_ok, holds_after, holds_cond, sorts, writes, StandsInScope, means, same_is}

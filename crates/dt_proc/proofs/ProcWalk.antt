@@ -11,7 +11,8 @@ use Rattle.dt_proc.specs.declared.error.ProcError.TheVariants as fault
 use Rattle.dt_proc.specs.Names.{Scope}
 use Rattle.dt_proc.specs.Tree.{BlockTree, ProcTree}
 use Rattle.dt_proc.specs.Sound.{IsSoundProc, AreSound, sort_of}
-use Rattle.dt_proc.specs.SecondPass.{Checked, after_ok, check_params, check_keys, check_block, check_proc}
+use Rattle.dt_proc.specs.AfterOk.{after_ok}
+use Rattle.dt_proc.specs.SecondPass.{Checked, check_params, check_keys, check_block, check_proc}
 use Rattle.dt_syntax.specs.Grammar.{param_kinds, at, params_tokens, key_tokens, KeySyntax, statements_tokens, ProcSyntax, proc_tokens}
 use Rattle.dt_proc.specs.WalkInner.{WalkAnswers, params_told, keys_told}
 use Rattle.dt_syntax.specs.Limits.{AllSound, IsSmall}
@@ -29,7 +30,7 @@ walked_proc p =
 
 -- what is reported in another form, before what goes on with it
 after_made : {A B C : Type 0} (t : Checked A) (form : A → B) (next : B → Checked C) →
-    after_ok {A = A} {B = C} t (λ a. next (form a)) ≡ after_ok {A = B} {B = C} (after_ok {A = A} {B = B} t (λ a. Ok (form a))) next
+    after_ok {A = A} {B = C} {E = ProcError} t (λ a. next (form a)) ≡ after_ok {A = B} {B = C} {E = ProcError} (after_ok {A = A} {B = B} {E = ProcError} t (λ a. Ok (form a))) next
 after_made (Ok a) form next = refl
 after_made (Err e) form next = refl
 
@@ -112,40 +113,40 @@ after_keys p kinds r = after_ok {A = BlockTree} (check_block r.0 p.body) (λ b. 
 
 told_after_params : (before : List ProcTree) (p : ProcSyntax) (s : Scope × List Kind) → Free before p → params_told p.params ≡ Ok s → check_proc before p ≡ after_params p s
 unfolding after_params
-told_after_params before p s free ps = proc_is before p free ∙ ap (λ t. after_ok {A = Scope × List Kind} t (after_params p)) ps
+told_after_params before p s free ps = proc_is before p free ∙ ap (λ t. after_ok {A = Scope × List Kind} {E = ProcError} t (after_params p)) ps
 
 told_after_keys : (before : List ProcTree) (p : ProcSyntax) (s : Scope × List Kind) (r : Scope × List KeyDecl) → Free before p → params_told p.params ≡ Ok s →
     keys_told s.0 [] (p.key ∷ p.more_keys) ≡ Ok r → check_proc before p ≡ after_keys p s.1 r
 unfolding after_params after_keys
-told_after_keys before p s r free ps ks = told_after_params before p s free ps ∙ ap (λ t. after_ok {A = Scope × List KeyDecl} t (after_keys p s.1)) ks
+told_after_keys before p s r free ps ks = told_after_params before p s free ps ∙ ap (λ t. after_ok {A = Scope × List KeyDecl} {E = ProcError} t (after_keys p s.1)) ks
 
 -- the first fault is reported, wherever it is
 pub params_first_fault : (before : List ProcTree) (p : ProcSyntax) (left rest : List Placed) (e : ProcError) → Free before p →
     WalkAnswers (params_told p.params) left (Err e) → WalkAnswers (check_proc before p) rest (Err e)
 unfolding after_params
 params_first_fault before p left rest e free (inl m) = inl m
-params_first_fault before p left rest e free (inr s) = inr (proc_is before p free ∙ ap (λ t. after_ok {A = Scope × List Kind} t (after_params p)) s)
+params_first_fault before p left rest e free (inr s) = inr (proc_is before p free ∙ ap (λ t. after_ok {A = Scope × List Kind} {E = ProcError} t (after_params p)) s)
 
 pub keys_first_fault : (before : List ProcTree) (p : ProcSyntax) (s : Scope × List Kind) (left rest : List Placed) (e : ProcError) → Free before p →
     params_told p.params ≡ Ok s → WalkAnswers (keys_told s.0 [] (p.key ∷ p.more_keys)) left (Err e) → WalkAnswers (check_proc before p) rest (Err e)
 unfolding after_params after_keys
 keys_first_fault before p s left rest e free ps (inl m) = inl m
 keys_first_fault before p s left rest e free ps (inr k) =
-    inr (told_after_params before p s free ps ∙ ap (λ t. after_ok {A = Scope × List KeyDecl} t (after_keys p s.1)) k)
+    inr (told_after_params before p s free ps ∙ ap (λ t. after_ok {A = Scope × List KeyDecl} {E = ProcError} t (after_keys p s.1)) k)
 
 pub body_first_fault : (before : List ProcTree) (p : ProcSyntax) (s : Scope × List Kind) (r : Scope × List KeyDecl) (left rest : List Placed) (e : ProcError) → Free before p →
     params_told p.params ≡ Ok s → keys_told s.0 [] (p.key ∷ p.more_keys) ≡ Ok r → WalkAnswers (check_block r.0 p.body) left (Err e) → WalkAnswers (check_proc before p) rest (Err e)
 unfolding after_keys
 body_first_fault before p s r left rest e free ps ks (inl m) = inl m
 body_first_fault before p s r left rest e free ps ks (inr b) =
-    inr (told_after_keys before p s r free ps ks ∙ ap (λ t. after_ok {A = BlockTree} t (λ b. Ok (record { name = p.name; params = s.1; keys = r.1; body = b }))) b)
+    inr (told_after_keys before p s r free ps ks ∙ ap (λ t. after_ok {A = BlockTree} {E = ProcError} t (λ b. Ok (record { name = p.name; params = s.1; keys = r.1; body = b }))) b)
 
 pub proc_told : (before : List ProcTree) (p : ProcSyntax) (s : Scope × List Kind) (r : Scope × List KeyDecl) (b : BlockTree) → Free before p →
     params_told p.params ≡ Ok s → keys_told s.0 [] (p.key ∷ p.more_keys) ≡ Ok r → check_block r.0 p.body ≡ Ok b →
     check_proc before p ≡ Ok (record { name = p.name; params = s.1; keys = r.1; body = b })
 unfolding after_keys
 proc_told before p s r b free ps ks is =
-    told_after_keys before p s r free ps ks ∙ ap (λ t. after_ok {A = BlockTree} t (λ c. Ok (record { name = p.name; params = s.1; keys = r.1; body = c }))) is
+    told_after_keys before p s r free ps ks ∙ ap (λ t. after_ok {A = BlockTree} {E = ProcError} t (λ c. Ok (record { name = p.name; params = s.1; keys = r.1; body = c }))) is
 
 -- ---- the tokens of a procedure, part after part
 

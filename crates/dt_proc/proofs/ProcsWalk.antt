@@ -9,7 +9,8 @@ use Rattle.dt_proc.specs.declared.error.ProcError.{ProcError}
 use Rattle.dt_proc.specs.declared.error.ProcError.TheVariants as fault
 use Rattle.dt_proc.specs.Tree.{ProcTree}
 use Rattle.dt_proc.specs.Sound.{IsSoundProc}
-use Rattle.dt_proc.specs.SecondPass.{Checked, after_ok, check_proc, check_procs}
+use Rattle.dt_proc.specs.AfterOk.{after_ok}
+use Rattle.dt_proc.specs.SecondPass.{Checked, check_proc, check_procs}
 use Rattle.dt_syntax.specs.Grammar.{ProcSyntax, proc_tokens, procs_tokens, IsProc, AreProcSyntaxes}
 use Rattle.dt_proc.specs.WalkInner.{WalkAnswers, PassGives, StartsProc, AreFewProcs}
 use Rattle.dt_syntax.specs.Limits.{AllSound, IsSmall}

@@ -6,6 +6,7 @@ use Rattle.std.specs.Cmp.Lexicographic.{pointwise, bytes_decides}
 use Rattle.std.proofs.lemmas.Bool.{and_parts, false≢true, not-true}
 use Rattle.dt_lists.specs.Lists.{AllIn, Distinct}
 use Rattle.dt_text.specs.Texts.{is_name_byte}
+use Rattle.dt_proc.specs.declared.error.ProcError.{ProcError}
 use Rattle.dt_proc.specs.declared.error.ProcError.TheVariants as fault
 use Rattle.dt_proc.specs.declared.tree.KeyDecl.{KeyDecl}
 use Rattle.dt_proc.specs.declared.tree.Sort.TheVariants as sort
@@ -13,7 +14,8 @@ use Rattle.dt_proc.specs.Names.{Scope}
 use Rattle.dt_proc.specs.Tree.{ProcTree}
 use Rattle.dt_proc.specs.Sound.{IsSoundProc, IsSoundItem, AreSound, AreProcs, sort_of}
 use Rattle.dt_proc.specs.Builtin.{put, note, get, del, add, div, sum, xfer, builtin_procs}
-use Rattle.dt_proc.specs.SecondPass.{after_ok, check_params, check_keys, check_block, check_proc, check_procs}
+use Rattle.dt_proc.specs.AfterOk.{after_ok}
+use Rattle.dt_proc.specs.SecondPass.{check_params, check_keys, check_block, check_proc, check_procs}
 use Rattle.dt_syntax.specs.Grammar.{param_kinds, ProcSyntax, proc_tokens, procs_tokens}
 use Rattle.dt_syntax.specs.Limits.{AllSound, IsSmall}
 use Rattle.dt_syntax.specs.FirstPass.{NoneTooMany}
@@ -31,8 +33,8 @@ next_fits before p sound small =
     (λ r keys. holds_after IsSoundProc (check_block r.1 p.body) _
     (λ b body. holds_ok IsSoundProc (record { name = p.name; params = param_kinds p.params; keys = r.0; body = b })
     (proc_sound p p.name s r.1 (param_kinds p.params) r.0 b sound small sound.1.0
-    (ap (λ t. after_ok {A = Scope} t (λ s. Ok (s, param_kinds p.params))) params)
-    (ap (λ t. after_ok {A = List KeyDecl × Scope} t (λ r. Ok (r.1, [] ++ r.0))) keys)
+    (ap (λ t. after_ok {A = Scope} {E = ProcError} t (λ s. Ok (s, param_kinds p.params))) params)
+    (ap (λ t. after_ok {A = List KeyDecl × Scope} {E = ProcError} t (λ r. Ok (r.1, [] ++ r.0))) keys)
     body)))))
 
 -- procedures that are reported after others are as many as are spelled, and fit, and their names are new

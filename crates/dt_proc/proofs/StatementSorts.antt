@@ -10,7 +10,8 @@ use Rattle.dt_proc.specs.Names.{Scope, meaning_in}
 use Rattle.dt_proc.specs.Sound.{HasSort, IsSoundGift, AreSound}
 use Rattle.dt_proc.specs.Tree as tree
 use Rattle.dt_proc.specs.Tree.{ExprTree, GiveTree, StmtTree, BlockTree, done, then}
-use Rattle.dt_proc.specs.SecondPass.{Typed, after_ok, needs, needs_stored, as_written, as_new, key_of, check, check_item, check_items, check_all_items}
+use Rattle.dt_proc.specs.AfterOk.{after_ok}
+use Rattle.dt_proc.specs.SecondPass.{Typed, needs, needs_stored, as_written, as_new, key_of, check, check_item, check_items, check_all_items}
 use Rattle.dt_proc.specs.SecondPass.{with_new_variable, one_block, two_blocks, check_block, check_statement}
 use Rattle.dt_syntax.specs.Grammar.{front_place, at, syntax_tokens, Item, row_item, value_item, item_tokens, items_tokens, Statement, let_new, set_key}
 use Rattle.dt_syntax.specs.Grammar.{clear_key, when, choose, abort, give, Statements, nothing, first, statement_tokens, statements_tokens}

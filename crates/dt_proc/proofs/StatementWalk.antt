@@ -10,7 +10,8 @@ use Rattle.dt_proc.specs.declared.error.ProcError.{ProcError}
 use Rattle.dt_proc.specs.Tree as tree
 use Rattle.dt_proc.specs.Tree.{ExprTree, GiveTree, StmtTree, BlockTree, done, then, joined}
 use Rattle.dt_proc.specs.Names.{Scope, meaning_in}
-use Rattle.dt_proc.specs.SecondPass.{Checked, Typed, after_ok, with_new_variable, as_new, as_written, needs, check, check_all_items, check_block, check_statement}
+use Rattle.dt_proc.specs.AfterOk.{after_ok}
+use Rattle.dt_proc.specs.SecondPass.{Checked, Typed, with_new_variable, as_new, as_written, needs, check, check_all_items, check_block, check_statement}
 use Rattle.dt_proc.specs.declared.tree.Sort.TheVariants as sort
 use Rattle.dt_proc.specs.WalkInner.{WalkAnswers, StartsBlock, StartsElse, StartsIf}
 use Rattle.dt_syntax.specs.Fronts.{NoElse, EndsBlock}

@@ -14,6 +14,7 @@ use Rattle.dt_proc.specs.declared.scope.Meaning.{Meaning}
 use Rattle.dt_proc.specs.declared.scope.Meaning.TheVariants.{Variable, Key, Unknown}
 use Rattle.dt_proc.specs.declared.error.ProcError.{ProcError}
 use Rattle.dt_proc.specs.declared.error.ProcError.TheVariants as fault
+use Rattle.dt_proc.specs.AfterOk.{after_ok}
 use Rattle.dt_proc.specs.Names.{Scope, meaning_in}
 use Rattle.dt_proc.specs.Sound.{sort_given, sort_of}
 use Rattle.dt_proc.specs.Tree as tree
@@ -27,11 +28,6 @@ use Rattle.dt_syntax.specs.Grammar.{is_join}
 -- a value, or the first fault
 abbrev pub Checked : Type 0 → Type 0
 Checked A = Result A ProcError
-
--- one thing after another: the first fault is reported
-abbrev pub after_ok : {A B : Type 0} → Checked A → (A → Checked B) → Checked B
-after_ok (Ok a) next = next a
-after_ok (Err e) next = Err e
 
 -- an expression and what it gives
 abbrev pub Typed : Type 0

@@ -18,7 +18,8 @@ use Rattle.dt_proc.specs.Tree.{GiveTree, StmtTree}
 use Rattle.dt_lists.specs.Lists.{AllIn}
 use Rattle.dt_proc.specs.TreeViews.{expr_tree, give_tree, stmt_tree}
 use Rattle.dt_proc.specs.declared.tree.KeyDecl.{KeyDecl}
-use Rattle.dt_proc.specs.SecondPass.{Checked, Typed, after_ok, check_key, check_keys, with_new_key, check_params, made_by, needs, read_by}
+use Rattle.dt_proc.specs.AfterOk.{after_ok}
+use Rattle.dt_proc.specs.SecondPass.{Checked, Typed, check_key, check_keys, with_new_key, check_params, made_by, needs, read_by}
 use Rattle.dt_proc.specs.declared.expressions.Prefix.{Prefix}
 use Rattle.dt_proc.specs.declared.expressions.Prefix.TheVariants as prefix
 use Rattle.dt_proc.specs.declared.expressions.Reading.{Reading}

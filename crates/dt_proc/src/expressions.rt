@@ -6,7 +6,7 @@ ghost use Rattle.dt_syntax.specs.declared.token.Token.TheVariants as tok;
 ghost use Rattle.dt_syntax.specs.Grammar.{at, Bracketed, bracketed_tokens, Syntax, syntax_tokens, Links, links_tokens, IsLevel, AreLinks};
 ghost use Rattle.dt_proc.specs.Names.{meaning_in};
 ghost use Rattle.dt_proc.specs.Sound as sound;
-ghost use Rattle.dt_proc.specs.SecondPass.{after_ok};
+ghost use Rattle.dt_proc.specs.AfterOk.{after_ok};
 ghost use Rattle.dt_proc.specs.SecondPass as checked;
 ghost use Rattle.dt_proc.specs.WalkInner as walked;
 ghost use Rattle.dt_syntax.specs.Fronts as fronts;

@@ -5,7 +5,8 @@ use Rattle.std.proofs.lemmas.List.{map-append}
 use Rattle.dt_syntax.specs.declared.token.Token.TheVariants as tok
 use Rattle.dt_proc.specs.TreeViews.{give_tree}
 use Rattle.dt_syntax.specs.Grammar.{at}
-use Rattle.dt_proc.specs.SecondPass.{check_item, check_items, check_all_items, after_ok}
+use Rattle.dt_proc.specs.AfterOk.{after_ok}
+use Rattle.dt_proc.specs.SecondPass.{check_item, check_items, check_all_items}
 use Rattle.dt_proc.proofs.ExprWalk.{err_then}
 use Rattle.dt_proc.proofs.ItemWalk.{items_start, after_comma_next, told_next, told_fault, items_end}
 use Rattle.dt_syntax.proofs.Callers.{next_item, items_stop, items_cut}

@@ -1,7 +1,7 @@
 use Rattle.std.proofs.Common.{◌≡◌, ◌+◌, ◌∙◌, Ok, true, false, drop, take, sym, ap, subst, arith}
 use Rattle.dt_proc.specs.TreeViews.{block_tree, stmt_tree, expr_tree, block_size}
 use Rattle.dt_proc.specs.Tree.{then}
-use Rattle.dt_eval.specs.Data.{unless_aborted}
+use Rattle.dt_proc.specs.AfterOk.{after_ok}
 use Rattle.dt_eval.specs.FrameInner.{IsSoundBlock, seen}
 use Rattle.dt_eval.specs.Statements.{after_block}
 use Rattle.dt_eval.specs.declared.state.Datum.TheVariants.{Bool as Truth}
@@ -23,7 +23,7 @@ block-loop-stmt-preserved t c =
       names = names ∙ c.loop-stmt.invariant.names;
       sound = block_tail old new (stmt_tree c.stmt-item.result) rest (subst (IsSoundBlock old) cut c.loop-stmt.invariant.sound) answer names;
       told =
-          c.loop-stmt.invariant.told ∙ ap (λ b. after_block old.rows.0 b (seen old)) cut ∙ ap (λ r. unless_aborted r (after_block old.rows.0 rest)) answer
+          c.loop-stmt.invariant.told ∙ ap (λ b. after_block old.rows.0 b (seen old)) cut ∙ ap (λ r. after_ok r (after_block old.rows.0 rest)) answer
           ∙ ap (λ n. after_block n rest (seen new)) (sym names);
       size = let sizes = ap block_size cut in omega (arith, sizes, c.loop-stmt.invariant.size);
     }
