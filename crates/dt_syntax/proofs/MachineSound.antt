@@ -273,10 +273,6 @@ as_item (takes after) t back = λ st tree. let b = back st tree in ((value_item 
 as_item passes t back = ((value_item back.0.0, back.0.1), back.1)
 as_item refuses t back = tt
 
--- a declaration, from its parts
-abbrev key_of : ℕ → Bool → ℕ × List ℕ → ℕ → KeyPart → List (ℕ × KeyPart) × ℕ → KeySyntax
-key_of p write m i part more = record { word_at = p; write = write; name_at = m.0; name = m.1; is_at = i; first = part; more = more.0; end_at = more.1 }
-
 back : (s : Sym) (t : Token) (p : ℕ) → Back s (at p t) (turn s t)
 back expect.Procs tok.Proc p = λ st (m, (o, (ps, (k, (procs, rest))))). (
   (
@@ -326,13 +322,15 @@ back expect.MoreParams t p = tt
 back expect.Kind tok.IntWord p = λ st rest. ((p, kind.Int), rest, refl)
 back expect.Kind tok.TextWord p = λ st rest. ((p, kind.Text), rest, refl)
 back expect.Kind t p = tt
-back expect.Keys tok.Read p = λ st (m, (i, (part, (more, (r, rest))))). ((key_of p false m i part more, r), rest, simp append_assoc)
-back expect.Keys tok.Write p = λ st (m, (i, (part, (more, (r, rest))))). ((key_of p true m i part more, r), rest, simp append_assoc)
+back expect.Keys tok.Read p = λ st (m, (i, (part, (more, (r, rest))))). ((record { word_at = p; write = false; name_at = m.0; name = m.1; is_at = i; first = part; more = more.0; end_at = more.1 }, r), rest, simp append_assoc)
+back expect.Keys tok.Write p = λ st (m, (i, (part, (more, (r, rest))))). ((record { word_at = p; write = true; name_at = m.0; name = m.1; is_at = i; first = part; more = more.0; end_at = more.1 }, r), rest, simp append_assoc)
 back expect.Keys t p = tt
 back expect.MoreKeys tok.Read p = λ st (m, (i, (part, (more, (r, rest))))).
-    (with_key (key_of p false m i part more) r, rest, simp append_assoc)
+    let key : KeySyntax = record { word_at = p; write = false; name_at = m.0; name = m.1; is_at = i; first = part; more = more.0; end_at = more.1 } in
+    (with_key key r, rest, simp append_assoc)
 back expect.MoreKeys tok.Write p = λ st (m, (i, (part, (more, (r, rest))))).
-    (with_key (key_of p true m i part more) r, rest, simp append_assoc)
+    let key : KeySyntax = record { word_at = p; write = true; name_at = m.0; name = m.1; is_at = i; first = part; more = more.0; end_at = more.1 } in
+    (with_key key r, rest, simp append_assoc)
 back expect.MoreKeys tok.Begin p = λ st (c, rest).
     (record { more_keys = []; begin_at = p; body = c.body; end_at = c.end_at; good = c.good }, rest, refl)
 back expect.MoreKeys t p = tt
