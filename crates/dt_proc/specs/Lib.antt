@@ -1,3 +1,4 @@
+pub mod AfterOk
 pub mod BlockSizesInner
 pub mod Builtin
 pub mod Names
