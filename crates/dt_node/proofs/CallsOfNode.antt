@@ -110,12 +110,12 @@ module _ {a : NodeView} (source number : ℕ) (txn : Txn) (r : RegionView) (made
       (ap (λ (x : RegionView). x.heard) made.1)
       (refl, tt) goes place_beside (brought, tt)
 
+-- the event of entries that follow what was received
+abbrev delivery : NodeView → ℕ → ℕ → List Entry → Event
+delivery a home first entries = Deliver (number_of a) home first (first + length entries)
+
 -- entries were received
 module _ {a : NodeView} (home first : ℕ) (entries : List Entry) (n : ℕ) (r : RegionView) (made : MakesDelivery a.site.region home first first entries (Ok (New n)) r) where
-  -- the event: they follow what was received
-  abbrev delivery : Event
-  delivery = Deliver (number_of a) home first (first + length entries)
-
   pub receive_beside : StaysBeside a (record a { site = in_region a.site r })
   receive_beside = record {
     number = ap (λ (x : RegionView). x.state.number) made.3;
@@ -127,10 +127,10 @@ module _ {a : NodeView} (home first : ℕ) (entries : List Entry) (n : ℕ) (r :
   }
 
   pub receive_moves : {procs : List ProcTree} (packets : List Packet) → ((cluster : Cluster) (workload : Workload) (events : List Event) → procs ≡ cluster.procs → NodeFits cluster workload events a
-      → AreTold cluster workload events packets a → GoesAfter cluster workload events (delivery ∷ []) (record a { site = in_region a.site r }))
-      → IsBroughtBy packets (latest_stamp a.site.region + 1) delivery → MovesOn procs packets a (record a { site = in_region a.site r })
+      → AreTold cluster workload events packets a → GoesAfter cluster workload events (delivery a home first entries ∷ []) (record a { site = in_region a.site r }))
+      → IsBroughtBy packets (latest_stamp a.site.region + 1) (delivery a home first entries) → MovesOn procs packets a (record a { site = in_region a.site r })
   receive_moves {procs} packets goes brought = made_some {procs = procs} {packets = packets} {a = a} {b = record a { site = in_region a.site r }}
-      (delivery ∷ []) (ap (λ (x : RegionView). x.events) made.3)
+      (delivery a home first entries ∷ []) (ap (λ (x : RegionView). x.events) made.3)
       (ap (λ (x : RegionView). x.heard) made.3)
       (refl, tt) goes receive_beside (brought, tt)
 
