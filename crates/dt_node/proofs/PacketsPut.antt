@@ -115,37 +115,37 @@ two_free [] a link lt = absurd (omega (arith, lt))
 two_free (o ∷ outs) a zero lt = a.0
 two_free (o ∷ outs) a (suc link) lt = two_free outs a.1 link (omega (arith, lt))
 
-module _ {before now : NodeView} (turns : now.turns ≡ before.turns + 1) (outs : List OutletView) (free : AllIn (λ o. 2 ≤ o.free) outs) where
-  -- a packet for each
-  abbrev packets : List Packet
-  packets = packets_for now (length outs)
+-- a packet for each outlet
+abbrev packets_each : NodeView → List OutletView → List Packet
+packets_each now outs = packets_for now (length outs)
 
+module _ {before now : NodeView} (turns : now.turns ≡ before.turns + 1) (outs : List OutletView) (free : AllIn (λ o. 2 ≤ o.free) outs) where
   -- each was put once
-  pub sent_once : IsVerdict now.plan now.turns Pass → (later : List OutletView) → later ≡ put_at outs packets → HasSent before now outs later
+  pub sent_once : IsVerdict now.plan now.turns Pass → (later : List OutletView) → later ≡ put_at outs (packets_each now outs) → HasSent before now outs later
   sent_once is later put = subst (HasSent before now outs) (sym put) (record {
     turns = turns;
-    many = many_put outs packets;
+    many = many_put outs (packets_each now outs);
     each = λ link lt.
         let p : Packet = packet_for now (other_at (number_of now) link) in
         let o : OutletView = get_or outs link no_outlet in
         let two : 2 ≤ o.free = two_free outs free link lt in
-        subst (IsSentBy now.plan now.turns p o) (sym (get_put outs packets link p lt (its_packet now (length outs) link lt)))
+        subst (IsSentBy now.plan now.turns p o) (sym (get_put outs (packets_each now outs) link p lt (its_packet now (length outs) link lt)))
         (record { verdict = Pass; is = is; put = record { put = refl; free = omega (arith, two) } });
   })
 
   -- each was put twice
-  pub sent_twice : IsVerdict now.plan now.turns Twice → (later : List OutletView) → later ≡ put_at (put_at outs packets) packets → HasSent before now outs later
+  pub sent_twice : IsVerdict now.plan now.turns Twice → (later : List OutletView) → later ≡ put_at (put_at outs (packets_each now outs)) (packets_each now outs) → HasSent before now outs later
   sent_twice is later put = subst (HasSent before now outs) (sym put) (record {
     turns = turns;
-    many = many_put (put_at outs packets) packets ∙ many_put outs packets;
+    many = many_put (put_at outs (packets_each now outs)) (packets_each now outs) ∙ many_put outs (packets_each now outs);
     each = λ link lt.
         let p : Packet = packet_for now (other_at (number_of now) link) in
         let o : OutletView = get_or outs link no_outlet in
         let two : 2 ≤ o.free = two_free outs free link lt in
-        let first : get_or (put_at outs packets) link no_outlet ≡ put_one o p = get_put outs packets link p lt (its_packet now (length outs) link lt) in
-        let there : link < length (put_at outs packets) = subst (λ m. link < m) (sym (many_put outs packets)) lt in
-        let second : get_or (put_at (put_at outs packets) packets) link no_outlet ≡ put_one (put_one o p) p =
-        get_put (put_at outs packets) packets link p there (its_packet now (length outs) link lt) ∙ ap (λ v. put_one v p) first in
+        let first : get_or (put_at outs (packets_each now outs)) link no_outlet ≡ put_one o p = get_put outs (packets_each now outs) link p lt (its_packet now (length outs) link lt) in
+        let there : link < length (put_at outs (packets_each now outs)) = subst (λ m. link < m) (sym (many_put outs (packets_each now outs))) lt in
+        let second : get_or (put_at (put_at outs (packets_each now outs)) (packets_each now outs)) link no_outlet ≡ put_one (put_one o p) p =
+        get_put (put_at outs (packets_each now outs)) (packets_each now outs) link p there (its_packet now (length outs) link lt) ∙ ap (λ v. put_one v p) first in
         subst (IsSentBy now.plan now.turns p o) (sym second)
         (record { verdict = Twice; is = is; put = record { put = append_assoc o.put (p ∷ []) (p ∷ []); free = omega (arith, two) } });
   })
