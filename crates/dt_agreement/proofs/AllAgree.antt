@@ -6,11 +6,10 @@ use Rattle.std.proofs.Common.{subst₂, ◌∙◌, inl, inr, append_assoc, appen
 use Rattle.std.specs.Prelude.{Option, option_map, filter, slice_index}
 use Rattle.std.specs.List.{cons_option}
 use Rattle.std.proofs.lemmas.Bool.{cases_Bool}
-use Rattle.std.proofs.lemmas.Option.{same_Some}
 use Rattle.std.proofs.lemmas.List.{map-append}
 use Rattle.dt_lists.specs.Lists.{AnyIn, AllIn, Has, IsFront, Distinct}
 use Rattle.dt_lists.proofs.Callers.{any_get, any_append, any_append_left, all_get, all_put, has_map, all_append_left, each_across}
-use Rattle.dt_lists.proofs.Callers.{has_before, has_middle}
+use Rattle.dt_lists.proofs.Callers.{has_before, has_middle, lookup_has as found_in_list}
 use Rattle.dt_lists.proofs.Callers.{front_refl, front_trans, any_front}
 use Rattle.dt_access.specs.Ids.{same_id, is_among, StandsBefore}
 use Rattle.dt_access.specs.Clash.{Bytes}
@@ -57,12 +56,7 @@ use Rattle.dt_agreement.proofs.RootedWorlds.{legal_roots}
 -- outcomes by ids
 
 pub lookup_has : (es : List (TxnId × Outcome)) (id : TxnId) (o : Outcome) → outcome_in es id ≡ Some o → Has es (id, o)
-lookup_has [] id o e = cc
-lookup_has (x ∷ es) id o e = go (cases_Bool (same_id id x.0)) (lookup_has es id o)
-  where
-    go : (same_id id x.0 ≡ true) ⊎ (same_id id x.0 ≡ false) → (outcome_in es id ≡ Some o → Has es (id, o)) → Has (x ∷ es) (id, o)
-    go (inl p) f = inl (λ i. (sym (id_of_test id x.0 p) i, same_Some x.1 o (rw p at e) i))
-    go (inr n) f = inr (f (rw n at e))
+lookup_has es id o e = found_in_list (same_id id) id (λ other y. sym (id_of_test id other y)) es o e
 
 pub has_lookup : (es : List (TxnId × Outcome)) (id : TxnId) (o : Outcome) → Distinct (map (λ e. e.0) es) → Has es (id, o) → outcome_in es id ≡ Some o
 has_lookup [] id o d h = absurd h

@@ -3,7 +3,7 @@
 use Rattle.std.proofs.Common.{◌≡◌, ◌<◌, ℕ, zero, suc, List, [], ◌∷◌, ◌++◌, length, get_or, map, take, slice_get, refl, sym, ap, ap₂, subst, ◌∙◌}
 use Rattle.std.proofs.Math.Seq.{take-nil}
 use Rattle.dt_lists.specs.Lists.{AnyIn, AllIn, Has}
-use Rattle.dt_lists.proofs.Callers.{any_get, all_get, all_put}
+use Rattle.dt_lists.proofs.Callers.{any_get, all_get, all_put, all_of_places}
 use Rattle.dt_lists.proofs.Callers.{has_place}
 use Rattle.dt_lists.proofs.Callers.{Spot, spot}
 use Rattle.dt_lists.proofs.Callers.{all_front}
@@ -41,11 +41,6 @@ use Rattle.dt_agreement.proofs.LegalWorlds.{legal_keeps}
 use Rattle.dt_agreement.proofs.RootedWorlds.{legal_roots}
 
 -- lists
-
--- each item has P, place by place
-all_from_at : {A : Type 0} (P : A → Type 0) (d : A) (xs : List A) → ((i : ℕ) → P (get_or xs i d)) → AllIn P xs
-all_from_at P d [] f = tt
-all_from_at P d (x ∷ xs) f = (f zero, all_from_at P d xs (λ i. f (suc i)))
 
 one_home_front : (short long : View) → IsLonger short long → HasOneHomeEach long → HasOneHomeEach short
 one_home_front [] [] f a = tt
@@ -112,7 +107,7 @@ module _ {cluster : Cluster} {workload : Workload} {w : World} {order : List Txn
 
   -- each transaction of the logs, and of each region's view, has one home
   pub logs_one : HasOneHomeEach (logs_of w)
-  logs_one = all_from_at (AllIn (λ p. length p.homes ≡ 1)) [] (logs_of w) (λ home. all_put (λ p. length p.homes ≡ 1) (get_or (logs_of w) home []) (λ p h. part_one home p (part_there i home p h)))
+  logs_one = all_of_places (AllIn (λ p. length p.homes ≡ 1)) [] (logs_of w) (λ home lt. all_put (λ p. length p.homes ≡ 1) (get_or (logs_of w) home []) (λ p h. part_one home p (part_there i home p h)))
 
   pub view_one : (region : ℕ) → region < cluster.regions → HasOneHomeEach (view_at w region)
   view_one region lr = one_home_front (view_at w region) (logs_of w) (view_longer i region lr) logs_one

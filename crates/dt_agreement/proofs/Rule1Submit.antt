@@ -33,8 +33,8 @@ use Rattle.dt_agreement.proofs.InvariantParts.{AreSized, Numbered, Valid, Asked,
 use Rattle.dt_agreement.proofs.Submissions.{Keeps, AreUnlike, submission_is_found, at_region, from_region, unlike, submission_stays, txn_stays, txns_stay}
 use Rattle.dt_agreement.proofs.Homes.{home_of_test, test_of_home, homes_once, ask_here, ask_other}
 use Rattle.dt_agreement.proofs.Requests.{requests_append, requests_here, requests_not, numbered_more}
-use Rattle.dt_agreement.proofs.Sessions.{key_of_test, session_found, place_changed}
-use Rattle.dt_serial.proofs.Callers.{test_of_key}
+use Rattle.dt_agreement.proofs.Sessions.{session_found, place_changed}
+use Rattle.dt_access.proofs.Callers.{key_of_test, test_of_key}
 use Rattle.dt_agreement.proofs.RegionViews.{done_known}
 use Rattle.dt_agreement.proofs.Annotations.{txns_valid, version_stays, home_below, body_fits, annotated_valid}
 

@@ -8,12 +8,9 @@ use Rattle.std.proofs.lemmas.List.Sums.{sum_by-cons}
 use Rattle.dt_lists.specs.Lists.{Has, Distinct, Pairwise}
 use Rattle.dt_lists.proofs.Callers.{has_map, all_get}
 use Rattle.dt_access.specs.Clash.{Bytes, same_key}
-use Rattle.dt_serial.proofs.Callers.{test_of_key}
+use Rattle.dt_access.proofs.Callers.{key_of_test, test_of_key}
 use Rattle.dt_workload.specs.declared.Session.{Session}
 use Rattle.dt_session.specs.World.{Place, is_session, session_at, with_place}
-
-pub key_of_test : (a b : Bytes) → same_key a b ≡ true → a ≡ b
-key_of_test a b e = (bytes_decides a b).0 e
 
 pub session_of_test : (region : ℕ) (name : Bytes) (s : Session) → is_session region name s ≡ true → (s.name ≡ name) × (s.region ≡ region)
 session_of_test region name s e =

@@ -1,6 +1,7 @@
 -- Events, each tried after those before it.
-use Rattle.std.proofs.Common.{◌≡◌, ℕ, zero, suc, arith, ◌+◌, ◌<◌, List, [], ◌∷◌, ◌++◌, length, get_or, take, drop, map, ap, sym, ◌∙◌, subst, refl}
+use Rattle.std.proofs.Common.{◌≡◌, ℕ, arith, ◌+◌, ◌<◌, List, [], ◌∷◌, ◌++◌, length, get_or, take, drop, map, ap, sym, ◌∙◌, subst, refl}
 use Rattle.std.proofs.lemmas.List.{take_more, drop_more, get_or-map, length-map, take-append-drop, take-map}
+use Rattle.dt_lists.proofs.Callers.{same_inside}
 use Rattle.dt_events.specs.declared.Event.{Event}
 use Rattle.dt_cluster.specs.declared.Cluster.{Cluster}
 use Rattle.dt_workload.specs.declared.Workload.{Workload}
@@ -110,6 +111,9 @@ refused_by cluster workload events line (errors.NoMemory) first = tt
 
 -- the number of an event's line hangs on no other number
 pub inside_any : (numbered : List (ℕ × Event)) (i a b : ℕ) → i < length (unnumbered numbered) → get_or (map (λ (event : ℕ × Event). event.0) numbered) i a ≡ get_or (map (λ (event : ℕ × Event). event.0) numbered) i b
-inside_any [] i a b within = absurd (omega (arith, within))
-inside_any (x ∷ numbered) zero a b within = refl
-inside_any (x ∷ numbered) (suc i) a b within = inside_any numbered i a b (omega (arith, within))
+inside_any numbered i a b within =
+    let as_many : length (unnumbered numbered) ≡ length (map number numbered) = length-map numbered (λ (event : ℕ × Event). event.1) ∙ sym (length-map numbered number) in
+    same_inside (map number numbered) i a b (subst (λ n. i < n) as_many within)
+  where
+    number : ℕ × Event → ℕ
+    number event = event.0

@@ -1,5 +1,5 @@
 -- Events beside the numbers of their lines.
-use Rattle.std.proofs.Common.{◌≡◌, ℕ, zero, suc, ◌<◌, List, [], ◌∷◌, ◌++◌, length, get_or, refl, ap, arith}
+use Rattle.std.proofs.Common.{◌≡◌, ℕ, zero, suc, ◌<◌, List, [], ◌∷◌, ◌++◌, length, refl, ap, arith}
 use Rattle.std.specs.List.{zip}
 
 -- one more of each is one more pair
@@ -14,9 +14,3 @@ pub zip_length : {K X : Type 0} (ks : List K) (xs : List X) → length ks ≡ le
 zip_length [] xs same = refl
 zip_length (k ∷ ks) [] same = absurd (omega (arith, same))
 zip_length (k ∷ ks) (x ∷ xs) same = let rest : length (zip ks xs) ≡ length ks = zip_length ks xs (omega (arith, same)) in omega (arith, rest)
-
--- what stands at a place hangs on no other value
-pub at_place : (ns : List ℕ) (i a b : ℕ) → i < length ns → get_or ns i a ≡ get_or ns i b
-at_place [] i a b within = absurd (omega (arith, within))
-at_place (n ∷ ns) zero a b within = refl
-at_place (n ∷ ns) (suc i) a b within = at_place ns i a b (omega (arith, within))

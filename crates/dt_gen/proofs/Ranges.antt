@@ -59,12 +59,3 @@ once_in_row k a (suc n) low high = by (k == a) refl (λ above. once_in_row k (a 
         let above : a + 1 ≤ k = grind (arith, nat_tests) in
         let first = sum_by-cons (λ j. cond (k == j) 1 0) a (range_with_len (a + 1) n) ∙ ap (λ c. cond c 1 0 + count_by (λ j. k == j) (range_with_len (a + 1) n)) e in
         omega (arith, later above, first)
-
--- the sum of sums
-pub sum_by-both : {X : Type 0} (f g : X → ℕ) (xs : List X) → sum_by (λ x. f x + g x) xs ≡ sum_by f xs + sum_by g xs
-sum_by-both f g [] = omega arith
-sum_by-both f g (x ∷ xs) =
-    let all = sum_by-cons (λ x. f x + g x) x xs in
-    let ones = sum_by-cons f x xs in
-    let others = sum_by-cons g x xs in
-    omega (arith, all, ones, others, sum_by-both f g xs)

@@ -20,6 +20,7 @@ use Rattle.dt_access.specs.Clash.{same_key}
 use Rattle.dt_access.specs.Granules.{unit_of}
 use Rattle.dt_table.specs.declared.Shown.{Shown}
 use Rattle.dt_table.specs.Table.{Table, counter_of, is_shown, set_of_keys, shown_at, value_of}
+use Rattle.dt_table.proofs.Callers.{keys_of-set}
 use Rattle.dt_gen.specs.Load.{account, account_numbers}
 use Rattle.dt_gen.proofs.ValidLoad.{accounts_apart}
 use Rattle.dt_gen.specs.Balances.{HoldsAccounts, amount_of, balance, total_of}
@@ -67,15 +68,11 @@ has_of_test key (k ∷ ks) h = by (eq_by_cmp (slice_cmp nat_cmp) key k) refl (ha
 abbrev shown_keys : Table → List Bytes
 shown_keys t = keys (retain_keys (set_of_keys (keys t.values ++ keys t.moves)) (is_shown t))
 
-names_of-set : (names : List Bytes) → map (λ (e : Bytes × Unit {0}). e.0) (map (λ key. (key, tt)) names) ≡ names
-names_of-set [] = refl
-names_of-set (name ∷ names) = ap (λ l. name ∷ l) (names_of-set names)
-
 -- a key is in the set of some keys where it is one of them
 in_set : (names : List Bytes) (key : Bytes) → among key names ≡ true → is_some (get (set_of_keys names) key) ≡ true
 in_set names key there =
     let made : List (Bytes × Unit {0}) = map (λ name. (name, tt)) names in
-    ap is_some (get-from_entries nat_list_cmp_total made key) ∙ is_some-find (slice_cmp nat_cmp) key made ∙ ap (among key) (names_of-set names) ∙ there
+    ap is_some (get-from_entries nat_list_cmp_total made key) ∙ is_some-find (slice_cmp nat_cmp) key made ∙ ap (among key) (keys_of-set names) ∙ there
 
 -- what has a value stands in the map
 is_there : (o : Option (Option Value)) (v : Value) → unwrap_or o None ≡ Some v → is_some o ≡ true

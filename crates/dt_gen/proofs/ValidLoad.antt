@@ -16,7 +16,7 @@ use Rattle.dt_workload.specs.Valid.{calls_in, IsValidSession, IsValidWorkload, R
 use Rattle.dt_workload.specs.declared.workload.Wanted.TheVariants.{Move}
 use Rattle.dt_workload.specs.declared.Session.{Session}
 use Rattle.dt_gen.specs.Load.{account, account_numbers, account_row, load_call, load_calls, load_cluster, load_session, load_workload, session_name, session_numbers, wanted_by, transfer_call}
-use Rattle.dt_gen.proofs.Ranges.{all_in_row, distinct_row, once_in_row, sum_by-both}
+use Rattle.dt_gen.proofs.Ranges.{all_in_row, distinct_row, once_in_row}
 use Rattle.dt_gen.proofs.AccountKeys.{account_apart, account_key, session_apart, session_name_is}
 use Rattle.dt_gen.proofs.OneCallMore.{calls_more, sessions_length}
 
@@ -83,7 +83,7 @@ sessions_more n =
     let had : ℕ → ℕ = λ j. length (load_calls n j) in
     let gets : ℕ → ℕ = λ j. cond (n % 64 == j) 1 0 in
     let same = sum_same (λ j. length (load_calls (n + 1) j)) (λ j. had j + gets j) session_numbers (λ j there. each j) in
-    let parted = sum_by-both had gets session_numbers in
+    let parted = sum_of_sums (λ n. had n + gets n) had gets session_numbers (λ n h. refl) in
     omega (arith, same, parted, one_turn n)
   where
     at : (b : Bool) → length (cond b (load_call n ∷ []) []) ≡ cond b 1 0

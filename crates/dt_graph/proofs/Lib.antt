@@ -24,5 +24,4 @@ pub mod AscendingNumbers
 pub mod Search
 pub mod NumbersOfIds
 pub mod Sorts
-pub mod LastItem
 pub mod NoFields

@@ -1,54 +1,9 @@
--- Where a search in a list of different items finds one, and what the list is after a new one was put to it, for any test that
--- says whether two items are the same.
-use Rattle.std.proofs.Common.{◌≡◌, ℕ, suc, ◌+◌, nat_eq, ◌<◌, Bool, true, false, true≢false, cond, List, [], ◌∷◌, ◌++◌, drop, get_or, length, slice_get, take, Some, None}
-use Rattle.std.proofs.Common.{refl, ap, sym, subst, inl, inr, arith, ◌∙◌}
-use Rattle.std.specs.List.{list_any, position, position_from}
-use Rattle.std.proofs.lemmas.Iterator.Adapters.{position_from-zero}
+-- What is kept of a list of different items that are put one after the other, for any test that says whether two items are the same.
+use Rattle.std.proofs.Common.{◌≡◌, ℕ, ◌+◌, ◌<◌, Bool, cond, List, [], ◌∷◌, ◌++◌, drop, get_or, length, take, refl, ap, sym, subst, inl, ◌∙◌}
+use Rattle.std.specs.List.{list_any}
 use Rattle.std.proofs.lemmas.List.{take_more, take-append-drop}
 use Rattle.dt_lists.specs.Lists.{Distinct, Has}
-use Rattle.dt_lists.proofs.Callers.{any_get, any_of_test, each_across, each_append_left, some_same}
-
--- the test holds of two items where they are the same, and only there
-pub record Tells {A : Type 0} (same : A → A → Bool) : Type 0 where
-  pub of_test : (x y : A) → same x y ≡ true → x ≡ y
-  pub of_self : (x : A) → same x x ≡ true
-
--- the place that a search gives
-found_from : {A : Type 0} (same : A → A → Bool) → Tells same → (x : A) (xs : List A) (start i : ℕ) → Some i ≡ position_from (same x) start xs → (j : ℕ) × (i ≡ start + j) × (slice_get xs j ≡ Some x)
-found_from same t x [] start i e = cc
-found_from same t x (y ∷ xs) start i e = by (same x y) refl e (λ f. found_from same t x xs (start + 1) i f)
-  where
-    by : (b : Bool) → same x y ≡ b → Some i ≡ cond b (Some start) (position_from (same x) (start + 1) xs)
-        → (Some i ≡ position_from (same x) (start + 1) xs → (j : ℕ) × (i ≡ start + 1 + j) × (slice_get xs j ≡ Some x)) → (j : ℕ) × (i ≡ start + j) × (slice_get (y ∷ xs) j ≡ Some x)
-    by true s f rest = let v : i ≡ start = some_same {x = i} {y = start} f in (0, omega (arith, v), ap Some (sym (t.of_test x y s)))
-    by false s f rest = let r = rest f in (suc r.0, omega (arith, r.1), r.2)
-
-pub found_at : {A : Type 0} (same : A → A → Bool) → Tells same → (x : A) (xs : List A) (i : ℕ) → Some i ≡ position (same x) xs → slice_get xs i ≡ Some x
-found_at same t x xs i e = let r = found_from same t x xs 0 i (e ∙ position_from-zero (same x) xs) in let s : i ≡ r.0 = omega (arith, r.1) in ap (slice_get xs) s ∙ r.2
-
--- where a search gives no place, the item is not there
-missed_from : {A : Type 0} (same : A → A → Bool) → Tells same → (x : A) (xs : List A) (start : ℕ) → None ≡ position_from (same x) start xs → ¬ (Has xs x)
-missed_from same t x [] start e h = h
-missed_from same t x (y ∷ xs) start e h = by (same x y) refl e (λ f. missed_from same t x xs (start + 1) f)
-  where
-    by : (b : Bool) → same x y ≡ b → None ≡ cond b (Some start) (position_from (same x) (start + 1) xs) → (None ≡ position_from (same x) (start + 1) xs → ¬ (Has xs x)) → ⊥
-    by true s f rest = cc
-    by false s f rest = elim h [ inl e ↦ true≢false (sym (subst (λ z. same x z ≡ true) (sym e) (t.of_self x)) ∙ s) | inr g ↦ rest f g ]
-
-pub missed : {A : Type 0} (same : A → A → Bool) → Tells same → (x : A) (xs : List A) → None ≡ position (same x) xs → ¬ (Has xs x)
-missed same t x xs e = missed_from same t x xs 0 (e ∙ position_from-zero (same x) xs)
-
--- an item that is not there is put at the back
-pub added_new : {A : Type 0} (same : A → A → Bool) → Tells same → (x : A) (xs : List A) → ¬ (Has xs x) → cond (list_any (same x) xs) xs (xs ++ x ∷ []) ≡ xs ++ x ∷ []
-added_new same t x xs fresh = by (list_any (same x) xs) refl
-  where
-    by : (b : Bool) → list_any (same x) xs ≡ b → cond b xs (xs ++ x ∷ []) ≡ xs ++ x ∷ []
-    by true e = let r = any_get (λ y. same x y ≡ true) xs (any_of_test (same x) xs e) in absurd (fresh (subst (Has xs) (sym (t.of_test x r.0 r.2)) r.1))
-    by false e = refl
-
--- the test of numbers tells them apart
-pub tells_number : Tells nat_eq
-tells_number = record { of_test = λ x y e. grind (arith, e); of_self = λ x. grind arith }
+use Rattle.dt_lists.proofs.Callers.{Tells, added_new, each_across, each_append_left}
 
 -- the items of a list of different ones are put one after the other
 pub index_more : {A : Type 0} (same : A → A → Bool) → Tells same → (list keys new : List A) (n : ℕ) (d : A) → Distinct list → n < length list → keys ≡ take n list

@@ -28,6 +28,11 @@ pub same_rest : {A : Type 0} (front xs ys : List A) → front ++ xs ≡ front ++
 same_rest [] xs ys e = e
 same_rest (b ∷ front) xs ys e = same_rest front xs ys (same_tail e)
 
+-- two lists that are empty together are empty
+pub both_empty : {A : Type 0} (xs ys : List A) → xs ++ ys ≡ [] → (xs ≡ []) × (ys ≡ [])
+both_empty [] ys e = (refl, e)
+both_empty (x ∷ xs) ys e = cc
+
 -- equal options hold one thing
 pub some_same : {A : Type 0} {x y : A} → Some x ≡ Some y → x ≡ y
 some_same e = cc

@@ -12,5 +12,6 @@ pub mod Places
 pub mod Chains
 pub mod Changes
 pub mod Sums
+pub mod Searches
 pub mod Sorted
 pub mod Callers

@@ -3,7 +3,7 @@ use Rattle.std.proofs.Common.{◌≡◌, ◌<◌, ◌⊎◌, ℕ, zero, suc, Boo
 use Rattle.std.proofs.Common.{flat_map, slice_get, take, ◌-◌, ◌+◌, ◌∙◌, Some, refl, sym, ap, subst, inl, inr, append_assoc, append-nil, length-drop, arith}
 use Rattle.std.specs.Prelude.{filter}
 use Rattle.std.proofs.lemmas.Bool.{cases_Bool}
-use Rattle.std.proofs.lemmas.List.{drop_more, take_all}
+use Rattle.std.proofs.lemmas.List.{drop_more, length-append, take_all}
 use Rattle.dt_lists.specs.Lists.{AnyIn, AllIn, Has, Distinct}
 use Rattle.dt_lists.proofs.Words.{any_append, any_append_left, any_append_right, all_append, all_get, all_put}
 use Rattle.dt_lists.proofs.Filters.{has_filter, of_filter}
@@ -102,6 +102,17 @@ all_or P [] i d all lt = absurd (omega arith)
 all_or P (x ∷ xs) zero d all lt = all.0
 all_or P (x ∷ xs) (suc i) d all lt = all_or P xs i d all.1 (omega arith)
 
+-- what the item at each place is, each item is
+pub all_of_places : {A : Type 0} (P : A → Type 0) (d : A) (xs : List A) → ((i : ℕ) → i < length xs → P (get_or xs i d)) → AllIn P xs
+all_of_places P d [] f = tt
+all_of_places P d (x ∷ xs) f = (f zero (omega arith), all_of_places P d xs (λ i lt. f (suc i) (omega (arith, lt))))
+
+-- what stands at a place of a list hangs on no other value
+pub same_inside : {A : Type 0} (xs : List A) (i : ℕ) (a b : A) → i < length xs → get_or xs i a ≡ get_or xs i b
+same_inside [] i a b lt = absurd (omega (arith, lt))
+same_inside (x ∷ xs) zero a b lt = refl
+same_inside (x ∷ xs) (suc i) a b lt = same_inside xs i a b (omega (arith, lt))
+
 -- what stands in the rest of a list stands in the list
 pub has_dropped : {A : Type 0} (n : ℕ) (xs : List A) (x : A) → Has (drop n xs) x → Has xs x
 has_dropped zero xs x h = h
@@ -134,6 +145,13 @@ has_last xs x = any_append_right (λ y. y ≡ x) xs (x ∷ []) (inl refl)
 pub last_place : {A : Type 0} (xs : List A) (x : A) → slice_get (xs ++ x ∷ []) (length xs) ≡ Some x
 last_place [] x = refl
 last_place (y ∷ ys) x = last_place ys x
+
+-- what was pushed is the last item
+pub at_back : {A : Type 0} (xs : List A) (x : A) → Some x ≡ slice_get (xs ++ x ∷ []) (length (xs ++ x ∷ []) - 1)
+at_back xs x = sym (ap (slice_get (xs ++ x ∷ [])) (before (length xs) _ (length-append xs (x ∷ []))) ∙ last_place xs x)
+  where
+    before : (n m : ℕ) → m ≡ n + 1 → m - 1 ≡ n
+    before n m e = omega (arith, e)
 
 pub has_longer : {A : Type 0} (xs ys : List A) (x : A) → Has xs x → Has (xs ++ ys) x
 has_longer xs ys x h = any_append_left (λ y. y ≡ x) xs ys h

@@ -4,7 +4,7 @@ use Rattle.std.specs.Prelude.{filter}
 use Rattle.std.proofs.lemmas.Bool.{cases_Bool}
 use Rattle.std.proofs.lemmas.List.Elements.{filter-append}
 use Rattle.dt_lists.specs.Lists.{IsFront}
-use Rattle.dt_lists.proofs.Callers.{same_head, same_tail}
+use Rattle.dt_lists.proofs.Callers.{both_empty, same_head, same_tail}
 
 -- a list goes on with x after a front, of which the filter keeps xs
 pub record Cut {A : Type 0} (p : A → Bool) (ys xs : List A) (x : A) : Type 0 where
@@ -31,10 +31,6 @@ module _ {A : Type 0} (p : A → Bool) where
   no_item [] x rest e = cc
   no_item (a ∷ xs) x rest e = cc
 
-  nothing_in : (xs rest : List A) → xs ++ rest ≡ [] → ◌≡◌ {A = List A} [] xs
-  nothing_in [] rest e = refl
-  nothing_in (a ∷ xs) rest e = cc
-
   -- where what is kept goes on with x after xs, the list goes on with x after a front with xs
   pub cut_at : (ys xs : List A) (x : A) → IsFront (xs ++ x ∷ []) (filter p ys) → Cut p ys xs x
   cut_at [] xs x f = absurd (no_item xs x f.0 f.1)
@@ -54,7 +50,7 @@ module _ {A : Type 0} (p : A → Bool) where
 
   -- a front of what is kept is what is kept of a front
   pub part_of_front : (ys xs : List A) → IsFront xs (filter p ys) → Part p ys xs
-  part_of_front [] xs f = record { front = []; rest = []; is = refl; passed = nothing_in xs f.0 f.1 }
+  part_of_front [] xs f = record { front = []; rest = []; is = refl; passed = sym (both_empty xs f.0 f.1).0 }
   part_of_front (y ∷ ys) xs f = go (cases_Bool (p y)) xs f (λ zs h. part_of_front ys zs h)
     where
       go : (p y ≡ true) ⊎ (p y ≡ false) → (zs : List A) → IsFront zs (filter p (y ∷ ys)) → ((us : List A) → IsFront us (filter p ys) → Part p ys us) → Part p (y ∷ ys) zs

@@ -1,7 +1,7 @@
 -- The packets of one link and then those of the next: what waits at the inlets, and that each is taken as if it came alone.
 use Rattle.std.proofs.Common.{◌≡◌, ◌<◌, ◌+◌, ℕ, zero, suc, List, [], ◌∷◌, ◌++◌, length, drop, take, set, get_or, flat_map, refl, sym, ap, ap₂, subst, ◌∙◌, arith}
 use Rattle.dt_lists.specs.Lists.{Pairwise}
-use Rattle.dt_lists.proofs.Callers.{all_append_left}
+use Rattle.dt_lists.proofs.Callers.{all_append_left, both_empty}
 use Rattle.dt_packet.specs.declared.packet.Packet.{Packet}
 use Rattle.dt_node.specs.NodeView.{NodeView}
 use Rattle.dt_node.specs.TurnInner.{CanTake, IsTaking}
@@ -57,12 +57,9 @@ module _ {I : Type 0} (waits : I → List Packet) where
   up_to [] k y before none = refl
   up_to (e ∷ ends) zero y before none = ap (λ l. l ++ []) none
   up_to (e ∷ ends) (suc k) y before none =
-      let both = none_both (waits e) (flat_map waits (take k ends)) before in
+      let both = both_empty (waits e) (flat_map waits (take k ends)) before in
       ap₂ (λ l m. l ++ m) both.0 (up_to ends k y both.1 none)
     where
-      none_both : (xs ys : List Packet) → xs ++ ys ≡ [] → (xs ≡ []) × (ys ≡ [])
-      none_both [] ys e = (refl, e)
-      none_both (x ∷ xs) ys e = cc
 
   -- what waits from a place on: what waits there, and behind it
   pub waits_here : (ends : List I) (k : ℕ) (x : I) → k < length ends → x ≡ get_or ends k x → flat_map waits (drop k ends) ≡ waits x ++ flat_map waits (drop (k + 1) ends)

@@ -10,7 +10,7 @@ use Rattle.std.specs.Map.{lookup, set_value}
 use Rattle.std.proofs.lemmas.Bool.{cases_Bool}
 use Rattle.std.proofs.lemmas.Cmp.{nat_list_cmp_total}
 use Rattle.dt_lists.specs.Lists.{AllIn, Distinct, EachThen, Has}
-use Rattle.dt_lists.proofs.Callers.{all_get, all_map, ascending_same, each_image, has_place}
+use Rattle.dt_lists.proofs.Callers.{all_get, all_map, all_of_image, ascending_same, each_image, has_place, lookup_has}
 use Rattle.dt_access.specs.Clash.{Bytes}
 use Rattle.dt_access.specs.Orders.{HasAscendingKeys, KeyBefore}
 use Rattle.dt_access.proofs.Callers.{key_before_flip, same_key_after, same_key_self}
@@ -39,16 +39,7 @@ own_name name = sym (texts_ties name name) ∙ same_key_self name
 
 -- only a session that is there is found by its name
 has_found : (seats : List (Bytes × Seat)) (name : Bytes) (seat : Seat) → lookup (is_named name) seats ≡ Some seat → Has seats (name, seat)
-has_found [] name seat e = cc
-has_found (q ∷ seats) name seat e = go (cases_Bool (is_named name q.0)) (has_found seats name seat)
-  where
-    go : (is_named name q.0 ≡ true) ⊎ (is_named name q.0 ≡ false) → (lookup (is_named name) seats ≡ Some seat → Has seats (name, seat)) → Has (q ∷ seats) (name, seat)
-    go (inl y) later =
-        let here : ◌≡◌ {A = Option Seat} (Some q.1) (Some seat) = rw y at e in
-        let same : q.1 ≡ seat = cc in
-        let named : q.0 ≡ name = sym (same_name name q.0 y) in
-        inl (λ i. (named i, same i))
-    go (inr n) later = inr (later (rw n at e))
+has_found seats name seat e = lookup_has (is_named name) name (λ other y. sym (same_name name other y)) seats seat e
 
 -- sessions in byte order of names that are found alike are the same
 same_seats : (xs ys : List (Bytes × Seat)) → HasAscendingKeys xs → HasAscendingKeys ys → ((name : Bytes) → lookup (is_named name) xs ≡ lookup (is_named name) ys) → xs ≡ ys
@@ -86,16 +77,12 @@ with_ordered s (t ∷ sessions) n o = go (slice_cmp nat_cmp s.name t.name) refl 
         let is : with_session s (t ∷ sessions) ≡ t ∷ with_session s sessions = rw e refl in
         subst AreOrdered (sym is) (with_session_all (λ u. KeyBefore t.name u.name) s sessions (key_before_flip s.name t.name e) o.0, rest)
 
-others_named : (name : Bytes) (sessions : List Session) → AllIn (λ y. ¬ (name ≡ y)) (session_names sessions) → AllIn (λ t. name ≢ t.name) sessions
-others_named name [] a = tt
-others_named name (t ∷ sessions) a = (a.0, others_named name sessions a.1)
-
 region_ordered : (region : ℕ) (sessions : List Session) → Distinct (session_names sessions) → AreOrdered (sessions_at region sessions)
 region_ordered region [] once = tt
 region_ordered region (s ∷ sessions) once = go (cases_Bool (s.region == region)) (region_ordered region sessions once.1)
   where
     go : ((s.region == region) ≡ true) ⊎ ((s.region == region) ≡ false) → AreOrdered (sessions_at region sessions) → AreOrdered (sessions_at region (s ∷ sessions))
-    go (inl y) rest = rw y (with_ordered s (sessions_at region sessions) (sessions_at_all (λ t. s.name ≢ t.name) region sessions (others_named s.name sessions once.0)) rest)
+    go (inl y) rest = rw y (with_ordered s (sessions_at region sessions) (sessions_at_all (λ t. s.name ≢ t.name) region sessions (all_of_image (λ y. s.name ≢ y) (λ t. t.name) sessions once.0)) rest)
     go (inr n) rest = rw n rest
 
 -- before anything happens a node has its region's sessions, all of them idle

@@ -1,7 +1,8 @@
 -- When a turn may stop: a pass over the sessions after which none went on, and a round that left nothing to do.
-use Rattle.std.proofs.Common.{◌≡◌, ◌+◌, ◌⊎◌, inl, inr, false, List, [], ◌∷◌, ◌++◌, refl, sym, ap, subst, subst₂, ◌∙◌, append-nil, append_assoc, arith}
+use Rattle.std.proofs.Common.{◌≡◌, ◌+◌, ◌⊎◌, inl, inr, false, List, [], ◌++◌, refl, sym, ap, subst, subst₂, ◌∙◌, append-nil, append_assoc, arith}
 use Rattle.std.specs.Prelude.{Option, option_and_then}
 use Rattle.std.proofs.lemmas.List.{map-append}
+use Rattle.dt_lists.proofs.Callers.{both_empty}
 use Rattle.dt_access.specs.Clash.{Bytes}
 use Rattle.dt_events.specs.declared.Event.{Event}
 use Rattle.dt_events.specs.Stamps.{events_of}
@@ -20,11 +21,6 @@ use Rattle.dt_node.specs.NodeInWorld.{NodeFits}
 use Rattle.dt_node.specs.Turn.{BeginsEagerly, GoesAfter, HasGone, HasPlacedOwn, IsSettled, IsStill, MadeNoneOrWent, MayAnswerAt, MaySubmitAt, last_at}
 use Rattle.dt_node.specs.TurnInner.{CanGo, MovesOn, PassesOnce}
 use Rattle.dt_node.proofs.CallAfterCall.{made_none, new_joined, new_none}
-
--- where two lists together are empty, both are
-none_both : {A : Type 0} (xs ys : List A) → xs ++ ys ≡ [] → (xs ≡ []) × (ys ≡ [])
-none_both [] ys e = (refl, e)
-none_both (x ∷ xs) ys e = cc
 
 module _ {procs : List ProcTree} {n b : NodeView} (c : CanGo procs [] n) (m : MovesOn procs [] n b) (none : new_items n b ≡ []) where
   goes : GoesAfter c.cluster c.workload (events_of c.all) [] b
@@ -58,7 +54,7 @@ RestsSoFar a n = (n ≡ a) ⊎ IsDrained n.site.region.state.logs n.site.region.
 -- so the last one made no event, where a session went on before it
 last_makes_none : {procs : List ProcTree} {a n b : NodeView} → MovesOn procs [] a n → MovesOn procs [] n b → PassesOnce n false b → RestsSoFar a n → MadeNoneOrWent a b → new_items n b ≡ []
 last_makes_none {procs} {a} {n} {b} g m last (inr drained) why = new_none n b (last.3 drained)
-last_makes_none {procs} {a} {n} {b} g m last (inl same) (inl none) = (none_both (new_items a n) (new_items n b) (sym (new_joined g.gone m.gone) ∙ none)).1
+last_makes_none {procs} {a} {n} {b} g m last (inl same) (inl none) = (both_empty (new_items a n) (new_items n b) (sym (new_joined g.gone m.gone) ∙ none)).1
 last_makes_none {procs} {a} {n} {b} g m last (inl same) (inr went) = absurd (went (last.0 ∙ ap (λ (x : NodeView). x.sessions) same))
 
 -- the last pass of a turn
@@ -116,5 +112,5 @@ settled_on {procs} {xs} {a} {b} {c} g h placed sessions s = record {
 }
   where
     later : MadeNoneOrWent a (record c { turns = c.turns + 1 }) → MadeNoneOrWent b c
-    later (inl none) = inl (none_both (new_items a b) (new_items b c) (sym (new_joined g h) ∙ none)).1
+    later (inl none) = inl (both_empty (new_items a b) (new_items b c) (sym (new_joined g h) ∙ none)).1
     later (inr went) = inr (λ same. went (same ∙ sessions))

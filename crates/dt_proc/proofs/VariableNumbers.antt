@@ -66,12 +66,6 @@ entry_below (v ∷ vs) name = next_below (length vs) (pointwise nat_eq v.0 name)
 at_is : (n q : List ℕ) → is_at (slice_cmp nat_cmp n) q ≡ pointwise nat_eq n q
 at_is n q = sym (texts_ties n q)
 
-same_name : (n q : List ℕ) → pointwise nat_eq n q ≡ true → n ≡ q
-same_name n q e = (bytes_decides n q).0 e
-
-own_name : (n : List ℕ) → pointwise nat_eq n n ≡ true
-own_name n = (bytes_decides n n).1 refl
-
 abbrev Order : List ℕ → List ℕ → Ordering
 Order = slice_cmp nat_cmp
 
@@ -96,7 +90,7 @@ added_new m k vs n s h new up q = chosen (pointwise nat_eq n q) refl
     chosen : (b : Bool) → pointwise nat_eq n q ≡ b → get Order k q ≡ entry_of (vs ++ (n, s) ∷ []) q
     chosen true e =
         let here = up.0 q ∙ ap (λ b. cond b (Some (length vs, s)) (get Order m q)) (at_is n q ∙ e) in
-        let none : entry_of vs q ≡ None = ap (entry_of vs) (sym (same_name n q e)) ∙ sym (h n) ∙ new in
+        let none : entry_of vs q ≡ None = ap (entry_of vs) (sym ((bytes_decides n q).0 e)) ∙ sym (h n) ∙ new in
         here ∙ sym (entry_more vs n s q ∙ ap (with_last (length vs) n s q) none ∙ last_own (length vs) n s q e)
     chosen false e =
         let here = up.0 q ∙ ap (λ b. cond b (Some (length vs, s)) (get Order m q)) (at_is n q ∙ e) in
@@ -108,7 +102,7 @@ known_same m vs n s r known q = chosen (pointwise nat_eq n q) refl
   where
     chosen : (b : Bool) → pointwise nat_eq n q ≡ b → entry_of (vs ++ (n, s) ∷ []) q ≡ entry_of vs q
     chosen true e =
-        let some : entry_of vs q ≡ Some r = ap (entry_of vs) (sym (same_name n q e)) ∙ known in
+        let some : entry_of vs q ≡ Some r = ap (entry_of vs) (sym ((bytes_decides n q).0 e)) ∙ known in
         entry_more vs n s q ∙ ap (with_last (length vs) n s q) some ∙ last_known (length vs) n s q r ∙ sym some
     chosen false e = entry_more vs n s q ∙ last_other (length vs) n s q (entry_of vs q) e
 
@@ -131,7 +125,7 @@ removed m k vs n s h is up q = chosen (pointwise nat_eq n q) refl
     none = last_number (length vs) n s (entry_of vs n) (entry_below vs n) (ap (is_number (length vs)) (sym (h n ∙ entry_more vs n s n)) ∙ is)
 
     chosen : (b : Bool) → pointwise nat_eq n q ≡ b → get Order k q ≡ entry_of vs q
-    chosen true e = up.0 q ∙ ap (λ b. cond b None (get Order m q)) (at_is n q ∙ e) ∙ sym (ap (entry_of vs) (sym (same_name n q e)) ∙ none)
+    chosen true e = up.0 q ∙ ap (λ b. cond b None (get Order m q)) (at_is n q ∙ e) ∙ sym (ap (entry_of vs) (sym ((bytes_decides n q).0 e)) ∙ none)
     chosen false e =
         up.0 q ∙ ap (λ b. cond b None (get Order m q)) (at_is n q ∙ e) ∙ h q ∙ entry_more vs n s q ∙ last_other (length vs) n s q (entry_of vs q) e
 
@@ -147,12 +141,8 @@ earlier len n s None own e =
 pub kept : (m : BTreeMap (List ℕ) (ℕ × Sort)) (vs : Variables) (n : List ℕ) (s : Sort) → AreNumbers m (vs ++ (n, s) ∷ []) →
     is_number (length vs) (get Order m n) ≡ false → AreNumbers m vs
 kept m vs n s h other q =
-    let known = earlier (length vs) n s (entry_of vs n) (own_name n) (ap (is_number (length vs)) (sym (h n ∙ entry_more vs n s n)) ∙ other) in
+    let known = earlier (length vs) n s (entry_of vs n) ((bytes_decides n n).1 refl) (ap (is_number (length vs)) (sym (h n ∙ entry_more vs n s n)) ∙ other) in
     h q ∙ known_same m vs n s known.0 known.1 q
-
-pub not_some : (o : Entry) → false ≡ is_some o → o ≡ None
-not_some None e = refl
-not_some (Some r) e = absurd cc
 
 pub some_entry : (o : Entry) → true ≡ is_some o → (r : ℕ × Sort) × (o ≡ Some r)
 some_entry (Some r) e = (r, refl)

@@ -1,16 +1,13 @@
 -- How rows and granules stay tied when one of them is added.
-use Rattle.std.proofs.Common.{◌≡◌, ◌⊎◌, ℕ, zero, suc, ◌+◌, ◌<◌, Bool, true, false, cond, ◌&&◌, ◌==◌, List, [], ◌∷◌}
-use Rattle.std.proofs.Common.{◌++◌, length, get_or, map, slice_get, slice_index_or, Some, None, refl, ap, sym, subst, inl, inr, arith, ◌∙◌}
-use Rattle.std.specs.List.{list_any, position, position_from}
-use Rattle.std.proofs.lemmas.Iterator.Adapters.{position_from-zero}
-use Rattle.std.specs.Cmp.Lexicographic.{bytes_decides}
-use Rattle.std.proofs.lemmas.Bool.{and_from, and_parts, true≢false}
+use Rattle.std.proofs.Common.{◌≡◌, ◌⊎◌, ℕ, zero, suc, ◌+◌, ◌<◌, Bool, ◌&&◌, ◌==◌, List, [], ◌∷◌}
+use Rattle.std.proofs.Common.{◌++◌, length, get_or, map, slice_get, slice_index_or, Some, refl, ap, sym, subst, inl, inr, arith, ◌∙◌}
+use Rattle.std.proofs.lemmas.Bool.{and_from, and_parts}
 use Rattle.std.proofs.lemmas.List.{get_or_append_left, length_push}
 use Rattle.std.proofs.Math.Seq.{get_or-append_seam}
 use Rattle.dt_lists.specs.Lists.{Has}
-use Rattle.dt_lists.proofs.Callers.{any_get, any_of_test, distinct_push, place_in_longer, some_same}
+use Rattle.dt_lists.proofs.Callers.{Tells, distinct_push, place_in_longer}
 use Rattle.dt_access.specs.Clash.{Bytes, same_key}
-use Rattle.dt_access.proofs.Callers.{same_key_self}
+use Rattle.dt_access.proofs.Callers.{key_of_test, same_key_self}
 use Rattle.dt_queue.specs.RowsInner.{AreTied, granule_name, name_at}
 
 -- a granule was added
@@ -62,45 +59,13 @@ found_at (y ∷ ys) f (suc i) x lt e = found_at ys f i x (omega (arith, lt)) e
 abbrev pub same_name : ℕ × Bytes → ℕ × Bytes → Bool
 same_name a b = (a.0 == b.0) && same_key a.1 b.1
 
-same_of_test : (a b : ℕ × Bytes) → same_name a b ≡ true → a ≡ b
-same_of_test a b e =
+-- the test tells them apart
+pub tells_name : Tells same_name
+tells_name = record {
+  of_test = λ a b e. (
     let p = and_parts (a.0 == b.0) (same_key a.1 b.1) e in
     let home : a.0 ≡ b.0 = grind (arith, p.0) in
-    let key : a.1 ≡ b.1 = (bytes_decides a.1 b.1).0 p.1 in
-    (λ i. (home i, key i))
-
-test_of_self : (a : ℕ × Bytes) → same_name a a ≡ true
-test_of_self a = and_from (a.0 == a.0) (same_key a.1 a.1) (grind arith) (same_key_self a.1)
-
--- the place that a search for a name gives
-named_from : (name : ℕ × Bytes) (xs : List (ℕ × Bytes)) (start i : ℕ) → Some i ≡ position_from (same_name name) start xs → (j : ℕ) × (i ≡ start + j) × (slice_get xs j ≡ Some name)
-named_from name [] start i e = cc
-named_from name (x ∷ xs) start i e = by (same_name name x) refl e (λ f. named_from name xs (start + 1) i f)
-  where
-    by : (t : Bool) → same_name name x ≡ t → Some i ≡ cond t (Some start) (position_from (same_name name) (start + 1) xs)
-        → (Some i ≡ position_from (same_name name) (start + 1) xs → (j : ℕ) × (i ≡ start + 1 + j) × (slice_get xs j ≡ Some name)) → (j : ℕ) × (i ≡ start + j) × (slice_get (x ∷ xs) j ≡ Some name)
-    by true t f rest = let s : i ≡ start = some_same f in (0, omega (arith, s), ap Some (sym (same_of_test name x t)))
-    by false t f rest = let r = rest f in (suc r.0, omega (arith, r.1), r.2)
-
-pub named_at : (name : ℕ × Bytes) (xs : List (ℕ × Bytes)) (i : ℕ) → Some i ≡ position (same_name name) xs → slice_get xs i ≡ Some name
-named_at name xs i e = let r = named_from name xs 0 i (e ∙ position_from-zero (same_name name) xs) in let s : i ≡ r.0 = omega (arith, r.1) in ap (slice_get xs) s ∙ r.2
-
--- where a search for a name gives no place, the name is not there
-unnamed_from : (name : ℕ × Bytes) (xs : List (ℕ × Bytes)) (start : ℕ) → None ≡ position_from (same_name name) start xs → ¬ (Has xs name)
-unnamed_from name [] start e h = h
-unnamed_from name (x ∷ xs) start e h = by (same_name name x) refl e (λ f. unnamed_from name xs (start + 1) f)
-  where
-    by : (t : Bool) → same_name name x ≡ t → None ≡ cond t (Some start) (position_from (same_name name) (start + 1) xs) → (None ≡ position_from (same_name name) (start + 1) xs → ¬ (Has xs name)) → ⊥
-    by true t f rest = cc
-    by false t f rest = elim h [ inl s ↦ true≢false (sym (subst (λ y. same_name name y ≡ true) (sym s) (test_of_self name)) ∙ t) | inr g ↦ rest f g ]
-
-pub unnamed : (name : ℕ × Bytes) (xs : List (ℕ × Bytes)) → None ≡ position (same_name name) xs → ¬ (Has xs name)
-unnamed name xs e = unnamed_from name xs 0 (e ∙ position_from-zero (same_name name) xs)
-
--- a name that is not there is added at the back
-pub added_name : (name : ℕ × Bytes) (xs : List (ℕ × Bytes)) → ¬ (Has xs name) → cond (list_any (same_name name) xs) xs (xs ++ name ∷ []) ≡ xs ++ name ∷ []
-added_name name xs fresh = by (list_any (same_name name) xs) refl
-  where
-    by : (t : Bool) → list_any (same_name name) xs ≡ t → cond t xs (xs ++ name ∷ []) ≡ xs ++ name ∷ []
-    by true e = let r = any_get (λ y. same_name name y ≡ true) xs (any_of_test (same_name name) xs e) in absurd (fresh (subst (Has xs) (sym (same_of_test name r.0 r.2)) r.1))
-    by false e = refl
+    let key : a.1 ≡ b.1 = key_of_test a.1 b.1 p.1 in
+    (λ i. (home i, key i)));
+  of_self = λ a. and_from (a.0 == a.0) (same_key a.1 a.1) (grind arith) (same_key_self a.1);
+}

@@ -77,8 +77,3 @@ next_fresh [] n part e d h = cc
 next_fresh (p ∷ log) zero part e d h = absurd h
 next_fresh (p ∷ log) (suc n) part e d (inl same) = all_get _ (ids_of log) d.0 part.id (has_map (λ (q : Part). q.id) log part (has_place log n part e)) same
 next_fresh (p ∷ log) (suc n) part e d (inr later) = next_fresh log n part e d.1 later
-
--- what all logs have, each place among all homes has
-pub all_logs : (P : List Part → Type 0) (logs : View) → ((home : ℕ) → P (log_at logs home)) → AllIn P logs
-all_logs P [] all = tt
-all_logs P (log ∷ logs) all = (all zero, all_logs P logs (λ home. all (suc home)))

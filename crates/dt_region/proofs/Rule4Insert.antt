@@ -5,7 +5,7 @@ use Rattle.std.specs.Prelude.{slice_index}
 use Rattle.std.proofs.lemmas.List.{length-set, get_or-set_same, get_or-set_other}
 use Rattle.std.proofs.lemmas.Option.{slice_get_within, same_Some}
 use Rattle.dt_lists.specs.Lists.{AllIn, Has, Either}
-use Rattle.dt_lists.proofs.Callers.{all_get, all_put}
+use Rattle.dt_lists.proofs.Callers.{all_get, all_of_places, all_put}
 use Rattle.dt_lists.proofs.Callers.{has_place}
 use Rattle.dt_lists.proofs.Callers.{either_nat}
 use Rattle.dt_access.specs.declared.Part.{Part}
@@ -26,7 +26,7 @@ use Rattle.dt_region.proofs.StaysSound.{stays_sound}
 use Rattle.dt_region.proofs.ViewOfRegion.{IsSeenAs, kept_under, under}
 use Rattle.dt_region.proofs.HeldTransactions.{held_homes, view_parts}
 use Rattle.dt_txn.proofs.Callers.{fronts_at}
-use Rattle.dt_region.proofs.Logs.{fronts_length, fronts_insert, fronts_few, parts_one_more, next_fresh, all_logs, log_few}
+use Rattle.dt_region.proofs.Logs.{fronts_length, fronts_insert, fronts_few, parts_one_more, next_fresh, log_few}
 
 module _ (s : RegionState) (sound : IsSoundRegion s) (home : ℕ) (part : Part) (known : home < s.regions) (next : slice_get (log_at s.logs home) (slice_index s.here.inserted home) ≡ Some part) where
   abbrev sight : View
@@ -77,8 +77,8 @@ module _ (s : RegionState) (sound : IsSoundRegion s) (home : ℕ) (part : Part) 
     fresh = subst (λ h. ¬ (HasPart (log_at sight h) part.id)) (sym part_home)
         (subst (λ l. ¬ (HasPart l part.id)) (sym (fronts_at s.here.inserted s.logs home)) (next_fresh (log_at s.logs home) (slice_index s.here.inserted home) part next (sound.once home)));
     few = room;
-    alike = all_logs (AllIn (λ p. p.id ≡ part.id → p.homes ≡ part.homes)) sight (λ other. all_put _ (log_at sight other) (λ p h. alike_at other p (view_parts s sound other p h)));
-    ranked = all_logs (AllIn (λ p. p.id ≡ part.id → p.rank ≡ part.rank)) sight (λ other. all_put _ (log_at sight other) (λ p h. ranked_at other p (view_parts s sound other p h)));
+    alike = all_of_places (AllIn (λ p. p.id ≡ part.id → p.homes ≡ part.homes)) [] sight (λ other there. all_put _ (log_at sight other) (λ p h. alike_at other p (view_parts s sound other p h)));
+    ranked = all_of_places (AllIn (λ p. p.id ≡ part.id → p.rank ≡ part.rank)) [] sight (λ other there. all_put _ (log_at sight other) (λ p h. ranked_at other p (view_parts s sound other p h)));
   }
 
   inserted_few : (other : ℕ) → slice_index lengths other ≤ length (log_at s.logs other)

@@ -1,6 +1,7 @@
 -- All is done where all seats say so; and then the events of the nodes are a finished list.
-use Rattle.std.proofs.Common.{◌≡◌, ◌<◌, ◌+◌, ◌↔◌, ℕ, zero, suc, Bool, IsTrue, List, [], ◌∷◌, length, sym, subst, arith}
+use Rattle.std.proofs.Common.{◌≡◌, ◌<◌, ◌+◌, ◌↔◌, ℕ, Bool, IsTrue, List, length, sym, subst}
 use Rattle.dt_lists.specs.Lists.{AllIn}
+use Rattle.dt_lists.proofs.Callers.{all_of_places, all_or}
 use Rattle.dt_cluster.specs.declared.Cluster.{Cluster}
 use Rattle.dt_workload.specs.declared.Workload.{Workload}
 use Rattle.dt_session.specs.Sessions.{EachNameIsAnswered}
@@ -8,20 +9,17 @@ use Rattle.dt_node.specs.NodeView.{NodeView}
 use Rattle.dt_run.specs.EndOfRun.{IsAllDone, HasDone}
 use Rattle.dt_run.specs.HelpersInner.{HaveAllDone}
 use Rattle.dt_run.specs.NodesView.{NodesView, node_in}
-use Rattle.dt_run.specs.SeatsInner.{AreSeated, HasFewSubmitted, SeatView, nodes_view, seat_at}
+use Rattle.dt_run.specs.SeatsInner.{AreSeated, HasFewSubmitted, SeatView, no_seat, nodes_view, seat_at}
 use Rattle.dt_run.proofs.SitesAfter.{submitted_few}
 use Rattle.dt_run.proofs.WaitingPackets.{node_at_seat, region_there, seat_there}
 
 -- each seat, or each item
 
 pub each_seat : (P : SeatView → Type 0) (seats : List SeatView) → AllIn P seats → (region : ℕ) → region < length seats → P (seat_at seats region)
-each_seat P [] a region lt = absurd (omega (arith, lt))
-each_seat P (s ∷ seats) a zero lt = a.0
-each_seat P (s ∷ seats) a (suc region) lt = each_seat P seats a.1 region (omega (arith, lt))
+each_seat P seats a region lt = all_or P seats region no_seat a lt
 
 pub all_seats : (P : SeatView → Type 0) (seats : List SeatView) → ((region : ℕ) → region < length seats → P (seat_at seats region)) → AllIn P seats
-all_seats P [] f = tt
-all_seats P (s ∷ seats) f = (f zero (omega arith), all_seats P seats (λ region lt. f (suc region) (omega (arith, lt))))
+all_seats P seats f = all_of_places P no_seat seats f
 
 module _ {cluster : Cluster} {workload : Workload} {seats : List SeatView} {broken : Bool} (a : AreSeated cluster workload seats broken) where
   abbrev v : NodesView

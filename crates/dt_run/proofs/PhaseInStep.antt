@@ -4,7 +4,7 @@ use Rattle.std.specs.Prelude.{flat_map}
 use Rattle.std.proofs.lemmas.List.{get_or-map as read_map, length-map}
 use Rattle.std.proofs.Math.ListN.{get_or-map}
 use Rattle.dt_lists.specs.Lists.{Pairwise}
-use Rattle.dt_lists.proofs.Callers.{pairwise_length}
+use Rattle.dt_lists.proofs.Callers.{both_empty, pairwise_length}
 use Rattle.dt_packet.specs.declared.loss.LossPlan.{LossPlan}
 use Rattle.dt_packet.specs.declared.packet.Packet.{Packet}
 use Rattle.dt_packet.specs.Loss.{IsVerdict}
@@ -38,18 +38,10 @@ pair_at R (x ∷ xs) [] p k d e lt = absurd p
 pair_at R (x ∷ xs) (y ∷ ys) p zero d e lt = p.0
 pair_at R (x ∷ xs) (y ∷ ys) p (suc k) d e lt = pair_at R xs ys p.1 k d e (omega (arith, lt))
 
-front_nothing : {A : Type 0} (xs ys : List A) → xs ++ ys ≡ [] → xs ≡ []
-front_nothing [] ys e = refl
-front_nothing (x ∷ xs) ys e = cc
-
-rest_nothing : {A : Type 0} (xs ys : List A) → xs ++ ys ≡ [] → ys ≡ []
-rest_nothing [] ys e = e
-rest_nothing (x ∷ xs) ys e = cc
-
 emptied_at : (ins : List RingInView) → flat_map waits_in ins ≡ [] → (k : ℕ) (e : RingInView) → k < length ins → (get_or ins k e).waits ≡ []
 emptied_at [] none k e lt = absurd (omega (arith, lt))
-emptied_at (i ∷ ins) none zero e lt = front_nothing i.waits (flat_map waits_in ins) none
-emptied_at (i ∷ ins) none (suc k) e lt = emptied_at ins (rest_nothing i.waits (flat_map waits_in ins) none) k e (omega (arith, lt))
+emptied_at (i ∷ ins) none zero e lt = (both_empty i.waits (flat_map waits_in ins) none).0
+emptied_at (i ∷ ins) none (suc k) e lt = emptied_at ins (both_empty i.waits (flat_map waits_in ins) none).1 k e (omega (arith, lt))
 
 -- while they were apart the ends of each link stay so
 module _ {procs : List ProcTree} {seats seats' : List SeatView} (linked : AreLinkedBy AreBeside seats) (g : EachGoes procs seats seats') where

@@ -8,7 +8,7 @@ pub use Rattle.dt_serial.proofs.OneTransaction.{live_of_outcome}
 pub use Rattle.dt_serial.proofs.Outcome.{across_moves, counters_exact, counters_reached, flag_down, flag_up, move_numbered, moves_front}
 pub use Rattle.dt_serial.proofs.Outcome.{one_outcome, one_restricted, one_set, single_outcome}
 pub use Rattle.dt_serial.proofs.PastOfId.{down_of_order, down_push}
-pub use Rattle.dt_serial.proofs.Rows.{same_moves, test_of_key}
+pub use Rattle.dt_serial.proofs.Rows.{same_moves}
 pub use Rattle.dt_serial.proofs.Runs.{movers_ran, moves_grow, has_outcome_at, outcomes_append, outcomes_ids, table_after_append}
 pub use Rattle.dt_serial.proofs.SameOrder.{down_as, history_as}
 pub use Rattle.dt_serial.proofs.ValidTransactions.{valid_keeps}

@@ -1,27 +1,19 @@
 -- What an effect does to a table, at one key and at one unit.
 use Rattle.std.proofs.Common.{◌≡◌, ◌≢◌, ℕ, true, false, cond, List, [], ◌∷◌, ◌++◌, Some, None, IsSomeAnd, refl, sym, ap, ◌∙◌, inl, inr}
 use Rattle.std.specs.Prelude.{Option, unwrap_or}
-use Rattle.std.specs.Cmp.Lexicographic.{bytes_decides}
 use Rattle.std.specs.FinMap.{get}
-use Rattle.std.proofs.lemmas.Bool.{false_from_ne_true}
 use Rattle.dt_lists.specs.Lists.{AnyIn, Either}
 use Rattle.dt_lists.proofs.Callers.{either_any, either_or}
 use Rattle.dt_access.specs.Clash.{Bytes, same_key}
 use Rattle.dt_access.specs.Granules.{unit_of}
 use Rattle.dt_access.specs.declared.TxnId.{TxnId}
+use Rattle.dt_access.proofs.Callers.{same_key_other, test_of_key}
 use Rattle.dt_text.specs.declared.Value.{Value}
 use Rattle.dt_table.specs.declared.Effect.{Effect}
 use Rattle.dt_table.specs.Table.{Table, Moved, value_of, moves_of, written, all_written, maybe_moved, apply}
 use Rattle.dt_table.proofs.Callers.{all_written-keeps, get-put, homes-apply, regions-apply, same_table, version-apply}
 use Rattle.dt_serial.specs.Order.{Changes}
 use Rattle.dt_text.proofs.Callers.{either_bytes}
-
--- equal keys pass the test
-pub test_of_key : (a b : Bytes) → a ≡ b → same_key a b ≡ true
-test_of_key a b e = (bytes_decides a b).1 e
-
-key_other : (a b : Bytes) → a ≢ b → same_key a b ≡ false
-key_other a b n = false_from_ne_true _ (λ e. n ((bytes_decides a b).0 e))
 
 -- keys of one unit have the same moves
 pub same_moves : (t : Table) (version : ℕ) (a b : Bytes) → t.version ≡ version → unit_of version a ≡ unit_of version b → moves_of t a ≡ moves_of t b
@@ -38,7 +30,7 @@ values_of_apply e t = by e.moved
     by (Some m) = refl
 
 written_other : (t : Table) (key : Bytes) (v : Option Value) (q : Bytes) → q ≢ key → get (written t key v).values q ≡ get t.values q
-written_other t key v q n = get-put t.values key v q ∙ ap (λ b. cond b (Some v) (get t.values q)) (key_other q key n)
+written_other t key v q n = get-put t.values key v q ∙ ap (λ b. cond b (Some v) (get t.values q)) (same_key_other q key n)
 
 written_same : (t : Table) (key : Bytes) (v : Option Value) (q : Bytes) → q ≡ key → get (written t key v).values q ≡ Some v
 written_same t key v q e = get-put t.values key v q ∙ ap (λ b. cond b (Some v) (get t.values q)) (test_of_key q key e)
@@ -92,7 +84,7 @@ moves_kept e t version w is n = moves_at e t w ∙ by e.moved n
     by None n = refl
     by (Some m) n =
         ap (λ b. cond b (Some (moves_of t m.0 ++ record { target = m.1; by = m.2 } ∷ [])) (get t.moves w))
-        (key_other w (unit_of t.version m.0) (λ s. n (sym (s ∙ ap (λ v. unit_of v m.0) is))))
+        (same_key_other w (unit_of t.version m.0) (λ s. n (sym (s ∙ ap (λ v. unit_of v m.0) is))))
 
 -- and what it makes of the moves of a unit depends on these moves alone
 moves_alike : (f : Effect) (t u : Table) (w : Bytes) → t.version ≡ u.version → get t.moves w ≡ get u.moves w → get (apply f t).moves w ≡ get (apply f u).moves w
@@ -115,9 +107,9 @@ moves_alike f t u w is e = moves_at f t w ∙ by f.moved ∙ sym (moves_at f u w
             ∙ ap (λ k. Some (unwrap_or (get u.moves k) [] ++ made)) there
             ∙ sym (ap (λ b. cond b (Some (moves_of u m.0 ++ made)) (get u.moves w)) (test_of_key w (unit_of u.version m.0) there))
         at (inr n) =
-            ap (λ b. cond b (Some (moves_of t m.0 ++ made)) (get t.moves w)) (key_other w (unit_of t.version m.0) n)
+            ap (λ b. cond b (Some (moves_of t m.0 ++ made)) (get t.moves w)) (same_key_other w (unit_of t.version m.0) n)
             ∙ e
-            ∙ sym (ap (λ b. cond b (Some (moves_of u m.0 ++ made)) (get u.moves w)) (key_other w (unit_of u.version m.0) (λ s. n (s ∙ sym (ap (λ v. unit_of v m.0) is)))))
+            ∙ sym (ap (λ b. cond b (Some (moves_of u m.0 ++ made)) (get u.moves w)) (same_key_other w (unit_of u.version m.0) (λ s. n (s ∙ sym (ap (λ v. unit_of v m.0) is)))))
 
 either_writes : (e : Effect) (q : Bytes) → Either (AnyIn (λ w. w.0 ≡ q) e.writes)
 either_writes e q = either_any _ e.writes (λ w. either_bytes w.0 q)

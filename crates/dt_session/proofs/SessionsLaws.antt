@@ -1,7 +1,7 @@
 -- The sessions of a region, gathered from a workload and found by their names.
 use Rattle.std.proofs.Common.{◌≡◌, ◌≢◌, ◌⊎◌, ◌<◌, ◌≤◌, ◌+◌, ◌-◌, ◌^◌, ◌==◌, ℕ, zero, suc, Bool, true, false, cond, eq-eqb, eqb, eqb-true, List, [], ◌∷◌}
 use Rattle.std.proofs.Common.{length, map, reverse, get_or, drop, slice_get, ◌++◌, Some, None, refl, sym, ap, subst, ◌∙◌, inl, inr, arith}
-use Rattle.std.specs.Prelude.{◌↔◌, Option, IsTrue, is_some, option_map, position}
+use Rattle.std.specs.Prelude.{◌↔◌, Option, IsTrue, is_some, option_map}
 use Rattle.std.specs.List.{All, AllByRecursion}
 use Rattle.std.specs.List.Sorted.{IsStrictlySortedBy}
 use Rattle.std.specs.declared.cmp.Ordering.{Ordering}
@@ -13,15 +13,14 @@ use Rattle.std.specs.Map.{keys_of, lookup, set_value}
 use Rattle.std.proofs.lemmas.Map.{keys-set_value, length-set_value}
 use Rattle.std.proofs.lemmas.Map.Steps.{set_value_same}
 use Rattle.std.proofs.lemmas.Bool.{cases_Bool, false_from_ne_true}
-use Rattle.std.proofs.lemmas.List.Quantifiers.{position-Some}
-use Rattle.std.proofs.lemmas.Option.{same_Some, slice_get-get_or}
+use Rattle.std.proofs.lemmas.Option.{same_Some}
 use Rattle.std.proofs.lemmas.List.{append_assoc, drop_more, get_or-reverse, length-append, length-reverse}
 use Rattle.std.proofs.lemmas.List.Sums.{sum_by-cons}
 use Rattle.indexmap.specs.IndexMap.{IndexMap, insert_entry as insert_last}
 use Rattle.indexmap.specs.Layout.{set_value_at}
 use Rattle.indexmap.proofs.CallerLemmas.{insert_entry-new}
 use Rattle.dt_lists.specs.Lists.{AllIn, Distinct, EachThen, Has}
-use Rattle.dt_lists.proofs.Callers.{all_get, all_put, each_image, each_of_image, has_middle, has_place}
+use Rattle.dt_lists.proofs.Callers.{all_get, all_of_image, all_put, each_image, each_of_image, has_middle, has_place, not_some}
 use Rattle.dt_access.specs.Clash.{Bytes, same_key}
 use Rattle.dt_access.specs.Orders.{HasAscendingKeys, KeyBefore}
 use Rattle.dt_access.specs.declared.TxnId.{TxnId}
@@ -108,11 +107,7 @@ inserted s (t ∷ sessions) n = go (slice_cmp nat_cmp s.name t.name) refl (inser
 
 names_after : (sessions : List Session) (n : ℕ) (d : Session) → Distinct (session_names sessions) → n < length sessions → AllIn (λ t. (get_or sessions n d).name ≢ t.name) (drop (suc n) sessions)
 names_after [] n d once lt = absurd (omega arith)
-names_after (s ∷ sessions) zero d once lt = go sessions once.0
-  where
-    go : (ts : List Session) → AllIn (λ y. s.name ≢ y) (map (λ t. t.name) ts) → AllIn (λ t. s.name ≢ t.name) ts
-    go [] a = tt
-    go (t ∷ ts) a = (a.0, go ts a.1)
+names_after (s ∷ sessions) zero d once lt = all_of_image (λ y. s.name ≢ y) (λ t. t.name) sessions once.0
 names_after (s ∷ sessions) (suc n) d once lt = names_after sessions n d once.1 (omega arith)
 
 -- the session of a turn, where they are taken from the last one to the first
@@ -258,19 +253,9 @@ written_there (q ∷ entries) (suc i) p seat a e =
 pub looked_up : (entries : List (Bytes × Seat)) (name : Bytes) → lookup (same_key name) entries ≡ lookup (is_named name) entries
 looked_up entries name = ap (λ test. lookup test entries) (λ j other. texts_ties name other j)
 
--- where the map finds a name, the name stands
-pub placed : (entries : List (Bytes × Seat)) (name : Bytes) (i : ℕ) → position (same_key name) (keys_of entries) ≡ Some i → slice_get (keys_of entries) i ≡ Some name
-placed entries name i e =
-    let p = position-Some (same_key name) (keys_of entries) i [] e in
-    slice_get-get_or (keys_of entries) i [] p.0 ∙ ap Some (sym ((bytes_decides name (get_or (keys_of entries) i [])).0 p.1))
-
 -- where it finds none, there is no session of that name
 pub not_placed : (entries : List (Bytes × Seat)) (name : Bytes) → false ≡ is_some (lookup (same_key name) entries) → lookup (is_named name) entries ≡ None
-not_placed entries name e = sym (looked_up entries name) ∙ none (lookup (same_key name) entries) e
-  where
-    none : (o : Option Seat) → false ≡ is_some o → o ≡ None
-    none None e = refl
-    none (Some seat) e = cc
+not_placed entries name e = sym (looked_up entries name) ∙ not_some (lookup (same_key name) entries) e
 
 -- what follows where the session of a name is found, and another is put in its place
 module _ (s v : SessionsView) (is : s ≡ v) (name : Bytes) (seat : Seat) (found : seat_of s name ≡ Some seat) where
@@ -355,17 +340,13 @@ idle_with name s (t ∷ sessions) n = go (cases_Bool (is_lt (slice_cmp nat_cmp s
     go (inr m) (inr a) (inl b) rest = rw m (rw a (rw b refl))
     go (inr m) (inr a) (inr b) rest = rw m (rw b rest)
 
-names_of : (s : Session) (sessions : List Session) → AllIn (λ y. s.name ≢ y) (session_names sessions) → AllIn (λ t. s.name ≢ t.name) sessions
-names_of s [] a = tt
-names_of s (t ∷ sessions) a = (a.0, names_of s sessions a.1)
-
 pub idle_found : (region : ℕ) (name : Bytes) (sessions : List Session) → Distinct (session_names sessions)
     → lookup (is_named name) (map idle_seat (sessions_at region sessions)) ≡ option_map (λ (x : Session × Place). (idle_seat x.0).1) (session_at sessions (map (λ s. idle_place) sessions) region name)
 idle_found region name [] once = refl
 idle_found region name (s ∷ sessions) once = go (cases_Bool (s.region == region)) (cases_Bool (same_key s.name name)) (idle_found region name sessions once.1)
   where
     away : AllIn (λ t. s.name ≢ t.name) (sessions_at region sessions)
-    away = sessions_at_all (λ t. s.name ≢ t.name) region sessions (names_of s sessions once.0)
+    away = sessions_at_all (λ t. s.name ≢ t.name) region sessions (all_of_image (λ y. s.name ≢ y) (λ t. t.name) sessions once.0)
 
     named : same_key s.name name ≡ true → is_named name s.name ≡ true
     named e = sym (texts_ties name s.name) ∙ (bytes_decides name s.name).1 (sym ((bytes_decides s.name name).0 e))

@@ -2,7 +2,7 @@
 pub use Rattle.dt_site.proofs.Results.{on_ok}
 pub use Rattle.dt_site.proofs.Lists.{attempt_at, attempts_have}
 pub use Rattle.dt_site.proofs.ListLengths.{HasShortLists, legal_short}
-pub use Rattle.dt_site.proofs.SitesInWorlds.{Steps, after_more, held_in_log, received_stay, a_region, inv, many_here, order, others_stand, own_of, outcome_here, own_log, run_more, txns_stay}
+pub use Rattle.dt_site.proofs.SitesInWorlds.{Steps, after_more, held_in_log, received_stay, a_region, inv, many_here, others_stand, own_of, outcome_here, own_log, run_more, txns_stay}
 pub use Rattle.dt_site.proofs.AskedRequests.{AsksFor, asked_held, asks_for, request_held}
 pub use Rattle.dt_site.proofs.Moves.{can_move, counter_few, fits_region, holds_valid}
 pub use Rattle.dt_site.proofs.Opening.{opening_node_is, opening_stands}

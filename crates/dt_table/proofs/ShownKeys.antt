@@ -104,13 +104,13 @@ module _ {V : Type 0} (keep : Bytes → V → Bool) where
 -- ---- sets of keys
 
 -- a key in a set, which gives it nothing
-abbrev in_set : Bytes → Bytes × Unit {0}
+abbrev pub in_set : Bytes → Bytes × Unit {0}
 in_set k = (k, tt)
 
 abbrev there : Option (Unit {0})
 there = Some tt
 
-keys_of-set : (ks : List Bytes) → keys_of (map in_set ks) ≡ ks
+pub keys_of-set : (ks : List Bytes) → keys_of (map in_set ks) ≡ ks
 keys_of-set [] = refl
 keys_of-set (k ∷ ks) = ap (λ l. k ∷ l) (keys_of-set ks)
 

@@ -14,7 +14,7 @@ use Rattle.dt_queue.specs.Queues.{Waiting, HasDistinctSlots, is_at, nearest, nei
 use Rattle.dt_waits.specs.Waits.{others, degree, is_leaving, is_of, lowered, lowered_by, slots_of}
 use Rattle.dt_waits.proofs.NeighbourChains.{is_near, nearest_clash, neighbours_split, slot_same, slot_other}
 use Rattle.dt_waits.proofs.NeighboursOfTheRest.{KeepsLater, neighbours_kept, neighbours_pushed}
-use Rattle.dt_waits.proofs.Sums.{chosen_turned, filter_both, filter_same, length_split, sum_chosen, sum_grouped, sum_kept, sum_of_ones, sum_of_sums, sum_swapped}
+use Rattle.dt_waits.proofs.Sums.{chosen_turned, filter_both, filter_same, length_split, sum_chosen, sum_grouped, sum_kept, sum_of_ones, sum_swapped}
 
 -- the entries that pass the test, among the neighbours of the entries of a vertex: how many there are
 abbrev pub count_neighbours : (Waiting → Bool) → List Waiting → ℕ → ℕ

@@ -56,10 +56,7 @@ keeping_first regions = record {
 
 -- what was pushed is the last item
 pub last_pushed : {A : Type 0} (xs : List A) (x y : A) → Some y ≡ slice_get (xs ++ x ∷ []) (length (xs ++ x ∷ []) - 1) → y ≡ x
-last_pushed {A = A} xs x y e = some_same (e ∙ ap (slice_get (xs ++ x ∷ [])) (before (length xs) _ (length-append xs (x ∷ []))) ∙ last_place xs x)
-  where
-    before : (n m : ℕ) → m ≡ n + 1 → m - 1 ≡ n
-    before n m e = omega (arith, e)
+last_pushed xs x y e = some_same (e ∙ sym (at_back xs x))
 
 -- by the place of an id
 pub at_named : (ids : List TxnId) (v : ℕ) (id : TxnId) → slice_get ids v ≡ Some id → id_at ids v ≡ id

@@ -33,16 +33,12 @@ none_kept p (x ∷ xs) e = by (cases_Bool (p x)) (λ k. none_kept p xs k)
     by (inl k) rest = let long : suc (length (filter p xs)) ≡ 0 = rw k at e in absurd (omega (arith, long))
     by (inr k) rest = (k, rest (rw k at e))
 
-kept_none : {A : Type 0} (p : A → Bool) (xs : List A) → AllIn (λ x. p x ≡ false) xs → length (filter p xs) ≡ 0
-kept_none p [] all = refl
-kept_none p (x ∷ xs) all = rw all.0 (kept_none p xs all.1)
-
 -- none is lacking where each home has a part, and only there
 
 pub none_lacking : (view : View) (t : TxnId) (homes : List ℕ) → (lacking view t homes ≡ 0) ↔ HasParts view homes t
 none_lacking view t homes = (
   λ e. all_put _ homes (λ home h. part_of_test (log_at view home) t (not-false _ (all_get _ homes (none_kept (λ home. not (has_part (log_at view home) t)) homes e) home h))),
-  λ a. kept_none _ homes (all_put _ homes (λ home h. ap not (test_of_part (log_at view home) t (all_get (λ home. HasPart (log_at view home) t) homes a home h)))),
+  λ a. ap length (filter_none _ homes (all_put _ homes (λ home h. ap not (test_of_part (log_at view home) t (all_get (λ home. HasPart (log_at view home) t) homes a home h)))),
 )
 
 pub complete_of_none : (view : View) (t : TxnId) (home : ℕ) (p : Part) → Has (log_at view home) p → p.id ≡ t → lacking view t p.homes ≡ 0 → IsComplete view t

@@ -5,17 +5,7 @@ use Rattle.std.specs.List.{list_any, sum_by}
 use Rattle.std.proofs.lemmas.Bool.{cases_Bool, false_from_ne_true}
 use Rattle.std.proofs.lemmas.List.Sums.{sum_by-cons}
 use Rattle.dt_lists.specs.Lists.{Has, Distinct}
-use Rattle.dt_lists.proofs.Callers.{all_get, any_get, any_of_test}
-
--- terms that are sums
-pub sum_of_sums : {A : Type 0} (f g h : A → ℕ) (xs : List A) → ((x : A) → Has xs x → f x ≡ g x + h x) → sum_by f xs ≡ sum_by g xs + sum_by h xs
-sum_of_sums f g h [] e = omega arith
-sum_of_sums f g h (x ∷ xs) e =
-    sum_by-cons f x xs ∙ joined (f x) (g x) (h x) (sum_by f xs) (sum_by g xs) (sum_by h xs) (e x (inl refl)) (sum_of_sums f g h xs (λ y k. e y (inr k)))
-    ∙ sym (ap₂ ◌+◌ (sum_by-cons g x xs) (sum_by-cons h x xs))
-  where
-    joined : (a b c s t u : ℕ) → a ≡ b + c → s ≡ t + u → a + s ≡ (b + t) + (c + u)
-    joined a b c s t u p q = omega (arith, p, q)
+use Rattle.dt_lists.proofs.Callers.{all_get, any_get, any_of_test, sum_of_sums}
 
 -- a sum over what is kept, where the terms of all else are zero
 pub sum_kept : {A : Type 0} (f : A → ℕ) (keep : A → Bool) (xs : List A) → ((x : A) → Has xs x → keep x ≡ false → f x ≡ 0) → sum_by f (filter keep xs) ≡ sum_by f xs

@@ -41,9 +41,6 @@ use Rattle.dt_workload.proofs.OneForm.{one_form}
 abbrev HaveNames : List ProcTree → Type 0
 HaveNames procs = Distinct (map (λ p. p.name) procs)
 
-other_name : (name : Bytes) (p : ProcTree) → p.name ≢ name → pointwise nat_eq p.name name ≡ false
-other_name name p ne = false_from_ne_true (pointwise nat_eq p.name name) (λ e. ne ((bytes_decides p.name name).0 e))
-
 named_at : (procs : List ProcTree) (number : ℕ) (body : ProcTree) (name : Bytes) → HaveNames procs → slice_get procs number ≡ Some body → body.name ≡ name
     → position_or_len (λ p. pointwise nat_eq p.name name) procs ≡ number
 named_at [] number body name once e is = cc
@@ -52,7 +49,7 @@ named_at (p ∷ ps) zero body name once e is =
 named_at (p ∷ ps) (suc number) body name once e is =
     let next : 1 + number ≡ suc number = omega arith in
     let later = has_map (λ p. p.name) ps body (has_place ps number body e) in
-    let other = other_name name p (λ same. all_get _ (map (λ p. p.name) ps) once.0 body.name later (same ∙ sym is)) in
+    let other = same_key_other p.name name (λ same. all_get _ (map (λ p. p.name) ps) once.0 body.name later (same ∙ sym is)) in
     ap (λ b. cond (not b) (1 + position_or_len (λ p. pointwise nat_eq p.name name) ps) 0) other
     ∙ ap (λ n. 1 + n) (named_at ps number body name once.1 e is)
     ∙ next

@@ -16,7 +16,8 @@ use Rattle.dt_lists.proofs.Callers.{any_get, any_of_test, each_at, get_front, fr
 use Rattle.dt_access.specs.Clash.{Bytes, same_key}
 use Rattle.dt_workload.specs.declared.Session.{Session}
 use Rattle.dt_session.specs.World.{Place, is_session, session_at, with_place}
-use Rattle.dt_agreement.proofs.Callers.{key_of_test, session_of_test}
+use Rattle.dt_agreement.proofs.Callers.{session_of_test}
+use Rattle.dt_access.proofs.Callers.{key_of_test}
 
 -- the first place at which a test passes, by recursion
 

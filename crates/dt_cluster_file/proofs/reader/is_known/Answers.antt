@@ -7,17 +7,11 @@ use Rattle.dt_cluster_file.proofs.reader.is_known.Goals as goal
 abbrev same : List ℕ → List ℕ → Bool
 same a b = pointwise nat_eq a b
 
-tells : (a b : List ℕ) → same a b ≡ true → a ≡ b
-tells a b = (bytes_decides a b).0
-
-told : (a b : List ℕ) → a ≡ b → same a b ≡ true
-told a b = (bytes_decides a b).1
-
 turned : (a b : List ℕ) → same a b ≡ same b a
 turned a b = nat_list_eq_equiv.symm a b
 
 pub returns : goal.returns
 returns c = (
-  λ t. listed_has same tells told turned known_names c.args.name.now (sym c.contains.ensures.value ∙ t),
-  λ h. c.contains.ensures.value ∙ has_listed same tells told turned known_names c.args.name.now h,
+  λ t. listed_has same (λ a b. (bytes_decides a b).0) (λ a b. (bytes_decides a b).1) turned known_names c.args.name.now (sym c.contains.ensures.value ∙ t),
+  λ h. c.contains.ensures.value ∙ has_listed same (λ a b. (bytes_decides a b).0) (λ a b. (bytes_decides a b).1) turned known_names c.args.name.now h,
 )

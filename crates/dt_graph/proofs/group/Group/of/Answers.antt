@@ -1,5 +1,6 @@
 use Rattle.std.proofs.Common.{nat_eq}
-use Rattle.dt_graph.proofs.Search.{index_more, tells_number}
+use Rattle.dt_lists.proofs.Callers.{tells_number}
+use Rattle.dt_graph.proofs.Search.{index_more}
 use Rattle.dt_graph.proofs.group.Group.of.Goals as goal
 
 pub loop-vertex-preserved : goal.loop-vertex-preserved

@@ -1,5 +1,5 @@
 use Rattle.std.proofs.Common.{nat_eq}
-use Rattle.dt_graph.proofs.Search.{found_at, missed, tells_number}
+use Rattle.dt_lists.proofs.Callers.{found_at, missed, tells_number}
 use Rattle.dt_graph.proofs.group.Group.place_of.Goals as goal
 
 pub returns-in_err-place : goal.returns-in_err-place

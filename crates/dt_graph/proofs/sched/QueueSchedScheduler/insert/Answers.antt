@@ -1,8 +1,8 @@
 use Rattle.std.proofs.Common.{refl, sym, subst}
+use Rattle.dt_lists.proofs.Callers.{at_back}
 use Rattle.dt_sched.specs.Sched.{CanInsert}
 use Rattle.dt_sched.specs.Views.{log_at}
 use Rattle.dt_waits.proofs.Callers.{keeping_pushed}
-use Rattle.dt_graph.proofs.LastItem.{at_back}
 use Rattle.dt_graph.proofs.sched.QueueSchedScheduler.insert.Goals as goal
 
 pub invariant_of-self-2 : goal.invariant_of-self-2

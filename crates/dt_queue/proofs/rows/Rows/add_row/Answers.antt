@@ -1,10 +1,10 @@
 use Rattle.std.proofs.Common.{◌≡◌, ◌++◌, ◌∷◌, [], length, get_or, Some, ap, sym, subst, ◌∙◌, arith}
 use Rattle.std.proofs.lemmas.List.{get_or_append_left, length-map, map-append}
 use Rattle.dt_lists.specs.Lists.{Has}
-use Rattle.dt_lists.proofs.Callers.{get_seam}
+use Rattle.dt_lists.proofs.Callers.{added_new, get_seam}
 use Rattle.dt_queue.specs.TableInner.{granules_of, row_names}
 use Rattle.dt_queue.specs.declared.row.Row.{Row}
-use Rattle.dt_queue.proofs.RowLists.{added_name, tied_row}
+use Rattle.dt_queue.proofs.RowLists.{same_name, tells_name, tied_row}
 use Rattle.dt_queue.proofs.TableLanes.{lane_behind}
 use Rattle.dt_queue.proofs.rows.Rows.add_row.Goals as goal
 
@@ -16,7 +16,7 @@ returns-clause-linked c =
     let r = c.granule-2.new.self in
     let g = c.in_ok-granule-2.granule in
     let fresh : ¬ (Has r.names.keys c.args.name) = λ h. c.requires.absent (subst (λ l. Has l c.args.name) c.in_ok-granule-2.ensures.names h) in
-    let keys = c.in_ok-insert.ensures.keys ∙ added_name c.args.name r.names.keys fresh in
+    let keys = c.in_ok-insert.ensures.keys ∙ added_new same_name tells_name c.args.name r.names.keys fresh in
     let rows = c.push_reserved.ensures.items ∙ ap (λ l. l ++ c.new.result ∷ []) c.in_ok-reserve.ensures.items in
     let granules = ap granules_of rows ∙ map-append (λ (x : Row). x.granule) r.table.items (c.new.result ∷ []) ∙ ap (λ i. granules_of r.table.items ++ i ∷ []) c.new.ensures.granule in
     let tabled = ap row_names rows
@@ -29,7 +29,7 @@ returns-clause-kept c =
     let r = c.granule-2.new.self in
     let g = c.in_ok-granule-2.granule in
     let fresh : ¬ (Has r.names.keys c.args.name) = λ h. c.requires.absent (subst (λ l. Has l c.args.name) c.in_ok-granule-2.ensures.names h) in
-    let keys = c.in_ok-insert.ensures.keys ∙ added_name c.args.name r.names.keys fresh in
+    let keys = c.in_ok-insert.ensures.keys ∙ added_new same_name tells_name c.args.name r.names.keys fresh in
     let granules = ap granules_of (c.push_reserved.ensures.items ∙ ap (λ l. l ++ c.new.result ∷ []) c.in_ok-reserve.ensures.items)
     ∙ map-append (λ (x : Row). x.granule) r.table.items (c.new.result ∷ []) ∙ ap (λ i. granules_of r.table.items ++ i ∷ []) c.new.ensures.granule in
     record {
@@ -44,7 +44,7 @@ pub returns-clause-found : goal.returns-clause-found
 returns-clause-found c =
     let r = c.granule-2.new.self in
     let fresh : ¬ (Has r.names.keys c.args.name) = λ h. c.requires.absent (subst (λ l. Has l c.args.name) c.in_ok-granule-2.ensures.names h) in
-    let keys = c.in_ok-insert.ensures.keys ∙ added_name c.args.name r.names.keys fresh in
+    let keys = c.in_ok-insert.ensures.keys ∙ added_new same_name tells_name c.args.name r.names.keys fresh in
     let place : c.len-row.result ≡ length r.names.keys = omega (arith, c.len-row.ensures, r.table.ok.0, length-map r.table.items (λ (x : Row). x.granule), c.in_ok-granule-2.ensures.linked.each_row) in
     rw (keys, place) (get_seam r.names.keys c.args.name [])
 

@@ -1,7 +1,11 @@
 use Rattle.std.proofs.Common.{◌≡◌, None, sym, subst}
 use Rattle.std.specs.Prelude.{MatchOption}
+use Rattle.std.specs.Map.{keys_of}
+use Rattle.dt_lists.proofs.Callers.{found_at}
+use Rattle.dt_access.specs.Clash.{same_key}
+use Rattle.dt_access.proofs.Callers.{tells_key}
 use Rattle.dt_session.specs.Sessions.{StandsAt, seat_of}
-use Rattle.dt_session.proofs.SessionsLaws.{not_placed, placed}
+use Rattle.dt_session.proofs.SessionsLaws.{not_placed}
 use Rattle.dt_session.proofs.sessions.Sessions.place_of.Goals as goal
 
 pub returns-in_err-get_index_of : goal.returns-in_err-get_index_of
@@ -15,4 +19,4 @@ pub returns : goal.returns
 returns c =
     let name = c.args.session.now in
     let place = c.in_ok-get_index_of.field-0 in
-    subst (λ v. StandsAt v place name) c.self.view_is (placed c.self.inside.seats.entries name place (sym c.in_ok-get_index_of.ensures.index))
+    subst (λ v. StandsAt v place name) c.self.view_is (found_at same_key tells_key name (keys_of c.self.inside.seats.entries) place c.in_ok-get_index_of.ensures.index)
