@@ -12,6 +12,7 @@ pub use Rattle.dt_agreement.proofs.Submissions.{WasSubmitted, find_has, from_reg
 pub use Rattle.dt_agreement.proofs.Views.{fronts_longer, log_is, logs_length, received_log, received_own}
 pub use Rattle.dt_agreement.proofs.RegionViews.{done_known, log_distinct, present_known, received_within, transaction_valid, view_longer}
 pub use Rattle.dt_agreement.proofs.Logs.{part_homed}
+pub use Rattle.dt_agreement.proofs.Homes.{ask_other}
 pub use Rattle.dt_agreement.proofs.Annotations.{unmoved_at_first, body_fits, version_stays}
 pub use Rattle.dt_agreement.proofs.Sessions.{answered_changed, answered_in, each_found, found_is_named, session_of_test, session_found}
 pub use Rattle.dt_agreement.proofs.WaitingSessions.{WaitsAt, places_parallel, waiting_for}

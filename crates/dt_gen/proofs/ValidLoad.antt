@@ -5,7 +5,7 @@ use Rattle.std.specs.List.{count_by, range_with_len, sum_by}
 use Rattle.std.proofs.lemmas.List.{length-append}
 use Rattle.std.proofs.lemmas.List.Sums.{count_by-le-length}
 use Rattle.dt_lists.specs.Lists.{AllIn, EachThen}
-use Rattle.dt_lists.proofs.Callers.{all_image, all_put, each_image, each_of_image, sum_mapped, sum_same}
+use Rattle.dt_lists.proofs.Callers.{all_image, all_put, each_image, each_of_image, sum_mapped, sum_of_sums, sum_same}
 use Rattle.dt_text.specs.Texts.{Bytes, IsKey}
 use Rattle.dt_text.specs.declared.Value.{Value}
 use Rattle.dt_proc.specs.Builtin.{xfer}

@@ -5,7 +5,7 @@ use Rattle.std.specs.List.{list_any}
 use Rattle.std.proofs.lemmas.Bool.{cases_Bool}
 use Rattle.std.proofs.lemmas.List.{get_or-set_same, get_or-set_other, length_push, length-set, map-append}
 use Rattle.dt_lists.specs.Lists.{AllIn}
-use Rattle.dt_lists.proofs.Callers.{all_map}
+use Rattle.dt_lists.proofs.Callers.{all_get, all_map}
 use Rattle.dt_access.specs.Clash.{Bytes}
 use Rattle.dt_access.specs.Orders.{AreAscendingHomes}
 use Rattle.dt_access.specs.declared.TxnId.{TxnId}
@@ -21,6 +21,7 @@ use Rattle.dt_txn.proofs.Callers.{set_of_ascending}
 use Rattle.dt_region.specs.Region.{RegionView}
 use Rattle.dt_region.specs.Rules.{MakesAppend, txn_for}
 use Rattle.dt_session.specs.Sessions.{after_wait}
+use Rattle.dt_agreement.proofs.Callers.{ask_other}
 use Rattle.dt_site.specs.declared.Origin.{Origin}
 use Rattle.dt_site.specs.Site.{SiteView, in_region}
 use Rattle.dt_node.specs.NodeView.{NodeView, new_items, number_of}
@@ -42,10 +43,6 @@ id_more asked home id = get_or asked home [] ++ id ∷ []
 abbrev with_id : List (List TxnId) → ℕ → TxnId → List (List TxnId)
 with_id asked home id = set asked home (id_more asked home id)
 
-ask_apart : (me : ℕ) (homes : List ℕ) (id : TxnId) (asked : List (List TxnId)) → AllIn (λ home. me ≢ home) homes → get_or (ask homes id asked) me [] ≡ get_or asked me []
-ask_apart me [] id asked a = refl
-ask_apart me (home ∷ homes) id asked a = ask_apart me homes id (with_id asked home id) a.1 ∙ get_or-set_other asked home me (id_more asked home id) [] a.0
-
 ask_one : (me : ℕ) (homes : List ℕ) (id : TxnId) (asked : List (List TxnId)) → me < length asked → AreAscendingHomes homes
     → length (get_or (ask homes id asked) me []) ≡ length (get_or asked me []) + cond (list_any (λ home. home == me) homes) 1 0
 ask_one me [] id asked there each = omega arith
@@ -60,7 +57,7 @@ ask_one me (home ∷ homes) id asked there each = go (cases_Bool (home == me)) (
     go (inl y) rest =
         let same : home ≡ me = eqb-true home me y in
         let apart : AllIn (λ other. me ≢ other) homes = all_map (λ other. home < other) (λ other. me ≢ other) homes (λ other lt is. absurd (omega (arith, lt, is, same))) each.0 in
-        let later : get_or (ask homes id more) me [] ≡ get_or more me [] = ask_apart me homes id more apart in
+        let later : get_or (ask homes id more) me [] ≡ get_or more me [] = ask_other homes id more me (λ h. all_get (λ other. me ≢ other) homes apart me h refl) in
         let here : get_or more me [] ≡ get_or asked me [] ++ id ∷ [] =
         subst (λ m. get_or more m [] ≡ get_or asked m [] ++ id ∷ []) same (get_or-set_same asked home (id_more asked home id) [] (omega (arith, there, same))) in
         let long : length (get_or asked me [] ++ id ∷ []) ≡ length (get_or asked me []) + 1 = length_push (get_or asked me []) id in

@@ -2,10 +2,9 @@
 -- what its calls read off it is what may be executed.
 use Rattle.std.proofs.Common.{◌≡◌, ◌<◌, ◌+◌, ◌↔◌, ◌∙◌, ℕ, List, [], ◌∷◌, ◌++◌, length, map, replicate, set, slice_get, Option, None, Some, MatchOption}
 use Rattle.std.proofs.Common.{◌-◌, refl, sym, ap, subst, inl, inr, arith}
-use Rattle.std.proofs.lemmas.List.{length-append}
 use Rattle.std.proofs.lemmas.Option.{get_or_from_slice_get, slice_get-get_or, slice_get_within}
 use Rattle.dt_lists.specs.Lists.{AllIn, Has, EachThen}
-use Rattle.dt_lists.proofs.Callers.{any_at, any_from_at, any_get, pairwise_length, last_place, some_same}
+use Rattle.dt_lists.proofs.Callers.{any_at, any_from_at, any_get, pairwise_length, some_same, at_back}
 use Rattle.dt_access.specs.Orders.{AreAscendingHomes}
 use Rattle.dt_access.specs.declared.TxnId.{TxnId}
 use Rattle.dt_access.specs.declared.Part.{Part}
