@@ -58,9 +58,3 @@ impl Access {
         })
     }
 }
-
-impl TryCopy for Access {
-    fn copy(&self, alloc: Global) -> Result<Self, NoMemory> {
-        Access::copy(self, alloc)
-    }
-}

@@ -1,6 +1,5 @@
 ghost use Rattle.std.specs.Prelude.{◌≡◌, IfOk};
 
-use crate::copies::TryCopy;
 use crate::homes::Homes;
 use crate::id::TxnId;
 use crate::keys::Keys;
@@ -30,11 +29,5 @@ impl Part {
             keys: self.keys.copy(alloc)?,
             homes: self.homes.copy(alloc)?,
         })
-    }
-}
-
-impl TryCopy for Part {
-    fn copy(&self, alloc: Global) -> Result<Self, NoMemory> {
-        Part::copy(self, alloc)
     }
 }

@@ -1,7 +1,7 @@
 ghost use Rattle.std.specs.Prelude.{◌≡◌, IfOk};
 ghost use Rattle.dt_events.specs.declared.event.Event.TheVariants.{Append, Deliver};
 
-use dt_access::{Ids, TryCopy, TxnId};
+use dt_access::{Ids, TxnId};
 use dt_text::{Common, Name, NoMemory};
 use std::alloc::Global;
 
@@ -116,11 +116,5 @@ fn delivered(region: u8, home: u8, first: u32, last: u32) -> Event
         home,
         first,
         last,
-    }
-}
-
-impl TryCopy for Event {
-    fn copy(&self, alloc: Global) -> Result<Self, NoMemory> {
-        Event::copy(self, alloc)
     }
 }

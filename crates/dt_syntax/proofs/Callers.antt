@@ -1,6 +1,6 @@
 -- What the proofs of crates above may cite of this crate's lemmas, and nothing else of its proofs. Of the first pass: it comes to
 -- an end at every text. Of what it lets through: the tokens are in range, the limits hold, and they have one reading. Of the
--- grammar: what the first token of a part says of the part.
+-- grammar: a procedure is spelled with some token, and what the first token of a part says of the part.
 pub use Rattle.dt_syntax.proofs.FirstPassEnds.{FirstPassEnds, first_pass_ends}
 pub use Rattle.dt_syntax.proofs.LimitsKept.{procs_small}
 pub use Rattle.dt_syntax.proofs.OneReading.{none_spelled, one_reading}

@@ -54,17 +54,6 @@ impl Accesses {
         }
     }
 
-    /// The rows of a vector, whose keys stand in order there. Takes no memory.
-    pub fn from_vec(alloc: Global, items: Vec<Access>) -> Result<Self, NoMemory>
-        requires { AreAscendingAccesses items.items }
-        ensures { IfOk result (λ accesses. accesses ≡ items.items) }
-    {
-        Ok(Accesses {
-            alloc,
-            items: Items::Many(items),
-        })
-    }
-
     /// Adds a row whose key is greater than all held ones; after `NoMemory` the list is as before. Up to two rows take no
     /// memory.
     pub fn push(&mut self, access: Access) -> Result<(), NoMemory>

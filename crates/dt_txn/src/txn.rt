@@ -52,12 +52,6 @@ impl Txn {
     }
 }
 
-impl TryCopy for Txn {
-    fn copy(&self, alloc: Global) -> Result<Self, NoMemory> {
-        Txn::copy(self, alloc)
-    }
-}
-
 /// Transactions, which whoever holds them has in common.
 pub type Txns = Listed<Common<Txn>>;
 
