@@ -1,4 +1,5 @@
 -- One step after another, where each may fail: the first error is the result. So procedures are checked, and so they run.
+-- Read next: SecondPass, how they are checked; then Statements of dt_eval, how they run.
 use Rattle.std.specs.Prelude.{Result, Ok, Err}
 
 -- goes on with what a step gave; an error stays an error
