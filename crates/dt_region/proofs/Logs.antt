@@ -2,7 +2,7 @@
 use Rattle.std.proofs.Common.{◌≡◌, ◌<◌, ◌≤◌, ◌+◌, add-one, ℕ, zero, suc, List, [], ◌∷◌, ◌++◌, length, length-append, set, take, replicate, slice_get, Some, refl, sym, ap, ◌∙◌, inl, inr, arith}
 use Rattle.std.specs.Prelude.{slice_index}
 use Rattle.std.proofs.lemmas.List.Sums.{sum_by-set}
-use Rattle.dt_lists.specs.Lists.{AllIn, Distinct}
+use Rattle.dt_lists.specs.Lists.{Distinct}
 use Rattle.dt_lists.proofs.Callers.{all_get, has_map}
 use Rattle.dt_lists.proofs.Callers.{has_place}
 use Rattle.dt_access.specs.declared.Part.{Part}

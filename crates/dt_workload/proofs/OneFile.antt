@@ -1,6 +1,7 @@
 -- Bytes are one workload of a cluster or have one fault, and never both.
 use Rattle.dt_access.specs.Granules.{IsUnitKey}
-use Rattle.std.proofs.Common.{◌≡◌, ◌≢◌, ◌⊎◌, inl, inr, ℕ, zero, suc, ◌+◌, ◌<◌, ◌≤◌, ◌==◌, false, cond, not, nat_lt, List, [], ◌∷◌, ◌++◌}
+use Rattle.dt_access.proofs.Callers.{same_key_other}
+use Rattle.std.proofs.Common.{◌≡◌, ◌⊎◌, inl, inr, ℕ, zero, suc, ◌+◌, ◌<◌, ◌≤◌, ◌==◌, cond, not, nat_lt, List, [], ◌∷◌, ◌++◌}
 use Rattle.std.proofs.Common.{eq-eqb}
 use Rattle.std.proofs.Common.{length, lt-ltb}
 use Rattle.std.proofs.Common.{map, slice_get, Some, None, refl, sym, ap, ◌∙◌, subst, arith, append_assoc, append-nil, length-append}
@@ -8,7 +9,6 @@ use Rattle.std.specs.Prelude.{nat_eq, IsSome}
 use Rattle.std.specs.Option.{is_some, option_and_then}
 use Rattle.std.specs.List.{position_or_len, sum_by}
 use Rattle.std.specs.Cmp.Lexicographic.{pointwise, bytes_decides}
-use Rattle.std.proofs.lemmas.Bool.{false_from_ne_true}
 use Rattle.std.proofs.lemmas.List.{map-append}
 use Rattle.std.proofs.lemmas.List.Sums.{sum_by-append}
 use Rattle.std.proofs.lemmas.Option.{slice_get_within}
