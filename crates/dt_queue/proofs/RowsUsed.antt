@@ -97,7 +97,7 @@ rows_removed k n slot c kept take = listed_same k n kept.listed (keeps_links k n
       | inr ne ↦ subst (λ l. Has l x) (take.others m p ne) h
     ]
 
--- a cell was pushed, for whose row the row is listed where it reads or writes it
+-- a cell was pushed: if it reads or writes a row, that row is listed
 pub rows_pushed : (k n : Kept) (slot : ℕ) (c : Cell) → AreQueuesKept k → PushesCell k n slot c → (IsPart c.mode → IsEntered k c.row) → AreRowsListed n
 rows_pushed k n slot c kept push entered = record {
   logged = subst AreLogged (sym push.listed) kept.listed.logged;

@@ -9,8 +9,8 @@ use crate::nearest::number_or;
 use crate::row::{Row, Way, first_between};
 
 /// A search for the marks of the followers of an entry, which goes from row to row. For one that takes its granule whole these are the
-/// rows that came to be used between it and the next such entry: it looks at each listing of theirs once, and costs as much as there
-/// are such listings and followers.
+/// rows that came to be used between it and the next such entry: it looks at each listing of theirs once (at all listings of the
+/// granule, once the entries were numbered anew), and costs as much as there are such listings and followers.
 #[derive(Clone, Copy)]
 pub struct NextMarks<'a> {
     pub table: &'a [Row],
