@@ -1,6 +1,6 @@
 ghost use Rattle.std.specs.Prelude.{◌≡◌, IfOk};
 
-use dt_text::NoMemory;
+use dt_text::{NoMemory, is_visible};
 use std::alloc::{AllocError, AllocFailed, Global};
 use std::fmt;
 use std::marker::Model;
@@ -41,7 +41,7 @@ impl fmt::Display for Label {
     /// Writes the name, in which every byte that is not a visible ASCII character becomes `?`.
     fn fmt<W: fmt::Write>(&self, f: &mut fmt::Formatter<W>) -> fmt::Result {
         for byte in self.bytes() {
-            let shown = if byte.is_ascii_graphic() { *byte } else { b'?' };
+            let shown = if is_visible(*byte) { *byte } else { b'?' };
             f.write_char(char::from(shown))?;
         }
         Ok(())

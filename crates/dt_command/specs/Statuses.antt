@@ -4,10 +4,11 @@
 -- what is wrong with the file of a cluster or a workload in `CauseTexts` of that reader's crate. A byte of a name that is
 -- not a visible ASCII character is printed as `?`, so that a line is one line on every terminal. This is the last of the
 -- files here. Read next: src/top.rt, the call that promises all this.
-use Rattle.std.specs.Prelude.{Option, Some, None, ℕ, [], ◌∷◌, ◌++◌, codes, map, ◌&&◌, nat_le, if◌then◌else◌}
+use Rattle.std.specs.Prelude.{Option, Some, None, ℕ, [], ◌∷◌, ◌++◌, codes, map, if◌then◌else◌}
 use Rattle.std.specs.Fmt.{decimal}
 use Rattle.std.specs.declared.io.ErrorKind.{ErrorKind}
 use Rattle.std.specs.declared.io.ErrorKind.TheVariants.{OutOfMemory, InvalidData}
+use Rattle.dt_text.specs.Words.{is_visible}
 use Rattle.dt_access.specs.Clash.{Bytes}
 use Rattle.dt_cluster_file.specs.declared.ClusterPlace.{ClusterPlace}
 use Rattle.dt_cluster_file.specs.declared.error.ClusterPlace.TheVariants as place
@@ -42,7 +43,7 @@ no_words = 12
 
 -- a byte of a name as it is printed: `?` for one that is not a visible ASCII character
 abbrev pub visible_byte : ℕ → ℕ
-visible_byte byte = if nat_le 33 byte && nat_le byte 126 then byte else 63
+visible_byte byte = if is_visible byte then byte else 63
 
 -- where a cluster file is at fault, in words
 abbrev pub place_text : ClusterPlace → Bytes

@@ -8,6 +8,7 @@ ghost use Rattle.dt_command.specs.Statuses.{fault_line, place_text, visible_byte
 use crate::status::{EventsCause, Status};
 use dt_cluster_file::{ClusterFault, ClusterPlace};
 use dt_outside::{Failed, Sink, write_all};
+use dt_text::is_visible;
 use dt_workload::WorkloadCause;
 use itoa::Buffer;
 
@@ -178,5 +179,5 @@ fn shown(run: &[u8]) -> [u8; RUN]
 fn visible_byte(byte: u8) -> u8
     ensures { result ≡ visible_byte byte }
 {
-    if byte.is_ascii_graphic() { byte } else { b'?' }
+    if is_visible(byte) { byte } else { b'?' }
 }

@@ -59,7 +59,6 @@ module _ {I : Type 0} (waits : I → List Packet) where
   up_to (e ∷ ends) (suc k) y before none =
       let both = both_empty (waits e) (flat_map waits (take k ends)) before in
       ap₂ (λ l m. l ++ m) both.0 (up_to ends k y both.1 none)
-    where
 
   -- what waits from a place on: what waits there, and behind it
   pub waits_here : (ends : List I) (k : ℕ) (x : I) → k < length ends → x ≡ get_or ends k x → flat_map waits (drop k ends) ≡ waits x ++ flat_map waits (drop (k + 1) ends)

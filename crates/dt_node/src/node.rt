@@ -17,7 +17,7 @@ use dt_proc::Procs;
 use dt_region::{Region, Rounds};
 use dt_sched::Scheduler;
 use dt_session::Sessions;
-use dt_site::{Site, first_site, opening_of};
+use dt_site::{Site, first_site};
 use dt_table::Opening;
 use dt_text::NoMemory;
 use dt_workload::Workload;
@@ -50,24 +50,8 @@ impl<S: Scheduler> Model for Node<S> {
 }
 
 impl<S: Scheduler + Drop> Node<S> {
-    /// The node of this region of a cluster before anything happens.
-    pub fn new(
-        alloc: Global,
-        cluster: &Cluster,
-        workload: &Workload,
-        region: u8,
-    ) -> Result<Self, NoMemory>
-        requires cluster { IsValidCluster cluster.now }
-        requires workload { IsValidWorkload cluster.now workload.now }
-        requires region { region < cluster.now.regions }
-        ensures { IfOk result (λ node. node ≡ opening_node_of cluster.now workload.now region) }
-    {
-        let first = opening_of(alloc, cluster)?;
-        Node::sharing(alloc, cluster, workload, &first, region)
-    }
-
-    /// The node of this region of a cluster before anything happens, as `new` makes it. It shares the homes and rows that the
-    /// cluster lists with every other node that is made of them.
+    /// The node of this region of a cluster before anything happens, with what the tables of all regions have at first
+    /// (`opening_of` of `dt_site`). It shares the homes and rows that the cluster lists with every other node that is made of them.
     pub fn sharing(
         alloc: Global,
         cluster: &Cluster,

@@ -63,9 +63,9 @@ same_name a b = (a.0 == b.0) && same_key a.1 b.1
 pub tells_name : Tells same_name
 tells_name = record {
   of_test = λ a b e. (
-    let p = and_parts (a.0 == b.0) (same_key a.1 b.1) e in
-    let home : a.0 ≡ b.0 = grind (arith, p.0) in
-    let key : a.1 ≡ b.1 = key_of_test a.1 b.1 p.1 in
-    (λ i. (home i, key i)));
+      let p = and_parts (a.0 == b.0) (same_key a.1 b.1) e in
+      let home : a.0 ≡ b.0 = grind (arith, p.0) in
+      let key : a.1 ≡ b.1 = key_of_test a.1 b.1 p.1 in
+      (λ i. (home i, key i)));
   of_self = λ a. and_from (a.0 == a.0) (same_key a.1 a.1) (grind arith) (same_key_self a.1);
 }

@@ -3,7 +3,7 @@ use Rattle.std.proofs.Common.{◌≡◌, ◌≢◌, ◌⊎◌, ◌↔◌, ◌∙
 use Rattle.std.proofs.Common.{filter, refl, sym, ap, subst, inl, inr, arith}
 use Rattle.std.proofs.lemmas.Bool.{cases_Bool, false_from_ne_true, not-false}
 use Rattle.dt_lists.specs.Lists.{AnyIn, AllIn, Has, Distinct}
-use Rattle.dt_lists.proofs.Callers.{all_get, all_put, any_append, any_append_left, any_from_at, any_map, any_of_test, any_put, has_last, test_of_any, filter_whole}
+use Rattle.dt_lists.proofs.Callers.{all_get, all_put, any_append, any_append_left, any_from_at, any_map, any_of_test, any_put, has_last, test_of_any, filter_whole, filter_none}
 use Rattle.dt_access.specs.Ids.{same_id}
 use Rattle.dt_access.specs.declared.TxnId.{TxnId}
 use Rattle.dt_access.specs.declared.Part.{Part}
@@ -38,7 +38,7 @@ none_kept p (x ∷ xs) e = by (cases_Bool (p x)) (λ k. none_kept p xs k)
 pub none_lacking : (view : View) (t : TxnId) (homes : List ℕ) → (lacking view t homes ≡ 0) ↔ HasParts view homes t
 none_lacking view t homes = (
   λ e. all_put _ homes (λ home h. part_of_test (log_at view home) t (not-false _ (all_get _ homes (none_kept (λ home. not (has_part (log_at view home) t)) homes e) home h))),
-  λ a. ap length (filter_none _ homes (all_put _ homes (λ home h. ap not (test_of_part (log_at view home) t (all_get (λ home. HasPart (log_at view home) t) homes a home h)))),
+  λ a. ap length (filter_none _ homes (all_put _ homes (λ home h. ap not (test_of_part (log_at view home) t (all_get (λ home. HasPart (log_at view home) t) homes a home h))))),
 )
 
 pub complete_of_none : (view : View) (t : TxnId) (home : ℕ) (p : Part) → Has (log_at view home) p → p.id ≡ t → lacking view t p.homes ≡ 0 → IsComplete view t
