@@ -50,13 +50,14 @@ module _ {cluster : Cluster} {workload : Workload} {w : World} {order : List Txn
   pub closed_known : (t : TxnId) → IsClosed (logs_of w) t → WasSubmitted w t
   closed_known t c = present_known t (present_of_complete (logs_of w) t (complete_of_closed (logs_of w) t c))
 
-  -- what a region executed is closed in its view, and was submitted
+  -- what a region executed is closed in its view, so it was submitted
   pub executed_closed : (region : ℕ) (t : TxnId) → region < cluster.regions → IsExecutedAt w region t → IsClosed (view_at w region) t
   executed_closed region t lt h = all_get (IsClosed (view_at w region)) (done_ids (node_at w region).here) (i.sound region lt).done_closed t h
 
   pub done_known : (region : ℕ) → region < cluster.regions → AllIn (WasSubmitted w) (done_ids (node_at w region).here)
   done_known region lt = all_put (WasSubmitted w) (done_ids (node_at w region).here) (λ t h. closed_known t (closed_full region t lt (executed_closed region t lt h)))
 
+  -- what stands in the order is closed in the logs, so it was submitted
   pub order_closed : (t : TxnId) → Has order t → IsClosed (logs_of w) t
   order_closed t h = let r : (region : ℕ) × (region < cluster.regions) × IsExecutedAt w region t = (i.ordered.executed t).0 h in closed_full r.0 t r.1 (executed_closed r.0 t r.1 r.2)
 

@@ -41,6 +41,7 @@ pub record IsRequest (w : World) (home source : ℕ) (id : TxnId) : Type 0 where
   pub home_in : Has (homes_of submission.txn) home
 
 module _ {cluster : Cluster} {workload : Workload} {w : World} {order : List TxnId} (i : Inv cluster workload w order) (home source : ℕ) (lh : home < cluster.regions) (ls : source < cluster.regions) where
+  -- each transaction that the source asked the home to place is a submitted one of the source, with a part at the home
   pub request_is : (id : TxnId) → Has (asked_of w source home) id → IsRequest w home source id
   request_is id h =
       let r : (s : Submission) × Has (node_at w source).submitted s × (s.txn.id ≡ id) × (has_home home s.txn ≡ true) = request_has home (node_at w source).submitted id (subst (λ l. Has l id) (i.asked source home ls lh) h) in
@@ -256,6 +257,7 @@ module _ {cluster : Cluster} {workload : Workload} {w : World} {order : List Txn
     unfolding v
     placed_well_formed = full_well_formed
 
+    -- the invariant holds of the world after it
     pub placed_keeps : Inv cluster workload (placed w home source (Some txn)) order
     unfolding v n'
     placed_keeps = record {

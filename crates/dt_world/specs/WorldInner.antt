@@ -1,6 +1,6 @@
 -- Only proofs need this file, and the private calls of a world. It says what the type of a world keeps of its own fields:
 -- of the sessions that its regions keep, of the sites of all regions, and of the number of steps (`IsLawful`). And it has
--- words for what the private calls answer of one session. Read `WorldView` for what callers see.
+-- words for what one session may do next (`IsNextOf`, `MayBeTold`). Read `WorldView` for what callers see.
 use Rattle.std.specs.Prelude.{◌≡◌, ◌<◌, ◌≤◌, ◌+◌, ℕ, List, length, map, get_or, slice_get, Option, Some, None}
 use Rattle.std.specs.List.{range_with_len}
 use Rattle.dt_access.specs.Clash.{Bytes}
