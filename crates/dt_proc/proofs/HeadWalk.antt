@@ -83,14 +83,19 @@ keys_one : (t : Checked (List KeyDecl × Scope)) (keys : List KeyDecl) (d : KeyD
 keys_one (Ok r) keys d = pair_ok r.1 (keys ++ d ∷ r.0) ((keys ++ d ∷ []) ++ r.0) (sym (append_assoc keys (d ∷ []) r.0))
 keys_one (Err e) keys d = refl
 
+-- what is told of keys where `t` is reported of the first
+abbrev keys_with : Scope → List KeyDecl → KeySyntax → List KeySyntax → Checked KeyDecl → Checked (Scope × List KeyDecl)
+keys_with scope keys k more t =
+    after_ok {A = List KeyDecl × Scope} {B = Scope × List KeyDecl} {E = ProcError} (after_ok {A = KeyDecl} {B = List KeyDecl × Scope} {E = ProcError} t
+    (λ d. after_ok {A = List KeyDecl × Scope} {B = List KeyDecl × Scope} {E = ProcError} (check_keys (with_new_key scope k.name k.write) more)
+    (λ r. Ok (d ∷ r.0, r.1)))) (λ r. Ok (r.1, keys ++ r.0))
+
 -- one key more
 keys_after : (scope : Scope) (keys : List KeyDecl) (k : KeySyntax) (more : List KeySyntax) (t : Checked KeyDecl) (one : Scope) (made : List KeyDecl) → check_key scope k ≡ t →
     after_ok {A = KeyDecl} {B = Scope × List KeyDecl} {E = ProcError} t (λ d. Ok (with_new_key scope k.name k.write, keys ++ d ∷ [])) ≡ Ok (one, made) → keys_told scope keys (k ∷ more) ≡ keys_told one made more
 keys_after scope keys k more (Err e) one made is told = absurd cc
 keys_after scope keys k more (Ok d) one made is told =
-    ap (λ t. after_ok {A = List KeyDecl × Scope} {B = Scope × List KeyDecl} {E = ProcError} (after_ok {A = KeyDecl} {B = List KeyDecl × Scope} {E = ProcError} t
-    (λ d. after_ok {A = List KeyDecl × Scope} {B = List KeyDecl × Scope} {E = ProcError} (check_keys (with_new_key scope k.name k.write) more)
-    (λ r. Ok (d ∷ r.0, r.1)))) (λ r. Ok (r.1, keys ++ r.0))) is
+    ap (keys_with scope keys k more) is
     ∙ keys_one (check_keys (with_new_key scope k.name k.write) more) keys d
     ∙ ap (λ (v : Scope × List KeyDecl). keys_told v.0 v.1 more) (ok_same {A = Scope × List KeyDecl} (with_new_key scope k.name k.write, keys ++ d ∷ []) (one, made) told)
 
@@ -104,9 +109,7 @@ key_err : (scope : Scope) (keys : List KeyDecl) (k : KeySyntax) (more : List Key
     (Err e) → keys_told scope keys (k ∷ more) ≡ Err e
 key_err scope keys k more (Ok d) e is told = absurd cc
 key_err scope keys k more (Err f) e is told =
-    ap (λ t. after_ok {A = List KeyDecl × Scope} {B = Scope × List KeyDecl} {E = ProcError} (after_ok {A = KeyDecl} {B = List KeyDecl × Scope} {E = ProcError} t
-    (λ d. after_ok {A = List KeyDecl × Scope} {B = List KeyDecl × Scope} {E = ProcError} (check_keys (with_new_key scope k.name k.write) more)
-    (λ r. Ok (d ∷ r.0, r.1)))) (λ r. Ok (r.1, keys ++ r.0))) is
+    ap (keys_with scope keys k more) is
     ∙ ap Err (fault_of told)
   where
     fault_of : ◌≡◌ {A = Checked (Scope × List KeyDecl)} (Err f) (Err e) → f ≡ e
@@ -132,23 +135,30 @@ pub params_first : (ps : Params) (q : ℕ) (rest ts : List Placed) → params_to
 params_first no_param q rest ts e none = absurd (none q rest e)
 params_first (params m more) q rest ts e none = record { one = m; more = more; is = refl; cut = e }
 
+-- what is told of parameters where `t` is reported of all, and where it is reported of the first
+abbrev with_kinds : Param → List (ℕ × Param) → Checked Scope → Checked (Scope × List Kind)
+with_kinds m more t = after_ok {A = Scope} {B = Scope × List Kind} {E = ProcError} t (λ s. Ok (s, m.kind ∷ kinds_of more))
+
+abbrev params_with : Param → List (ℕ × Param) → Checked Scope → Checked (Scope × List Kind)
+params_with m more t = with_kinds m more (after_ok {A = Scope} {B = Scope} {E = ProcError} t (λ s. check_more_params s more))
+
 pub params_told_is : (ps : Params) (one last : Scope) (m : Param) (more : List (ℕ × Param)) (kinds made : List Kind) → ps ≡ params m more →
     check_param (record { variables = []; keys = [] }) m ≡ Ok one → check_more_params one more ≡ Ok last → kinds ≡ m.kind ∷ [] → made ≡ kinds ++ kinds_of more →
     params_told ps ≡ Ok (last, made)
 params_told_is ps one last m more kinds made is told others first rest =
-    ap params_told is ∙ ap (λ t. after_ok {A = Scope} {B = Scope × List Kind} {E = ProcError} (after_ok {A = Scope} {B = Scope} {E = ProcError} t (λ s. check_more_params s more)) (λ s. Ok (s, m.kind ∷ kinds_of more))) told
-    ∙ ap (λ t. after_ok {A = Scope} {B = Scope × List Kind} {E = ProcError} t (λ s. Ok (s, m.kind ∷ kinds_of more))) others
+    ap params_told is ∙ ap (params_with m more) told
+    ∙ ap (with_kinds m more) others
     ∙ λ i. Ok (last, (sym (rest ∙ ap (λ v. v ++ kinds_of more) first)) i)
 
 pub params_first_fault : (ps : Params) (m : Param) (more : List (ℕ × Param)) (before rest : List Placed) (e : ProcError) → ps ≡ params m more →
     WalkAnswers (check_param (record { variables = []; keys = [] }) m) before (Err e) → WalkAnswers (params_told ps) rest (Err e)
 params_first_fault ps m more before rest e is (inl h) = inl h
 params_first_fault ps m more before rest e is (inr h) =
-    inr (ap params_told is ∙ ap (λ t. after_ok {A = Scope} {B = Scope × List Kind} {E = ProcError} (after_ok {A = Scope} {B = Scope} {E = ProcError} t (λ s. check_more_params s more)) (λ s. Ok (s, m.kind ∷ kinds_of more))) h)
+    inr (ap params_told is ∙ ap (params_with m more) h)
 
 pub params_more_fault : (ps : Params) (one : Scope) (m : Param) (more : List (ℕ × Param)) (before rest : List Placed) (e : ProcError) → ps ≡ params m more →
     check_param (record { variables = []; keys = [] }) m ≡ Ok one → WalkAnswers (check_more_params one more) before (Err e) → WalkAnswers (params_told ps) rest (Err e)
 params_more_fault ps one m more before rest e is told (inl h) = inl h
 params_more_fault ps one m more before rest e is told (inr h) =
-    inr (ap params_told is ∙ ap (λ t. after_ok {A = Scope} {B = Scope × List Kind} {E = ProcError} (after_ok {A = Scope} {B = Scope} {E = ProcError} t (λ s. check_more_params s more)) (λ s. Ok (s, m.kind ∷ kinds_of more))) told
-    ∙ ap (λ t. after_ok {A = Scope} {B = Scope × List Kind} {E = ProcError} t (λ s. Ok (s, m.kind ∷ kinds_of more))) h)
+    inr (ap params_told is ∙ ap (params_with m more) told
+    ∙ ap (with_kinds m more) h)

@@ -22,11 +22,15 @@ use Rattle.dt_proc.proofs.ProcNames.{Free, is_named}
 use Rattle.dt_proc.proofs.KeySorts.{HasParams, KeysMade, keys_make, ParamsMade, params_make}
 use Rattle.dt_proc.proofs.StatementSorts.{block_fits}
 
+-- what is reported of a body, as the procedure that it ends
+abbrev pub with_body : ProcSyntax → List Kind → Scope × List KeyDecl → Checked ProcTree
+with_body p kinds r = after_ok {A = BlockTree} (check_block r.0 p.body) (λ b. Ok (record { name = p.name; params = kinds; keys = r.1; body = b }))
+
 -- what the walk reports, part after part
 abbrev pub walked_proc : ProcSyntax → Checked ProcTree
 walked_proc p =
     after_ok {A = Scope × List Kind} (params_told p.params) (λ s. after_ok {A = Scope × List KeyDecl} (keys_told s.0 [] (p.key ∷ p.more_keys))
-    (λ r. after_ok {A = BlockTree} (check_block r.0 p.body) (λ b. Ok (record { name = p.name; params = s.1; keys = r.1; body = b }))))
+    (with_body p s.1))
 
 -- what is reported in another form, before what goes on with it
 after_made : {A B C : Type 0} (t : Checked A) (form : A → B) (next : B → Checked C) →
@@ -41,14 +45,14 @@ after_same (Err e) f g h = refl
 pub proc_is : (before : List ProcTree) (p : ProcSyntax) → Free before p → check_proc before p ≡ walked_proc p
 proc_is before p free =
     let made : Scope → Scope × List KeyDecl → Checked ProcTree =
-    λ s r. after_ok {A = BlockTree} (check_block r.0 p.body) (λ b. Ok (record { name = p.name; params = param_kinds p.params; keys = r.1; body = b })) in
+    λ s. with_body p (param_kinds p.params) in
     let keys = p.key ∷ p.more_keys in
     let then_keys : Scope → Checked ProcTree = λ s. after_ok {A = List KeyDecl × Scope} (check_keys s keys) (λ r. made s (r.1, r.0)) in
     ap (λ t. cond t (Err (fault.Twice p.name_at)) (after_ok {A = Scope} (check_params p.params) then_keys)) free
     ∙ after_same (check_params p.params) then_keys
     (λ s. after_ok {A = Scope × List KeyDecl} (keys_told s [] keys) (made s)) (λ s. after_made {A = List KeyDecl × Scope} {B = Scope × List KeyDecl} (check_keys s keys) (λ r. (r.1, r.0)) (made s))
     ∙ after_made {A = Scope} {B = Scope × List Kind} (check_params p.params) (λ s. (s, param_kinds p.params))
-    (λ s. after_ok {A = Scope × List KeyDecl} (keys_told s.0 [] keys) (λ r. after_ok {A = BlockTree} (check_block r.0 p.body) (λ b. Ok (record { name = p.name; params = s.1; keys = r.1; body = b }))))
+    (λ s. after_ok {A = Scope × List KeyDecl} (keys_told s.0 [] keys) (with_body p s.1))
 
 pub proc_twice : (before : List ProcTree) (p : ProcSyntax) (name : List ℕ) (place : ℕ) → is_named before name ≡ true →
     name ≡ p.name → place ≡ p.name_at → check_proc before p ≡ Err (fault.Twice place)
@@ -106,10 +110,10 @@ proc_sound p name scope last kinds keys body h small named ps ks b =
 after_params : ProcSyntax → Scope × List Kind → Checked ProcTree
 after_params p s =
     after_ok {A = Scope × List KeyDecl} (keys_told s.0 [] (p.key ∷ p.more_keys))
-    (λ r. after_ok {A = BlockTree} (check_block r.0 p.body) (λ b. Ok (record { name = p.name; params = s.1; keys = r.1; body = b })))
+    (with_body p s.1)
 
 after_keys : ProcSyntax → List Kind → Scope × List KeyDecl → Checked ProcTree
-after_keys p kinds r = after_ok {A = BlockTree} (check_block r.0 p.body) (λ b. Ok (record { name = p.name; params = kinds; keys = r.1; body = b }))
+after_keys p kinds r = with_body p kinds r
 
 told_after_params : (before : List ProcTree) (p : ProcSyntax) (s : Scope × List Kind) → Free before p → params_told p.params ≡ Ok s → check_proc before p ≡ after_params p s
 unfolding after_params

@@ -76,6 +76,10 @@ next_left before item ts after some l right = first l.all l.good l.small l.few l
           cut = sym told.1;
         }
 
+-- what is told of procedures where `t` is reported of the first
+abbrev procs_with : List ProcTree → List ProcSyntax → Checked ProcTree → Checked (List ProcTree)
+procs_with before qs t = after_ok (after_ok t (λ i. after_ok (check_procs (before ++ i ∷ []) qs) (λ r. Ok (i ∷ r)))) (λ r. Ok (before ++ r))
+
 next_told : (tokens : List Placed) (before : List ProcTree) (item : ProcTree) (ts after : List Placed) → ¬ (ts ≡ []) → ToldSoFar tokens before ts → Right before ts (Ok (item, after)) →
     ToldSoFar tokens (before ++ item ∷ []) after
 next_told tokens before item ts after some so right ps good cut = first (so ps good cut).0 (so ps good cut).1 (so ps good cut).2 (so ps good cut).3
@@ -88,7 +92,7 @@ next_told tokens before item ts after some so right ps good cut = first (so ps g
           qs,
           g.1,
           sym told.1,
-          is ∙ ap (λ t. after_ok (after_ok t (λ i. after_ok (check_procs (before ++ i ∷ []) qs) (λ r. Ok (i ∷ r)))) (λ r. Ok (before ++ r))) told.0
+          is ∙ ap (procs_with before qs) told.0
               ∙ one_more (check_procs (before ++ item ∷ []) qs) before item,
         )
 
@@ -117,7 +121,7 @@ going_fault tokens before ts e some so right ps good cut = first (so ps good cut
     told : (q : ProcSyntax) (qs : List ProcSyntax) → check_procs [] ps ≡ after_ok (check_procs before (q ∷ qs)) (λ r. Ok (before ++ r)) →
         (e ≡ fault.NoMemory) ⊎ (check_proc before q ≡ Err e) → (e ≡ fault.NoMemory) ⊎ (check_procs [] ps ≡ Err e)
     told q qs is (inl m) = inl m
-    told q qs is (inr f) = inr (is ∙ ap (λ t. after_ok (after_ok t (λ i. after_ok (check_procs (before ++ i ∷ []) qs) (λ r. Ok (i ∷ r)))) (λ r. Ok (before ++ r))) f)
+    told q qs is (inr f) = inr (is ∙ ap (procs_with before qs) f)
 
     first : (qs : List ProcSyntax) → AreProcSyntaxes qs → procs_tokens qs ≡ ts → check_procs [] ps ≡ after_ok (check_procs before qs) (λ r. Ok (before ++ r)) →
         (e ≡ fault.NoMemory) ⊎ (check_procs [] ps ≡ Err e)
