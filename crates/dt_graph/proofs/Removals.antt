@@ -15,13 +15,9 @@ use Rattle.dt_waits.specs.Steps.{HaveSlots}
 use Rattle.dt_waits.proofs.Callers.{filter_both, filter_same, slot_other}
 use Rattle.dt_graph.proofs.WaitEdges.{slots_wait}
 
--- whether the slot is one of these
-abbrev pub is_among_slots : List ℕ → ℕ → Bool
-is_among_slots slots slot = list_any (λ s. s == slot) slots
-
 -- the entries but those at the slots
 abbrev pub without_slots : List ℕ → List Waiting → List Waiting
-without_slots slots waiting = filter (λ w. not (is_among_slots slots w.slot)) waiting
+without_slots slots waiting = filter (λ w. not (is_leaving slots w.slot)) waiting
 
 -- the entries but those of the vertices
 abbrev pub without_vertices : List ℕ → List Waiting → List Waiting
@@ -59,7 +55,7 @@ module _ (slots : List ℕ) (old : List Waiting) where
       by t = record {
         once = t.once.1;
         wait = all_put _ more (λ s h. waits_without now slot s (λ e. all_get _ more t.once.0 s h (sym e)) (all_get _ more t.wait.1 s h));
-        stays = filter_both _ _ now ∙ filter_same _ _ now (λ w h. ap (λ b. not (is_among_slots more w.slot) && not b) (turned w.slot slot) ∙ neither more slot w.slot) ∙ t.stays;
+        stays = filter_both _ _ now ∙ filter_same _ _ now (λ w h. ap (λ b. not (is_leaving more w.slot) && not b) (turned w.slot slot) ∙ neither more slot w.slot) ∙ t.stays;
       }
 
   pub taking_ends : (rest : List ℕ) (now : List Waiting) → IsTakingOut slots rest old now → rest ≡ [] → now ≡ without_slots slots old
@@ -82,7 +78,7 @@ slots_once waiting v distinct = each_of_slots (filter (is_of v) waiting) (filter
     each_of_slots (w ∷ ws) d = (all_of_slots w.slot ws d.0, each_of_slots ws d.1)
 
 -- an entry is at one of the slots of a vertex just where it is of the vertex
-slots_tell : (waiting : List Waiting) (v : ℕ) → HasDistinctSlots waiting → (w : Waiting) → Has waiting w → is_among_slots (slots_of waiting v) w.slot ≡ (v == w.vertex)
+slots_tell : (waiting : List Waiting) (v : ℕ) → HasDistinctSlots waiting → (w : Waiting) → Has waiting w → is_leaving (slots_of waiting v) w.slot ≡ (v == w.vertex)
 slots_tell waiting v distinct w h = by (cases_Bool (v == w.vertex))
   where
     one : (ws : List Waiting) → HasDistinctSlots ws → (a b : Waiting) → Has ws a → Has ws b → a.slot ≡ b.slot → a ≡ b
@@ -92,14 +88,14 @@ slots_tell waiting v distinct w h = by (cases_Bool (v == w.vertex))
     one (x ∷ xs) d a b (inr ha) (inl f) s = absurd (all_get _ xs d.0 a ha (ap (λ u. u.slot) f ∙ sym s))
     one (x ∷ xs) d a b (inr ha) (inr hb) s = one xs d.1 a b ha hb s
 
-    of_slots : is_among_slots (slots_of waiting v) w.slot ≡ true → w.vertex ≡ v
+    of_slots : is_leaving (slots_of waiting v) w.slot ≡ true → w.vertex ≡ v
     of_slots e =
         let s : AnyIn (λ s. s ≡ w.slot) (slots_of waiting v) = any_map _ _ (slots_of waiting v) (λ s t. eqb-true s w.slot t) (any_of_test (λ s. s == w.slot) (slots_of waiting v) e) in
         let u : (u : Waiting) × Has (filter (is_of v) waiting) u × (u.slot ≡ w.slot) = any_get _ (filter (is_of v) waiting) (any_of_image (λ s. s ≡ w.slot) (λ w. w.slot) (filter (is_of v) waiting) s) in
         let k : Has waiting u.0 × (is_of v u.0 ≡ true) = has_of_filtered (is_of v) waiting u.0 u.1 in
         ap (λ x. x.vertex) (sym (one waiting distinct u.0 w k.0 h u.2)) ∙ eqb-true u.0.vertex v k.1
 
-    by : ((v == w.vertex) ≡ true) ⊎ ((v == w.vertex) ≡ false) → is_among_slots (slots_of waiting v) w.slot ≡ (v == w.vertex)
+    by : ((v == w.vertex) ≡ true) ⊎ ((v == w.vertex) ≡ false) → is_leaving (slots_of waiting v) w.slot ≡ (v == w.vertex)
     by (inl e) = test_of_any (λ s. s == w.slot) (slots_of waiting v)
         (any_map _ _ (slots_of waiting v) (λ s t. eq-eqb s w.slot t) (has_map (λ w. w.slot) (filter (is_of v) waiting) w (has_filter (is_of v) waiting w h (eq-eqb w.vertex v (sym (eqb-true v w.vertex e)))))) ∙ sym e
     by (inr e) = false_from_ne_true _ (λ t. let f : (v == w.vertex) ≡ true = eq-eqb v w.vertex (sym (of_slots t)) in cc) ∙ sym e
@@ -119,7 +115,7 @@ module _ (vertices : List Vertex) (leaving : List ℕ) (old : List Waiting) wher
       by : IsEmptying vertices leaving (v ∷ more) old now → IsEmptying vertices leaving more old (without_slots (vertex_at vertices v).slots now)
       by t = record {
         once = t.once.1;
-        distinct = filter_each (λ u w. u.slot ≢ w.slot) (λ w. not (is_among_slots (vertex_at vertices v).slots w.slot)) now t.distinct;
+        distinct = filter_each (λ u w. u.slot ≢ w.slot) (λ w. not (is_leaving (vertex_at vertices v).slots w.slot)) now t.distinct;
         slots = all_put _ more (λ u h. (
           (all_get _ more t.slots.1 u h).0,
           (all_get _ more t.slots.1 u h).1 ∙ ap (map (λ w. w.slot)) (sym (filter_both (is_of u) _ now ∙ filter_same _ (is_of u) now (λ w m. stay u (all_get _ more t.once.0 u h) w (tell w m)))),
@@ -127,14 +123,14 @@ module _ (vertices : List Vertex) (leaving : List ℕ) (old : List Waiting) wher
         stays = filter_both _ _ now ∙ filter_same _ _ now (λ w h. ap (λ b. not (is_leaving more w.vertex) && not b) (tell w h) ∙ neither more v w.vertex) ∙ t.stays;
       }
         where
-          tell : (w : Waiting) → Has now w → is_among_slots (vertex_at vertices v).slots w.slot ≡ (v == w.vertex)
-          tell w h = ap (λ l. is_among_slots l w.slot) t.slots.0.1 ∙ slots_tell now v t.distinct w h
+          tell : (w : Waiting) → Has now w → is_leaving (vertex_at vertices v).slots w.slot ≡ (v == w.vertex)
+          tell w h = ap (λ l. is_leaving l w.slot) t.slots.0.1 ∙ slots_tell now v t.distinct w h
 
-          stay : (u : ℕ) → ¬ (v ≡ u) → (w : Waiting) → is_among_slots (vertex_at vertices v).slots w.slot ≡ (v == w.vertex)
-              → (is_of u w && not (is_among_slots (vertex_at vertices v).slots w.slot)) ≡ is_of u w
+          stay : (u : ℕ) → ¬ (v ≡ u) → (w : Waiting) → is_leaving (vertex_at vertices v).slots w.slot ≡ (v == w.vertex)
+              → (is_of u w && not (is_leaving (vertex_at vertices v).slots w.slot)) ≡ is_of u w
           stay u ne w told = cases (cases_Bool (w.vertex == u))
             where
-              cases : ((w.vertex == u) ≡ true) ⊎ ((w.vertex == u) ≡ false) → (is_of u w && not (is_among_slots (vertex_at vertices v).slots w.slot)) ≡ is_of u w
+              cases : ((w.vertex == u) ≡ true) ⊎ ((w.vertex == u) ≡ false) → (is_of u w && not (is_leaving (vertex_at vertices v).slots w.slot)) ≡ is_of u w
               cases (inl e) = rw (e, told ∙ slot_other v w.vertex (λ f. ne (f ∙ eqb-true w.vertex u e))) refl
               cases (inr e) = rw e refl
 

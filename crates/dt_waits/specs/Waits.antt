@@ -68,7 +68,7 @@ lowered waiting slot u v = if u == v then 0 else length (filter (is_of v) (follo
 abbrev pub lowered_by : List Waiting → List ℕ → ℕ → ℕ
 lowered_by waiting leaving v = sum_by (λ u. sum_by (λ slot. lowered waiting slot u v) (slots_of waiting u)) leaving
 
--- whether the vertex is one of these
+-- whether the vertex is one of these, or the slot one of these slots
 abbrev pub is_leaving : List ℕ → ℕ → Bool
 is_leaving leaving vertex = list_any (λ u. u == vertex) leaving
 
