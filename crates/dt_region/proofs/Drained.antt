@@ -4,9 +4,8 @@ use Rattle.std.specs.Prelude.{IsTrue, is_some, slice_index}
 use Rattle.dt_access.specs.declared.TxnId.{TxnId}
 use Rattle.dt_sched.specs.Views.{View, log_at}
 use Rattle.dt_sched.specs.Sched.{IsNextClass, IsNextReady}
-use Rattle.dt_txn.specs.Replica.{IsDrained, Replica}
+use Rattle.dt_txn.specs.Replica.{HasInsertedAll, IsDrained, Replica}
 use Rattle.dt_region.specs.Region.{RegionState, sched_of}
-use Rattle.dt_region.specs.RegionInner.{HasInsertedAll}
 
 -- all that is received of a home's log is inserted
 abbrev pub HasInserted : RegionState → ℕ → Type 0

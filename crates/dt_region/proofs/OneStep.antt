@@ -5,8 +5,8 @@ use Rattle.dt_access.specs.declared.TxnId.{TxnId}
 use Rattle.dt_events.specs.declared.Event.TheVariants.{Resolve, Execute}
 use Rattle.dt_sched.specs.Sched.{CanExecute, CanResolve, IsNextClass, IsNextReady}
 use Rattle.dt_proc.specs.Tree.{ProcTree}
+use Rattle.dt_txn.specs.Replica.{HasInsertedAll}
 use Rattle.dt_region.specs.Region.{RegionView, sched_of}
-use Rattle.dt_region.specs.RegionInner.{HasInsertedAll}
 use Rattle.dt_region.specs.Rules.{MakesStep}
 use Rattle.dt_region.specs.StepsInner.{IsOwnStep, StepsOn}
 

@@ -1,8 +1,6 @@
 -- Only proofs need this file: how a region keeps what contracts see of it, and what its type says of its fields. Skip it;
 -- read `Region` for what callers see, and `Sound` for what every region keeps.
-use Rattle.std.specs.Prelude.{◌≡◌, ◌<◌, ◌≤◌, ◌*◌, ◌^◌, ℕ, length, slice_index}
-use Rattle.dt_sched.specs.Views.{View, log_at}
-use Rattle.dt_txn.specs.Replica.{Replica}
+use Rattle.std.specs.Prelude.{◌≡◌, ◌<◌, ◌≤◌, ◌*◌, ◌^◌, ℕ}
 use Rattle.dt_sched.specs.Sched.{Sched}
 use Rattle.dt_region.specs.Region.{RegionState, RegionView, sched_of}
 use Rattle.dt_region.specs.Sound.{IsSoundRegion}
@@ -47,7 +45,3 @@ pub record HasStock (room for_events for_done for_changes for_finishes : ℕ) : 
 pub record IsWell {S : Type 0} (seen : S → Sched) (finishes : S → ℕ) (a : Inside S) : Type 0 where
   pub well : AreWell (state_in seen a) (seen a.scheduler)
   pub stock : HasStock a.room a.events.spare a.done.spare a.table.spare (finishes a.scheduler)
-
--- all that was received of these logs is inserted
-abbrev pub HasInsertedAll : View → Replica → Type 0
-HasInsertedAll received here = (home : ℕ) → slice_index here.inserted home ≡ length (log_at received home)

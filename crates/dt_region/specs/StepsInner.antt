@@ -6,9 +6,8 @@ use Rattle.dt_events.specs.declared.Event.{Event}
 use Rattle.dt_events.specs.Events.{region_of}
 use Rattle.dt_sched.specs.Sched.{parts_in}
 use Rattle.dt_proc.specs.Tree.{ProcTree}
-use Rattle.dt_txn.specs.Replica.{Replica, IsDrained}
+use Rattle.dt_txn.specs.Replica.{HasInsertedAll, IsDrained, Replica}
 use Rattle.dt_region.specs.Region.{RegionState, RegionView}
-use Rattle.dt_region.specs.RegionInner.{HasInsertedAll}
 use Rattle.dt_region.specs.Rules.{MakesStep}
 
 -- how many insertions, resolutions and executions a region has made

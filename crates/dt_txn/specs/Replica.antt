@@ -103,9 +103,13 @@ stepped procs txn_of here (Resolve region ids) = record here { resolved = here.r
 stepped procs txn_of here (Execute region id) = executed procs here (txn_of id)
 stepped procs txn_of here event = here
 
+-- all that was received of these logs is inserted
+abbrev pub HasInsertedAll : View → Replica → Type 0
+HasInsertedAll received here = (home : ℕ) → slice_index here.inserted home ≡ length (log_at received home)
+
 -- the region has inserted all that it received, and may neither execute nor resolve anything
 pub record IsDrained (received : View) (here : Replica) : Type 0 where
-  pub inserted : (home : ℕ) → slice_index here.inserted home ≡ length (log_at received home)
+  pub inserted : HasInsertedAll received here
   pub executed : (id : TxnId) → ¬ (IsExecutable (view_of received here) here.resolved (done_ids here) id)
   pub resolved : (ids : List TxnId) → ¬ (IsResolvable (view_of received here) here.resolved (done_ids here) ids)
 

@@ -5,9 +5,9 @@ use Rattle.dt_text.specs.declared.NoMemory.{NoMemory}
 use Rattle.dt_access.specs.declared.TxnId.{TxnId}
 use Rattle.dt_proc.specs.Tree.{ProcTree}
 use Rattle.dt_sched.specs.Sched.{CanExecute, CanResolve, IsNextClass, IsNextReady}
+use Rattle.dt_txn.specs.Replica.{HasInsertedAll}
 use Rattle.dt_region.specs.Conditions.{CanMove, HoldsValid}
 use Rattle.dt_region.specs.Region.{HasStamp, RegionView, sched_of}
-use Rattle.dt_region.specs.RegionInner.{HasInsertedAll}
 use Rattle.dt_region.specs.StepsInner.{InsertsSome, StepsOn}
 use Rattle.dt_region.proofs.OneStep.{executes, resolves, stops}
 use Rattle.dt_region.proofs.alone.step.Goals as goal
