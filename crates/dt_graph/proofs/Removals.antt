@@ -1,6 +1,6 @@
 -- The entries of vertices are taken out slot by slot, vertex by vertex: what is still to go leaves of what waits just what is
 -- to stay of all.
-use Rattle.std.proofs.Common.{◌≡◌, ◌≢◌, ◌⊎◌, ◌∙◌, ℕ, Bool, true, false, ◌&&◌, ◌==◌, not, List, []}
+use Rattle.std.proofs.Common.{◌≡◌, ◌≢◌, ◌⊎◌, ◌∙◌, ℕ, true, false, ◌&&◌, ◌==◌, not, List, []}
 use Rattle.std.proofs.Common.{◌∷◌, map, filter, refl, sym, ap, subst, inl, inr, eqb-true, eq-eqb}
 use Rattle.std.specs.List.{list_any}
 use Rattle.std.proofs.lemmas.Bool.{cases_Bool, false_from_ne_true}

@@ -9,7 +9,7 @@ use Rattle.std.proofs.lemmas.List.Sums.{sum_by-append}
 use Rattle.std.proofs.lemmas.List.Elements.{filter-append}
 use Rattle.dt_lists.specs.Lists.{AllIn, Has}
 use Rattle.dt_lists.specs.Lists.{Distinct}
-use Rattle.dt_lists.proofs.Callers.{all_get, all_put, any_get, any_of_test, each_across, each_append_left, filter_none, has_of_filtered, Spot, spot, sum_mapped, sum_same}
+use Rattle.dt_lists.proofs.Callers.{all_get, all_put, any_get, any_of_test, each_across, each_append_left, filter_none, has_of_filtered, Spot, spot, sum_mapped, sum_same, sum_of_sums}
 use Rattle.dt_queue.specs.Queues.{Waiting, HasDistinctSlots, is_at, nearest, neighbours, is_neighbour, followers}
 use Rattle.dt_waits.specs.Waits.{others, degree, is_leaving, is_of, lowered, lowered_by, slots_of}
 use Rattle.dt_waits.proofs.NeighbourChains.{is_near, nearest_clash, neighbours_split, slot_same, slot_other}
