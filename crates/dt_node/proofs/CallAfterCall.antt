@@ -20,8 +20,7 @@ use Rattle.dt_merge.specs.Merge.{region_at}
 use Rattle.dt_site.specs.Site.{in_region}
 use Rattle.dt_node.specs.NodeView.{NodeView, new_items, number_of}
 use Rattle.dt_node.specs.NodeInWorld.{AreTold, NodeFits}
-use Rattle.dt_node.specs.Turn.{GoesAfter, HasGone, IsBroughtBy, greatest}
-use Rattle.dt_node.specs.TurnInner.{MovesOn}
+use Rattle.dt_node.specs.Turn.{GoesAfter, HasGone, IsBroughtBy, MovesOn, greatest}
 use Rattle.dt_node.proofs.EventsGoOn.{goes_more, goes_none}
 use Rattle.dt_node.proofs.TruePackets.{told_along, told_first, told_rest}
 use Rattle.dt_node.proofs.Greatest.{above_greatest}

@@ -29,9 +29,8 @@ use Rattle.dt_site.specs.declared.Origin.{Origin}
 use Rattle.dt_site.specs.Site.{SiteView, MakesAttempt, in_region}
 use Rattle.dt_node.specs.NodeView.{NodeView, number_of}
 use Rattle.dt_node.specs.NodeInWorld.{AreTold, NodeFits}
-use Rattle.dt_node.specs.Turn.{GoesAfter, IsBroughtBy, MayAnswerAt}
+use Rattle.dt_node.specs.Turn.{GoesAfter, IsBroughtBy, MayAnswerAt, MovesOn}
 use Rattle.dt_node.specs.Steps.{IsNextAt}
-use Rattle.dt_node.specs.TurnInner.{MovesOn}
 use Rattle.dt_node.proofs.Rule7Answer.{answer_goes}
 use Rattle.dt_node.proofs.CallAfterCall.{StaysBeside, made_some}
 use Rattle.dt_node.proofs.RoundInWorld.{round_goes}

@@ -14,8 +14,8 @@ use Rattle.dt_session.specs.World.{World, received_of, taken_of}
 use Rattle.dt_session.specs.Run.{world_after}
 use Rattle.dt_node.specs.NodeView.{NodeView, heard_by, number_of}
 use Rattle.dt_node.specs.NodeInWorld.{AreTold, KnowsNoMore, NodeFits}
-use Rattle.dt_node.specs.Turn.{HasHeard}
-use Rattle.dt_node.specs.TurnInner.{MovesOn, noted}
+use Rattle.dt_node.specs.Turn.{HasHeard, MovesOn}
+use Rattle.dt_node.specs.TurnInner.{noted}
 use Rattle.dt_node.proofs.CallAfterCall.{made_none}
 
 -- a stamp is heard

@@ -18,8 +18,8 @@ use Rattle.dt_site.specs.Site.{in_region}
 use Rattle.dt_site.proofs.Callers.{AsksFor, asked_held, asks_for, inv}
 use Rattle.dt_node.specs.NodeView.{NodeView, number_of}
 use Rattle.dt_node.specs.NodeInWorld.{NodeFits}
-use Rattle.dt_node.specs.Turn.{HasPlacedOwn}
-use Rattle.dt_node.specs.TurnInner.{CanTake, MovesOn}
+use Rattle.dt_node.specs.Turn.{HasPlacedOwn, MovesOn}
+use Rattle.dt_node.specs.TurnInner.{CanTake}
 use Rattle.dt_node.proofs.EventsGoOn.{reached}
 use Rattle.dt_node.proofs.CallsOfNode.{place_moves}
 use Rattle.dt_node.proofs.CallAfterCall.{made_nothing}

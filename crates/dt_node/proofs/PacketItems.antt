@@ -22,11 +22,12 @@ use Rattle.dt_session.specs.World.{asked_of}
 use Rattle.dt_session.specs.Run.{world_after}
 use Rattle.dt_site.specs.Site.{in_region}
 use Rattle.dt_site.proofs.Callers.{AsksFor}
+use Rattle.dt_node.specs.Turn.{MovesOn}
 use Rattle.dt_node.specs.NodeView.{NodeView, number_of}
 use Rattle.dt_node.specs.NodeInWorld.{AreTold}
 use Rattle.dt_node.specs.Steps.{receipt}
 use Rattle.dt_node.specs.StepsInner.{HasPlaced, HasReceived, IsPlacedTo}
-use Rattle.dt_node.specs.TurnInner.{CanTake, MovesOn, asking_packet, logging_packet}
+use Rattle.dt_node.specs.TurnInner.{CanTake, asking_packet, logging_packet}
 use Rattle.dt_node.proofs.Rule3Deliver.{can_receive, new_reach, receive_goes}
 use Rattle.dt_node.proofs.PlacedRequests.{has_placed_if, placed_to_if}
 use Rattle.dt_node.proofs.CallsOfNode.{place_moves, receive_moves}

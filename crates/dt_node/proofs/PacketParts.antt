@@ -17,8 +17,8 @@ use Rattle.dt_node.proofs.RisingStamps.{rise_same, rise_with}
 use Rattle.dt_node.specs.NodeView.{NodeView, new_items, number_of}
 use Rattle.dt_node.specs.Packets.{IsToldOf}
 use Rattle.dt_node.specs.NodeInWorld.{AreTold}
-use Rattle.dt_node.specs.Turn.{BringsEntries, BringsRequest, HasGone, IsBroughtBy}
-use Rattle.dt_node.specs.TurnInner.{CanTake, MovesOn, asking_packet, logging_packet}
+use Rattle.dt_node.specs.Turn.{BringsEntries, BringsRequest, HasGone, IsBroughtBy, MovesOn}
+use Rattle.dt_node.specs.TurnInner.{CanTake, asking_packet, logging_packet}
 
 module _ (n : NodeView) (p : Packet) (here : p.target ≡ number_of n) where
   abbrev asks : Packet

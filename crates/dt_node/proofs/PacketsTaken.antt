@@ -8,9 +8,9 @@ use Rattle.dt_proc.specs.Tree.{ProcTree}
 use Rattle.dt_txn.specs.Replica.{taken_from}
 use Rattle.dt_packet.specs.declared.packet.Packet.{Packet}
 use Rattle.dt_node.specs.NodeView.{NodeView}
-use Rattle.dt_node.specs.Turn.{HasHeard, HasPlacedOwn, HasTaken, IsTaken, greatest, those_from}
+use Rattle.dt_node.specs.Turn.{HasHeard, HasPlacedOwn, HasTaken, IsTaken, MovesOn, greatest, those_from}
 use Rattle.dt_node.specs.Steps.{HasTakenEach}
-use Rattle.dt_node.specs.TurnInner.{IsTaking, MovesOn}
+use Rattle.dt_node.specs.TurnInner.{IsTaking}
 use Rattle.dt_node.proofs.Greatest.{greatest_append}
 use Rattle.dt_node.proofs.CallAfterCall.{made_nothing, moves_by_more, moves_more}
 

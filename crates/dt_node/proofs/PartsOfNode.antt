@@ -25,10 +25,10 @@ use Rattle.dt_site.specs.Site.{SiteView, MakesAttempt, in_region}
 use Rattle.dt_site.proofs.Callers.{name_at}
 use Rattle.dt_node.specs.MeasureInner.{left_for}
 use Rattle.dt_node.specs.NodeView.{NodeView, heard_by, number_of}
-use Rattle.dt_node.specs.Turn.{HasPlacedOwn, HasTaken, MayAnswerAt, last_at}
+use Rattle.dt_node.specs.Turn.{HasPlacedOwn, HasTaken, MayAnswerAt, MovesOn, last_at}
 use Rattle.dt_node.specs.Steps.{HasTakenOne, IsNextAt}
 use Rattle.dt_node.specs.StepsInner.{HasPlaced, HasReceived, IsAnswering, IsPlacedTo}
-use Rattle.dt_node.specs.TurnInner.{CanGo, CanTake, HasGoneOn, KnowsTheSame, MovesOn, asking_packet, logging_packet, noted}
+use Rattle.dt_node.specs.TurnInner.{CanGo, CanTake, HasGoneOn, KnowsTheSame, asking_packet, logging_packet, noted}
 use Rattle.dt_node.specs.EagerStartInner.{IsPlacingOwn}
 use Rattle.dt_node.proofs.CallAfterCall.{new_are}
 use Rattle.dt_node.proofs.SubmissionEvents.{placing_none, placing_one}

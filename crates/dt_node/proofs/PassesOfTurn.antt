@@ -19,10 +19,10 @@ use Rattle.dt_node.specs.MeasureInner.{left_for}
 use Rattle.dt_node.specs.NodeView.{NodeView, new_items, number_of}
 use Rattle.dt_node.specs.TurnPacketsInner.{IsReady}
 use Rattle.dt_node.specs.NodeInWorld.{NodeStands}
-use Rattle.dt_node.specs.Turn.{BeginsEagerly, HasPlacedOwn, HasTaken, IsSettled, MayAnswerAt, MaySubmitAt}
+use Rattle.dt_node.specs.Turn.{BeginsEagerly, HasPlacedOwn, HasTaken, IsSettled, MayAnswerAt, MaySubmitAt, MovesOn}
 use Rattle.dt_node.specs.Steps.{AllWhoMight, HasMadePasses, HasMadeRound, HasTakenEach, HasTurned, IsPass}
 use Rattle.dt_node.specs.StepsInner.{IsAnswering, IsSubmission}
-use Rattle.dt_node.specs.TurnInner.{CanGo, EndsAll, HasGoneOn, KnowsTheSame, MovesOn, PassesOnce, RestsWhereDrained}
+use Rattle.dt_node.specs.TurnInner.{CanGo, EndsAll, HasGoneOn, KnowsTheSame, PassesOnce, RestsWhereDrained}
 use Rattle.dt_node.proofs.SessionSteps.{said_otherwise, some_of_both, some_stepped}
 use Rattle.dt_node.proofs.CallAfterCall.{made_nothing, moves_more, moves_on}
 use Rattle.dt_node.proofs.SessionsByPlace.{gone_on_more}

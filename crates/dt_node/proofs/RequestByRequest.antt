@@ -16,9 +16,9 @@ use Rattle.dt_session.specs.Run.{world_after}
 use Rattle.dt_node.specs.NodeView.{NodeView, new_items, number_of}
 use Rattle.dt_node.specs.Packets.{IsToldOf}
 use Rattle.dt_node.specs.NodeInWorld.{AreTold}
-use Rattle.dt_node.specs.Turn.{BringsEntries, BringsRequest, HasPlacedOwn, IsBroughtBy}
+use Rattle.dt_node.specs.Turn.{BringsEntries, BringsRequest, HasPlacedOwn, IsBroughtBy, MovesOn}
 use Rattle.dt_node.specs.StepsInner.{HasPlaced, IsPlacedTo}
-use Rattle.dt_node.specs.TurnInner.{CanTake, IsPlacing, KnowsTheSame, MovesOn, asking_packet}
+use Rattle.dt_node.specs.TurnInner.{CanTake, IsPlacing, KnowsTheSame, asking_packet}
 use Rattle.dt_node.proofs.PlacedRequests.{has_placed_none, has_placed_on, placed_to_more}
 use Rattle.dt_node.proofs.CallAfterCall.{made_nothing}
 use Rattle.dt_node.proofs.PacketParts.{gone_by, moves_same}

@@ -18,9 +18,9 @@ use Rattle.dt_site.specs.declared.Origin.{Origin}
 use Rattle.dt_site.specs.Site.{SiteView, MakesAttempt, in_region}
 use Rattle.dt_node.specs.MeasureInner.{left_for}
 use Rattle.dt_node.specs.NodeView.{NodeView, new_items, number_of}
-use Rattle.dt_node.specs.Turn.{HasPlacedOwn, MayAnswerAt, last_at}
+use Rattle.dt_node.specs.Turn.{HasPlacedOwn, MayAnswerAt, MovesOn, last_at}
 use Rattle.dt_node.specs.Steps.{IsNextAt}
-use Rattle.dt_node.specs.TurnInner.{HasGoneOn, MovesOn}
+use Rattle.dt_node.specs.TurnInner.{HasGoneOn}
 use Rattle.dt_node.proofs.Rule7Answer.{seats_kept}
 use Rattle.dt_node.proofs.LessIsLeft.{answer_falls, wait_falls}
 use Rattle.dt_node.proofs.CallsOfNode.{answer_moves, submit_moves}

@@ -25,10 +25,9 @@ use Rattle.dt_agreement.proofs.Callers.{ask_other}
 use Rattle.dt_site.specs.declared.Origin.{Origin}
 use Rattle.dt_site.specs.Site.{SiteView, in_region}
 use Rattle.dt_node.specs.NodeView.{NodeView, new_items, number_of}
-use Rattle.dt_node.specs.Turn.{HasGone, HasPlacedOwn}
+use Rattle.dt_node.specs.Turn.{HasGone, HasPlacedOwn, MovesOn}
 use Rattle.dt_node.specs.Steps.{IsNextAt, is_own, own_to_place, placings}
 use Rattle.dt_node.specs.StepsInner.{HasPlaced, IsSubmission}
-use Rattle.dt_node.specs.TurnInner.{MovesOn}
 use Rattle.dt_node.specs.EagerStartInner.{IsPlacingOwn, MakesNext}
 use Rattle.dt_node.proofs.PlacedRequests.{has_placed_none, has_placed_on, has_placed_one}
 use Rattle.dt_node.proofs.CallAfterCall.{gone_more, made_nothing, moves_on, new_are, new_joined}

@@ -25,8 +25,8 @@ use Rattle.dt_site.proofs.Callers.{after_more, has_received, run_more, txns_stay
 use Rattle.dt_node.specs.NodeView.{NodeView, new_items, number_of}
 use Rattle.dt_node.specs.Packets.{IsToldOf, IsTruePacket}
 use Rattle.dt_node.specs.NodeInWorld.{AreTold, IsFor, NodeFits, NodeStands}
-use Rattle.dt_node.specs.Turn.{GoesAfter, greatest}
-use Rattle.dt_node.specs.TurnInner.{BeginsWithin, CanGo, CanTake, MovesOn}
+use Rattle.dt_node.specs.Turn.{GoesAfter, MovesOn, greatest}
+use Rattle.dt_node.specs.TurnInner.{BeginsWithin, CanGo, CanTake}
 use Rattle.dt_node.proofs.EventsGoOn.{reached}
 use Rattle.dt_node.proofs.Greatest.{greatest_below}
 

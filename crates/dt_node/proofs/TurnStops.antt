@@ -18,8 +18,8 @@ use Rattle.dt_session.specs.World.{World, node_at, outcome_in}
 use Rattle.dt_session.specs.Run.{world_after}
 use Rattle.dt_node.specs.NodeView.{NodeView, new_items, number_of}
 use Rattle.dt_node.specs.NodeInWorld.{NodeFits}
-use Rattle.dt_node.specs.Turn.{BeginsEagerly, GoesAfter, HasGone, HasPlacedOwn, IsSettled, IsStill, MadeNoneOrWent, MayAnswerAt, MaySubmitAt, last_at}
-use Rattle.dt_node.specs.TurnInner.{CanGo, MovesOn, PassesOnce}
+use Rattle.dt_node.specs.Turn.{BeginsEagerly, GoesAfter, HasGone, HasPlacedOwn, IsSettled, IsStill, MadeNoneOrWent, MayAnswerAt, MaySubmitAt, MovesOn, last_at}
+use Rattle.dt_node.specs.TurnInner.{CanGo, PassesOnce}
 use Rattle.dt_node.proofs.CallAfterCall.{made_none, new_joined, new_none}
 
 module _ {procs : List ProcTree} {n b : NodeView} (c : CanGo procs [] n) (m : MovesOn procs [] n b) (none : new_items n b ≡ []) where

@@ -8,10 +8,10 @@ use Rattle.dt_txn.specs.Replica.{taken_from}
 use Rattle.dt_region.specs.Region.{latest_stamp}
 use Rattle.dt_packet.specs.declared.packet.Packet.{Packet}
 use Rattle.dt_node.specs.NodeView.{NodeView, heard_by, new_items, number_of}
-use Rattle.dt_node.specs.Turn.{HasTaken}
+use Rattle.dt_node.specs.Turn.{HasTaken, MovesOn}
 use Rattle.dt_node.specs.Steps.{HasTakenOne, placings, receipt}
 use Rattle.dt_node.specs.StepsInner.{HasPlaced, HasReceived, IsPlacedTo}
-use Rattle.dt_node.specs.TurnInner.{CanTake, KnowsTheSame, MovesOn, asking_packet, logging_packet, noted}
+use Rattle.dt_node.specs.TurnInner.{CanTake, KnowsTheSame, asking_packet, logging_packet, noted}
 use Rattle.dt_node.proofs.CallAfterCall.{new_joined}
 use Rattle.dt_node.proofs.HearCall.{heard_moves, noted_heard, noted_moves}
 use Rattle.dt_node.proofs.PacketParts.{can_ask, can_log, moves_by_asking, moves_by_logging, moves_same}

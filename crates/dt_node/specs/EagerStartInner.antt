@@ -16,9 +16,8 @@ use Rattle.dt_site.specs.declared.Origin.{Origin}
 use Rattle.dt_site.specs.Site.{MakesAttempt}
 use Rattle.dt_node.specs.NodeView.{NodeView, new_items, number_of}
 use Rattle.dt_node.specs.NodeInWorld.{NodeFits}
-use Rattle.dt_node.specs.Turn.{HasPlacedOwn}
+use Rattle.dt_node.specs.Turn.{HasPlacedOwn, MovesOn}
 use Rattle.dt_node.specs.StepsInner.{HasPlaced}
-use Rattle.dt_node.specs.TurnInner.{MovesOn}
 
 -- some of what the node asked of its own region was placed, and nothing else has happened
 pub record IsPlacingOwn (before now : NodeView) : Type 0 where

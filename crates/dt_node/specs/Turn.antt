@@ -1,9 +1,9 @@
 -- What a turn makes of a node. A node in a turn takes the packets that wait, lets its sessions go on, makes a round, and sends
 -- one packet to each other region. One learns here what holds of this, one record each: its new events are legal after those
 -- of every world in which the node stood, and it stands in the world after them (`GoesAfter`); what it used of other regions came
--- by packets (`AreBrought`); its stamps rise (`StampsRise`); it took all of every packet, and knows the greatest counts that
--- they report (`HasTaken`); in the end nothing is left to do by itself (`IsSettled`); and its first turn begins with the first
--- calls of its sessions (`BeginsEagerly`). Read next: `Steps`, for the order in which all this is done.
+-- by packets (`AreBrought`); its stamps rise (`StampsRise`), which together is `MovesOn`; it took all of every packet, and knows the
+-- greatest counts that they report (`HasTaken`); in the end nothing is left to do by itself (`IsSettled`); and its first turn
+-- begins with the first calls of its sessions (`BeginsEagerly`). Read next: `Steps`, for the order in which all this is done.
 use Rattle.std.specs.Prelude.{◌≡◌, ◌≢◌, ◌<◌, ◌≤◌, ◌+◌, ◌==◌, ◌⊎◌, ℕ, List, [], ◌∷◌, ◌++◌, length, map, filter, max, get_or, Option}
 use Rattle.dt_lists.specs.Lists.{AllIn, AnyIn, EachThen, IsFront}
 use Rattle.dt_access.specs.Clash.{Bytes}
@@ -90,6 +90,13 @@ pub record StampsRise (packets : List Packet) (before after : NodeView) : Type 0
   pub below : AllIn (λ x. x.stamp ≤ latest_stamp after.site.region) (new_items before after)
   pub up : latest_stamp before.site.region ≤ latest_stamp after.site.region
   pub low : latest_stamp after.site.region ≤ greatest (latest_stamp before.site.region) (map (λ p. p.stamp) packets) + length (new_items before after)
+
+-- what a turn, or a part of one, makes of the node: what it kept goes on from what there was, and whatever it used of other regions
+-- was in these packets
+pub record MovesOn (procs : List ProcTree) (packets : List Packet) (before after : NodeView) : Type 0 where
+  pub gone : HasGone procs packets before after
+  pub brought : AreBrought packets (new_items before after)
+  pub stamps : StampsRise packets before after
 
 -- all that a packet brought was taken
 pub record IsTaken (n : NodeView) (p : Packet) : Type 0 where

@@ -16,17 +16,11 @@ use Rattle.dt_packet.specs.declared.packet.Packet.{Packet}
 use Rattle.dt_cluster.specs.declared.Cluster.{Cluster}
 use Rattle.dt_workload.specs.declared.Workload.{Workload}
 use Rattle.dt_node.specs.MeasureInner.{left_for}
-use Rattle.dt_node.specs.NodeView.{NodeView, new_items, number_of}
+use Rattle.dt_node.specs.NodeView.{NodeView, number_of}
 use Rattle.dt_node.specs.NodeInWorld.{AreTold, NodeFits}
-use Rattle.dt_node.specs.Turn.{AreBrought, HasGone, HasPlacedOwn, HasTaken, MayAnswerAt, MaySubmitAt, StampsRise}
+use Rattle.dt_node.specs.Turn.{HasPlacedOwn, HasTaken, MayAnswerAt, MaySubmitAt}
 use Rattle.dt_node.specs.Steps.{HasTakenEach, own_left}
 use Rattle.dt_node.specs.StepsInner.{HasPlaced, IsPlacedTo}
-
--- what a call of a turn makes of the node; these are the packets that it has used
-pub record MovesOn (procs : List ProcTree) (packets : List Packet) (before after : NodeView) : Type 0 where
-  pub gone : HasGone procs packets before after
-  pub brought : AreBrought packets (new_items before after)
-  pub stamps : StampsRise packets before after
 
 -- the region has all that comes before what a packet brings
 pub record BeginsWithin (n : NodeView) (p : Packet) : Type 0 where

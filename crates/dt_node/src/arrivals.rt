@@ -2,11 +2,11 @@ ghost use Rattle.std.specs.Prelude.{◌≡◌, ◌<◌, ◌≤◌, ◌+◌, ◌�
 ghost use Rattle.dt_lists.specs.Lists.{Pairwise};
 ghost use Rattle.dt_proc.specs.Tree.{ProcTree};
 ghost use Rattle.dt_txn.specs.Replica.{taken_from};
-ghost use Rattle.dt_node.specs.Turn.{HasPlacedOwn, HasTaken};
+ghost use Rattle.dt_node.specs.Turn.{HasPlacedOwn, HasTaken, MovesOn};
 ghost use Rattle.dt_node.specs.Steps.{HasTakenEach, HasTakenOne};
 ghost use Rattle.dt_node.specs.StepsInner.{HasPlaced, HasReceived, IsPlacedTo};
 ghost use Rattle.dt_sched.specs.Views.{log_at};
-ghost use Rattle.dt_node.specs.TurnInner.{CanTake, KnowsTheSame, MovesOn, asking_packet, logging_packet, noted};
+ghost use Rattle.dt_node.specs.TurnInner.{CanTake, KnowsTheSame, asking_packet, logging_packet, noted};
 
 use crate::node::Node;
 use dt_packet::{Inlet, Packet};

@@ -8,8 +8,8 @@ ghost use Rattle.dt_node.specs.NodeView.{new_items, opening_node_of};
 ghost use Rattle.dt_node.specs.TurnPackets.{HasSent, LeavesNothingOut};
 ghost use Rattle.dt_node.specs.NodeInWorld.{NodeStands};
 ghost use Rattle.dt_node.specs.Steps.{HasMadePasses, HasTurned, IsPass};
-ghost use Rattle.dt_node.specs.Turn.{AreBrought, BeginsEagerly, HasGone, HasTaken, IsSettled, StampsRise};
-ghost use Rattle.dt_node.specs.TurnInner.{CanGo, KnowsTheSame, MovesOn, PassesOnce, RestsWhereDrained};
+ghost use Rattle.dt_node.specs.Turn.{AreBrought, BeginsEagerly, HasGone, HasTaken, IsSettled, MovesOn, StampsRise};
+ghost use Rattle.dt_node.specs.TurnInner.{CanGo, KnowsTheSame, PassesOnce, RestsWhereDrained};
 
 use dt_cluster::Cluster;
 use dt_packet::{Inlet, LossPlan, Outlet};

@@ -5,8 +5,8 @@ ghost use Rattle.dt_node.specs.MeasureInner.{left_for};
 ghost use Rattle.dt_node.specs.EagerStartInner.{IsPlacingOwn, MakesNext};
 ghost use Rattle.dt_node.specs.Steps.{AllWhoMight, IsNextAt};
 ghost use Rattle.dt_node.specs.StepsInner.{IsAnswering, IsSubmission, StepsAt};
-ghost use Rattle.dt_node.specs.Turn.{BeginsEagerly, HasPlacedOwn, MayAnswerAt, MaySubmitAt};
-ghost use Rattle.dt_node.specs.TurnInner.{CanGo, CanTake, EndsAll, EndsOne, EndsPlacing, KnowsTheSame, MovesOn};
+ghost use Rattle.dt_node.specs.Turn.{BeginsEagerly, HasPlacedOwn, MayAnswerAt, MaySubmitAt, MovesOn};
+ghost use Rattle.dt_node.specs.TurnInner.{CanGo, CanTake, EndsAll, EndsOne, EndsPlacing, KnowsTheSame};
 
 use crate::node::Node;
 use dt_proc::Procs;

@@ -36,10 +36,11 @@ use Rattle.dt_site.specs.declared.Origin.{Origin}
 use Rattle.dt_merge.proofs.Callers.{node_there}
 use Rattle.dt_node.specs.NodeView.{NodeView, new_items, number_of}
 use Rattle.dt_node.specs.NodeInWorld.{AreTold, NodeFits}
+use Rattle.dt_node.specs.Turn.{MovesOn}
 use Rattle.dt_run.specs.EndOfRun.{IsAllDone}
 use Rattle.dt_run.specs.NodesStand.{AreNodes}
 use Rattle.dt_run.specs.NodesView.{NodesView, node_in, waiting_at}
-use Rattle.dt_run.specs.Phase.{IsPhase, TurnsOnce}
+use Rattle.dt_run.specs.Phase.{IsPhase}
 use Rattle.dt_run.proofs.PlannedPackets.{down}
 use Rattle.dt_run.proofs.TurnsInOrder.{goes, good_world, own_events}
 
@@ -145,7 +146,7 @@ txns_in (t ∷ txns) (o ∷ origins) e = ap (λ l. t ∷ l) (txns_in txns origin
 
 -- a turn of a node whose sessions are all answered
 module _ {cluster : Cluster} {workload : Workload} {events : List Event} {packets : List Packet} {before after : NodeView} (f : NodeFits cluster workload events before) (told : AreTold cluster workload events packets before)
-    (t : TurnsOnce cluster.procs packets before after) (all : EachNameIsAnswered before.sessions) where
+    (t : MovesOn cluster.procs packets before after) (all : EachNameIsAnswered before.sessions) where
   abbrev w : World
   w = world_after cluster workload events
 

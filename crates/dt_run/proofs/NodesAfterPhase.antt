@@ -23,12 +23,12 @@ use Rattle.dt_session.specs.Eager.{first_calls, first_events, sessions_at}
 use Rattle.dt_node.specs.NodeView.{new_items, number_of, packet_for}
 use Rattle.dt_node.specs.Packets.{IsToldOf, IsTruePacket}
 use Rattle.dt_node.specs.NodeInWorld.{NodeFits}
-use Rattle.dt_node.specs.Turn.{BeginsEagerly, BringsEntries, BringsRequest, IsBroughtBy}
+use Rattle.dt_node.specs.Turn.{BeginsEagerly, BringsEntries, BringsRequest, IsBroughtBy, MovesOn}
 use Rattle.dt_run.specs.LinksInner.{BesideSoFar}
 use Rattle.dt_run.specs.Marks.{IsPlannedIn, IsToldIn, WasAskedBefore, WerePlacedBefore, kept_before, kept_by_region, mark_at}
 use Rattle.dt_run.specs.NodesStand.{AreInStep, AreNodes, BeganEagerly, IsOnLink, LinkTells, StandsAmong}
 use Rattle.dt_run.specs.NodesView.{NodesView, kept_by, node_in, waiting_at, waiting_between}
-use Rattle.dt_run.specs.Phase.{EndsInStep, IsPhase, TurnsOnce}
+use Rattle.dt_run.specs.Phase.{EndsInStep, IsPhase}
 use Rattle.dt_run.specs.SeatsInner.{AreSeated, EachGoes, SeatTurned, SeatView, nodes_view, seat_at}
 use Rattle.dt_run.proofs.Laws.{asked_front}
 use Rattle.dt_run.proofs.ChronicleGrows.{worlds_grow}
@@ -173,7 +173,7 @@ module _ {cluster : Cluster} {workload : Workload} {seats seats' seats'' : List 
   new_planned : (region : ℕ) (x : Stamped) → region < cluster.regions → Has (planning.new step phase ends region) x → IsPlannedIn v' (suc step.made) x.event
   new_planned region x lr h = by x.event refl mine brought
     where
-      turn : TurnsOnce cluster.procs (waiting_at v region) (node_in v region) (node_in v' region)
+      turn : MovesOn cluster.procs (waiting_at v region) (node_in v region) (node_in v' region)
       turn = phase.turns region lr
 
       mine : region_of x.event ≡ region

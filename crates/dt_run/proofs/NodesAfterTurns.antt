@@ -10,9 +10,10 @@ use Rattle.dt_cluster.specs.declared.Cluster.{Cluster}
 use Rattle.dt_workload.specs.declared.Workload.{Workload}
 use Rattle.dt_merge.specs.Merge.{IsChronicle, kept_at}
 use Rattle.dt_node.specs.NodeView.{NodeView}
+use Rattle.dt_node.specs.Turn.{MovesOn}
 use Rattle.dt_run.specs.NodesStand.{AreInStep, AreNodes, StandsAmong}
 use Rattle.dt_run.specs.NodesView.{NodesView, kept_by, no_running_node, node_in, waiting_at}
-use Rattle.dt_run.specs.Phase.{IsPhase, TurnsOnce}
+use Rattle.dt_run.specs.Phase.{IsPhase}
 use Rattle.dt_run.specs.SeatsInner.{AreSeated, EachGoes, SeatView, nodes_view, seat_at, waits_in}
 use Rattle.dt_run.proofs.TurnsInOrder.{new_below}
 use Rattle.dt_run.proofs.OneChronicle as turning
@@ -21,7 +22,7 @@ use Rattle.dt_run.proofs.WaitingPackets as waiting
 -- a turn at each seat, whatever became of links and marks
 pub record EachTurns (procs : List ProcTree) (before after : List SeatView) : Type 0 where
   pub many : length after ≡ length before
-  pub each : (region : ℕ) → region < length before → TurnsOnce procs (flat_map waits_in (seat_at before region).ins) (seat_at before region).node (seat_at after region).node
+  pub each : (region : ℕ) → region < length before → MovesOn procs (flat_map waits_in (seat_at before region).ins) (seat_at before region).node (seat_at after region).node
 
 pub turns_of : {procs : List ProcTree} {before after : List SeatView} → EachGoes procs before after → EachTurns procs before after
 turns_of g = record { many = g.many; each = λ region lt. (g.each region lt).once }
@@ -42,11 +43,11 @@ module _ {cluster : Cluster} {workload : Workload} {seats seats' : List SeatView
   many_now : length v'.nodes ≡ cluster.regions
   many_now = length-map seats' (λ (s : SeatView). s.node) ∙ g.many ∙ waiting.one_for_each a
 
-  pub turns : (region : ℕ) → region < cluster.regions → TurnsOnce cluster.procs (waiting_at v region) (node_in v region) (node_in v' region)
+  pub turns : (region : ℕ) → region < cluster.regions → MovesOn cluster.procs (waiting_at v region) (node_in v region) (node_in v' region)
   turns region lr =
-      subst (λ m. TurnsOnce cluster.procs (waiting_at v region) (node_in v region) m) (sym (waiting.node_is cluster workload seats' later region))
-      (subst (λ m. TurnsOnce cluster.procs (waiting_at v region) m (seat_at seats' region).node) (sym (waiting.node_is cluster workload seats broken region))
-      (subst (λ l. TurnsOnce cluster.procs l (seat_at seats region).node (seat_at seats' region).node) (sym (waiting.waiting_is cluster workload seats broken region))
+      subst (λ m. MovesOn cluster.procs (waiting_at v region) (node_in v region) m) (sym (waiting.node_is cluster workload seats' later region))
+      (subst (λ m. MovesOn cluster.procs (waiting_at v region) m (seat_at seats' region).node) (sym (waiting.node_is cluster workload seats broken region))
+      (subst (λ l. MovesOn cluster.procs l (seat_at seats region).node (seat_at seats' region).node) (sym (waiting.waiting_is cluster workload seats broken region))
       (g.each region (waiting.seat_there a lr))))
 
   turned : turning.EachHasTurned cluster workload n.all (kept_by v.nodes) (kept_by v'.nodes) (node_in v) (node_in v') (waiting_at v)

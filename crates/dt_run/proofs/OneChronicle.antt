@@ -20,8 +20,7 @@ use Rattle.dt_merge.specs.OwnPart.{source_of}
 use Rattle.dt_node.specs.NodeView.{NodeView, new_items, number_of}
 use Rattle.dt_node.specs.Packets.{IsTruePacket}
 use Rattle.dt_node.specs.NodeInWorld.{AreTold, IsFor, NodeFits}
-use Rattle.dt_node.specs.Turn.{IsBroughtBy, greatest}
-use Rattle.dt_run.specs.Phase.{TurnsOnce}
+use Rattle.dt_node.specs.Turn.{IsBroughtBy, MovesOn, greatest}
 use Rattle.dt_run.proofs.Laws.{greatest_below}
 use Rattle.dt_run.proofs.ChronicleGrows.{brought_there, fed_longer, one_brought}
 use Rattle.dt_run.proofs.TurnsInOrder.{SoFar, new_below, so_far}
@@ -54,7 +53,7 @@ pub record EachHasTurned (cluster : Cluster) (workload : Workload) (all : List S
   pub fit : (region : ℕ) → region < cluster.regions → NodeFits cluster workload (events_of all) (node region)
   pub addressed : (region : ℕ) → region < cluster.regions → AllIn (IsFor cluster.regions (number_of (node region))) (packets region)
   pub trues : (region : ℕ) → region < cluster.regions → AllIn (IsTruePacket cluster workload all) (packets region)
-  pub turns : (region : ℕ) → region < cluster.regions → TurnsOnce cluster.procs (packets region) (node region) (node' region)
+  pub turns : (region : ℕ) → region < cluster.regions → MovesOn cluster.procs (packets region) (node region) (node' region)
   pub kept_is : (region : ℕ) → region < cluster.regions → kept_at kept region ≡ (node region).site.region.events
   pub kept_none : (region : ℕ) → cluster.regions ≤ region → kept_at kept region ≡ []
   pub now_is : (region : ℕ) → region < cluster.regions → kept_at kept' region ≡ (node' region).site.region.events

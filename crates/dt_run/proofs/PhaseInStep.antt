@@ -16,12 +16,12 @@ use Rattle.dt_workload.specs.declared.Workload.{Workload}
 use Rattle.dt_node.specs.NodeView.{NodeView, number_of, other_at, packet_for}
 use Rattle.dt_node.specs.TurnPackets.{IsSentBy, LeavesNothingOut, copies_of, no_outlet}
 use Rattle.dt_node.specs.Steps.{HasTurned}
-use Rattle.dt_node.specs.Turn.{HasTaken, IsSettled}
+use Rattle.dt_node.specs.Turn.{HasTaken, IsSettled, MovesOn}
 use Rattle.dt_run.specs.LinksInner.{BesideSoFar, LinkGoes, in_at, out_at}
 use Rattle.dt_run.specs.Marks.{plan_of}
 use Rattle.dt_run.specs.NodesStand.{IsOnLink}
 use Rattle.dt_run.specs.NodesView.{NodesView, link_to, marks_at, node_in, waiting_at, waiting_between}
-use Rattle.dt_run.specs.Phase.{EndsInStep, TurnsOnce, TurnsWhole}
+use Rattle.dt_run.specs.Phase.{EndsInStep, TurnsWhole}
 use Rattle.dt_run.specs.SeatsInner.{EndsAreApart, AreBeside, AreLinkedBy, AreSeated, EachGoes, SeatTurned, SeatView, no_seat, nodes_view, seat_at, seen_out, waits_in}
 use Rattle.dt_run.proofs.NodesAfterTurns.{EachTurns, stand_now}
 use Rattle.dt_run.proofs.LinkNumbers.{link_within, other_of_link}
@@ -102,7 +102,7 @@ module _ {cluster : Cluster} {workload : Workload} {seats seats' seats'' : List 
   pub turns_now : EachTurns cluster.procs seats seats''
   turns_now = record {
     many = b.many ∙ g.many;
-    each = λ region lt. subst (λ m. TurnsOnce cluster.procs (flat_map waits_in (seat_at seats region).ins) (seat_at seats region).node m) (sym (node_same region lt)) (g.each region lt).once;
+    each = λ region lt. subst (λ m. MovesOn cluster.procs (flat_map waits_in (seat_at seats region).ins) (seat_at seats region).node m) (sym (node_same region lt)) (g.each region lt).once;
   }
 
   pub beside_now : AreLinkedBy AreBeside seats''

@@ -8,8 +8,7 @@ use Rattle.dt_region.specs.Region.{RegionView}
 use Rattle.dt_ring.specs.Rings.{RingInView, RingOutView, SameIn, SameOut}
 use Rattle.dt_node.specs.TurnPackets.{HasSent, LeavesNothingOut}
 use Rattle.dt_node.specs.Steps.{HasTurned}
-use Rattle.dt_node.specs.Turn.{BeginsEagerly, HasTaken, IsSettled}
-use Rattle.dt_run.specs.Phase.{TurnsOnce}
+use Rattle.dt_node.specs.Turn.{BeginsEagerly, HasTaken, IsSettled, MovesOn}
 use Rattle.dt_run.specs.SeatsInner.{SeatGoes, SeatTurned, SeatView, seen_out, waits_in}
 
 module _ {procs : List ProcTree} {now after : SeatView} (before : SeatView) {ins ins' : List RingInView} {outs outs' : List RingOutView} (is : before ≡ now) (ins_are : ins ≡ before.ins)
@@ -45,10 +44,10 @@ module _ {procs : List ProcTree} {before now : SeatView} (after : SeatView) (is 
   turned : SeatTurned procs before after → SeatTurned procs before (record after { failed = failed })
   turned w = record { emptied = w.emptied; steps = w.steps; taken = w.taken; settled = w.settled; begins = w.begins; sent = w.sent; whole = w.whole; marks = w.marks }
 
-  pub noted : TurnsOnce procs (flat_map waits_in before.ins) before.node now.node → Pairwise SameIn before.ins now.ins → Pairwise SameOut before.outs now.outs
+  pub noted : MovesOn procs (flat_map waits_in before.ins) before.node now.node → Pairwise SameIn before.ins now.ins → Pairwise SameOut before.outs now.outs
       → (failed ≡ false → SeatTurned procs before now) → SeatGoes procs before (record after { failed = failed })
   noted once ins outs whole = record {
-    once = subst (λ (s : SeatView). TurnsOnce procs (flat_map waits_in before.ins) before.node s.node) (sym is) once;
+    once = subst (λ (s : SeatView). MovesOn procs (flat_map waits_in before.ins) before.node s.node) (sym is) once;
     ins = subst (λ (s : SeatView). Pairwise SameIn before.ins s.ins) (sym is) ins;
     outs = subst (λ (s : SeatView). Pairwise SameOut before.outs s.outs) (sym is) outs;
     whole = λ e. turned (subst (SeatTurned procs before) (sym is) (whole e));

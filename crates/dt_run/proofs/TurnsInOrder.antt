@@ -25,8 +25,7 @@ use Rattle.dt_site.proofs.Callers.{has_received}
 use Rattle.dt_node.specs.NodeView.{NodeView, new_items, number_of}
 use Rattle.dt_node.specs.Packets.{IsToldOf}
 use Rattle.dt_node.specs.NodeInWorld.{AreTold, IsFor, KnowsNoMore, NodeFits}
-use Rattle.dt_node.specs.Turn.{GoesAfter}
-use Rattle.dt_run.specs.Phase.{TurnsOnce}
+use Rattle.dt_node.specs.Turn.{GoesAfter, MovesOn}
 use Rattle.dt_run.proofs.Laws.{grown_refl, grown_trans, reached}
 use Rattle.dt_run.proofs.OtherRegions.{WorldGoesOn, goes_on, sessions_still, site_stays, told_grows}
 
@@ -45,7 +44,7 @@ received_here f home lh = sym (has_received (reached f) f.number f.site lh)
 
 -- one node's turn, in whatever world it stands
 module _ {cluster : Cluster} {workload : Workload} {events : List Event} {packets : List Packet} {before after : NodeView} (f : NodeFits cluster workload events before) (told : AreTold cluster workload events packets before)
-    (t : TurnsOnce cluster.procs packets before after) where
+    (t : MovesOn cluster.procs packets before after) where
   abbrev pub new_events : List Event
   new_events = events_of (new_items before after)
 
@@ -138,7 +137,7 @@ module _ {cluster : Cluster} {workload : Workload} (all : List Stamped) (node no
     (number : (region : ℕ) → region < cluster.regions → number_of (node region) ≡ region)
     (fit : (region : ℕ) → region < cluster.regions → NodeFits cluster workload (events_of all) (node region))
     (told : (region : ℕ) → region < cluster.regions → AreTold cluster workload (events_of all) (packets region) (node region))
-    (turns : (region : ℕ) → region < cluster.regions → TurnsOnce cluster.procs (packets region) (node region) (node' region)) where
+    (turns : (region : ℕ) → region < cluster.regions → MovesOn cluster.procs (packets region) (node region) (node' region)) where
   abbrev new : ℕ → List Stamped
   new region = new_items (node region) (node' region)
 
@@ -179,7 +178,7 @@ module _ {cluster : Cluster} {workload : Workload} (all : List Stamped) (node no
           t : AreTold cluster workload (events_below all node node' n) (packets n) (node n)
           t = (s.waiting n lt (omega arith)).1
 
-          u : TurnsOnce cluster.procs (packets n) (node n) (node' n)
+          u : MovesOn cluster.procs (packets n) (node n) (node' n)
           u = turns n lt
 
           turned : (region : ℕ) → region < cluster.regions → region < suc n → Either (region ≡ n) → NodeFits cluster workload (events_below all node node' (suc n)) (node' region)

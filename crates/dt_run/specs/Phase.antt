@@ -1,31 +1,22 @@
 -- What a phase makes of all nodes. One learns here that every node makes one turn, by what waited for it and by nothing of this
--- phase (`TurnsOnce`), and that, unless it runs out of memory, one mark is added for each region, and on each link waits what
+-- phase (`MovesOn`), and that, unless it runs out of memory, one mark is added for each region, and on each link waits what
 -- its source sent (`EndsInStep`); and that no phase takes back what was kept (`KeepsEvents`). Read next: `EndOfRun`, for when no phase is left to make.
-use Rattle.std.specs.Prelude.{◌≡◌, ◌≢◌, ◌<◌, ◌+◌, ◌++◌, ◌∷◌, ℕ, List, [], length}
+use Rattle.std.specs.Prelude.{◌≡◌, ◌≢◌, ◌<◌, ◌+◌, ◌++◌, ◌∷◌, ℕ, [], length}
 use Rattle.dt_lists.specs.Lists.{IsFront}
-use Rattle.dt_packet.specs.declared.packet.Packet.{Packet}
-use Rattle.dt_proc.specs.Tree.{ProcTree}
-use Rattle.dt_node.specs.NodeView.{NodeView, new_items, packet_for}
+use Rattle.dt_node.specs.NodeView.{packet_for}
 use Rattle.dt_node.specs.TurnPackets.{LeavesNothingOut}
 use Rattle.dt_node.specs.Steps.{HasTurned}
-use Rattle.dt_node.specs.Turn.{AreBrought, HasGone, HasTaken, IsSettled, StampsRise}
+use Rattle.dt_node.specs.Turn.{HasTaken, IsSettled, MovesOn}
 use Rattle.dt_run.specs.Marks.{kept_by_region}
 use Rattle.dt_run.specs.NodesStand.{IsOnLink}
 use Rattle.dt_run.specs.NodesView.{NodesView, marks_at, node_in, waiting_at, waiting_between}
-
--- a node made a turn, or a part of one: what it kept goes on from what there was, and whatever it used of other regions
--- was in these packets
-pub record TurnsOnce (procs : List ProcTree) (packets : List Packet) (before after : NodeView) : Type 0 where
-  pub gone : HasGone procs packets before after
-  pub brought : AreBrought packets (new_items before after)
-  pub stamps : StampsRise packets before after
 
 -- what every phase makes, also one that fails: each node made a turn by what waited for it
 pub record IsPhase (before after : NodesView) : Type 0 where
   pub cluster : after.cluster ≡ before.cluster
   pub workload : after.workload ≡ before.workload
   pub many : length after.nodes ≡ length before.nodes
-  pub turns : (region : ℕ) → region < before.cluster.regions → TurnsOnce before.cluster.procs (waiting_at before region) (node_in before region) (node_in after region)
+  pub turns : (region : ℕ) → region < before.cluster.regions → MovesOn before.cluster.procs (waiting_at before region) (node_in before region) (node_in after region)
 
 -- the node of a region made a whole turn, by the steps of a turn in their order: it took all that waited and left nothing to do by
 -- itself, and its mark is added

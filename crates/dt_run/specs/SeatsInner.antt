@@ -12,11 +12,10 @@ use Rattle.dt_node.specs.NodeView.{NodeView}
 use Rattle.dt_node.specs.TurnPackets.{HasSent, LeavesNothingOut}
 use Rattle.dt_node.specs.NodeInWorld.{NodeStands}
 use Rattle.dt_node.specs.Steps.{HasTurned}
-use Rattle.dt_node.specs.Turn.{BeginsEagerly, HasTaken, IsSettled}
+use Rattle.dt_node.specs.Turn.{BeginsEagerly, HasTaken, IsSettled, MovesOn}
 use Rattle.dt_gen.specs.Summary.{kept_answers}
 use Rattle.dt_run.specs.NodesStand.{AreNodes}
 use Rattle.dt_run.specs.NodesView.{NodesView, link_to, no_running_node}
-use Rattle.dt_run.specs.Phase.{TurnsOnce}
 use Rattle.dt_run.specs.Silence.{ComesToAnEnd, counts_in}
 use Rattle.dt_run.specs.declared.counts.Counts.{Counts}
 
@@ -100,7 +99,7 @@ pub record SeatTurned (procs : List ProcTree) (before after : SeatView) : Type 0
 
 -- a turn at a seat
 pub record SeatGoes (procs : List ProcTree) (before after : SeatView) : Type 0 where
-  pub once : TurnsOnce procs (flat_map waits_in before.ins) before.node after.node
+  pub once : MovesOn procs (flat_map waits_in before.ins) before.node after.node
   pub ins : Pairwise SameIn before.ins after.ins
   pub outs : Pairwise SameOut before.outs after.outs
   pub whole : after.failed ≡ false → SeatTurned procs before after

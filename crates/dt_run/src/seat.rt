@@ -4,8 +4,7 @@ ghost use Rattle.dt_ring.specs.Rings.{SameIn, SameOut};
 ghost use Rattle.dt_node.specs.TurnPackets.{HasSent, LeavesNothingOut};
 ghost use Rattle.dt_node.specs.NodeInWorld.{NodeStands};
 ghost use Rattle.dt_node.specs.Steps.{HasTurned};
-ghost use Rattle.dt_node.specs.Turn.{BeginsEagerly, HasTaken, IsSettled};
-ghost use Rattle.dt_run.specs.Phase.{TurnsOnce};
+ghost use Rattle.dt_node.specs.Turn.{BeginsEagerly, HasTaken, IsSettled, MovesOn};
 ghost use Rattle.dt_run.specs.SeatsInner.{SeatCan, SeatGoes, SeatTurned, new_seat, seen_out, waits_in};
 
 use dt_node::Node;
@@ -107,7 +106,7 @@ impl<S: Scheduler + Drop> Seat<S> {
     ) -> Result<(), NoMemory>
         requires ready { D.ready rounds.now }
         requires can { SeatCan procs.now self.old }
-        ensures once { TurnsOnce procs.now (flat_map waits_in self.old.ins) self.old.node self.new.node }
+        ensures once { MovesOn procs.now (flat_map waits_in self.old.ins) self.old.node self.new.node }
         ensures ins { Pairwise SameIn self.old.ins self.new.ins }
         ensures outs { Pairwise SameOut self.old.outs self.new.outs }
         ensures whole { OnOk result (SeatTurned procs.now self.old self.new) }
@@ -140,7 +139,7 @@ fn turn_node<S: Scheduler + Drop, D: Rounds<Region<S>>>(
     requires ends { length outs.old + 1 ≡ node.old.site.region.state.regions }
     requires free { AllIn (λ out. 2 ≤ out.free) outs.old }
     requires turns { node.old.turns + 1 < 2 ^ 64 }
-    ensures once { TurnsOnce procs.now (flat_map waits_in ins.old) node.old node.new }
+    ensures once { MovesOn procs.now (flat_map waits_in ins.old) node.old node.new }
     ensures ins { Pairwise SameIn ins.old ins.new }
     ensures outs { Pairwise SameOut outs.old outs.new }
     ensures emptied { OnOk result (flat_map waits_in ins.new ≡ []) }

@@ -1,8 +1,8 @@
 use Rattle.std.proofs.Common.{◌≡◌, ◌≤◌, ◌-◌, [], List, length}
 use Rattle.dt_proc.specs.Tree.{ProcTree}
-use Rattle.dt_node.specs.Turn.{MayAnswerAt}
+use Rattle.dt_node.specs.Turn.{MayAnswerAt, MovesOn}
 use Rattle.dt_node.specs.StepsInner.{HaveStepped, IsAnswering}
-use Rattle.dt_node.specs.TurnInner.{EndsSoFar, KnowsTheSame, MovesOn}
+use Rattle.dt_node.specs.TurnInner.{EndsSoFar, KnowsTheSame}
 use Rattle.dt_node.proofs.node.Node.answer_all.Given as goal
 
 abbrev pub invariant-sessions : goal.invariant-sessions

@@ -1,5 +1,5 @@
 use Rattle.std.proofs.Common.{[]}
-use Rattle.dt_node.specs.TurnInner.{MovesOn}
+use Rattle.dt_node.specs.Turn.{MovesOn}
 use Rattle.dt_node.proofs.EagerStart.{first_pass}
 use Rattle.dt_node.proofs.CallAfterCall.{moves_more}
 use Rattle.dt_node.proofs.PassesOfTurn.{own_stay, pass_steps, passes, rested_passes, rested_steps}

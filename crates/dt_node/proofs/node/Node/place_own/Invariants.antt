@@ -1,8 +1,9 @@
 use Rattle.std.proofs.Common.{◌≡◌, [], List}
 use Rattle.dt_proc.specs.Tree.{ProcTree}
+use Rattle.dt_node.specs.Turn.{MovesOn}
 use Rattle.dt_node.specs.EagerStartInner.{IsPlacingOwn}
 use Rattle.dt_node.specs.Steps.{own_left}
-use Rattle.dt_node.specs.TurnInner.{KnowsTheSame, MovesOn}
+use Rattle.dt_node.specs.TurnInner.{KnowsTheSame}
 use Rattle.dt_node.proofs.node.Node.place_own.Given as goal
 
 abbrev pub invariant-loop : goal.invariant-loop

@@ -1,8 +1,8 @@
 use Rattle.std.proofs.Common.{◌≡◌, ◌≤◌, ◌-◌, [], length}
 use Rattle.dt_node.specs.EagerStartInner.{BeginsSoFar}
-use Rattle.dt_node.specs.Turn.{MaySubmitAt}
+use Rattle.dt_node.specs.Turn.{MaySubmitAt, MovesOn}
 use Rattle.dt_node.specs.StepsInner.{HaveStepped, IsSubmission}
-use Rattle.dt_node.specs.TurnInner.{EndsSoFar, KnowsTheSame, MovesOn}
+use Rattle.dt_node.specs.TurnInner.{EndsSoFar, KnowsTheSame}
 use Rattle.dt_node.proofs.node.Node.submit_all.Given as goal
 
 abbrev pub invariant-sessions : goal.invariant-sessions

@@ -1,8 +1,7 @@
 use Rattle.std.proofs.Common.{[], ◌+◌, flat_map, sym, subst, ◌∙◌}
 use Rattle.dt_site.proofs.Callers.{on_ok}
 use Rattle.dt_node.specs.NodeView.{new_items}
-use Rattle.dt_node.specs.Turn.{AreBrought, BeginsEagerly, HasGone, HasTaken, IsSettled, StampsRise}
-use Rattle.dt_node.specs.TurnInner.{MovesOn}
+use Rattle.dt_node.specs.Turn.{AreBrought, BeginsEagerly, HasGone, HasTaken, IsSettled, MovesOn, StampsRise}
 use Rattle.dt_node.proofs.WholePackets.{sends_whole}
 use Rattle.dt_node.proofs.CallAfterCall.{moves_on}
 use Rattle.dt_node.proofs.PassesOfTurn.{turn_begins, turn_can, turn_moves, turn_ready, turn_settles, turn_steps, turn_takes}
