@@ -17,10 +17,10 @@ use Rattle.dt_command.specs.declared.status.Status.TheVariants.{NoMemory, Cannot
 use Rattle.dt_command.specs.declared.status.EventsCause.{EventsCause}
 use Rattle.dt_command.specs.declared.status.EventsCause.TheVariants.{TooLong, Form, Rule}
 use Rattle.dt_command.specs.Tasks.{Task, Replay, Run, Big, IsClusterFile, cluster_word, workload_word}
-use Rattle.dt_command.specs.TaskFiles.{HasFile, HasCluster, HoldEvents, KeepsFiles, Loaded, unnumbered}
+use Rattle.dt_command.specs.TaskFiles.{HasFile, HasCluster, HoldEvents, Loaded, unnumbered}
 use Rattle.dt_command.specs.Headline.{Headline, HasGiven, IsDone}
 use Rattle.dt_command.specs.Causes.{AreBadCluster, AreBadWorkload, AreBadEvents, CanBeDone, WasMissed}
-use Rattle.dt_command.specs.RefusalCode.{IsFileRefusal, IsClusterRefusal, IsWorkloadRefusal, IsLoadRefusal, IsEventsRefusal, IsStepRefusal, IsRefusal, IsTextOf, AreMalformed}
+use Rattle.dt_command.specs.RefusalCode.{IsFileRefusal, IsClusterRefusal, IsWorkloadRefusal, IsLoadRefusal, IsEventsRefusal, IsStepRefusal, IsRefusal, IsTextOf, AreMalformed, KeepsFiles}
 
 -- what holds of a file's bytes, and what follows from it
 file_more : (told : Option Files) (name : Bytes) (P Q : Bytes → Type 0) → ((bytes : Bytes) → P bytes → Q bytes) → HasFile told name P → HasFile told name Q

@@ -29,6 +29,11 @@ use Rattle.dt_command.specs.TaskFiles.{HasCluster, HasFile, file_limit}
 use Rattle.dt_command.specs.Headline.{AreOfARun, IsDone}
 use Rattle.dt_command.specs.Causes.{AreBadCluster, AreBadWorkload, CanBeDone, CouldNotRead, HasBadCluster, HasBadEvents, HasBadWorkload, IsFirstIllegal, WasMissed}
 
+-- what loads leave as it was: which files are reported; and the count of faults does not fall
+pub record KeepsFiles (before after : FolderView) : Type 0 where
+  pub told : after.told ≡ before.told
+  pub later : before.faults ≤ after.faults
+
 -- why a cluster's file was refused, by what is seen of the folder before its loading and now
 abbrev pub IsFileRefusal : Bytes → FolderView → FolderView → Status → Type 0
 IsFileRefusal name before now NoMemory = Unit {0}

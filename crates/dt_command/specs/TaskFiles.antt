@@ -5,7 +5,7 @@
 -- reported of them.
 use Rattle.std.specs.Prelude.{◌≡◌, ℕ, ◌≤◌, ◌⊎◌, List, map, length, Option, Some, IfSome, IsSomeAnd}
 use Rattle.dt_access.specs.Clash.{Bytes}
-use Rattle.dt_outside.specs.Folder.{Files, FolderView}
+use Rattle.dt_outside.specs.Folder.{Files}
 use Rattle.dt_events.specs.declared.Event.{Event}
 use Rattle.dt_events.specs.Events.{AreEvents}
 use Rattle.dt_cluster.specs.declared.Cluster.{Cluster}
@@ -22,11 +22,6 @@ file_limit = 16777216
 -- some bytes have P, and if the folder reports its files, they are those of the file of this name
 abbrev pub HasFile : Option Files → Bytes → (Bytes → Type 0) → Type 0
 HasFile told name P = (bytes : Bytes) × IfSome told (λ files. files name ≡ Some bytes) × P bytes
-
--- what loads leave as it was: which files are reported; and the count of faults does not fall
-pub record KeepsFiles (before after : FolderView) : Type 0 where
-  pub told : after.told ≡ before.told
-  pub later : before.faults ≤ after.faults
 
 -- these bytes hold a cluster: they are not too long, and are a cluster file of this cluster
 pub record HoldCluster (cluster : Cluster) (bytes : Bytes) : Type 0 where

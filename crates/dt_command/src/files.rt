@@ -2,9 +2,9 @@ ghost use Rattle.std.specs.Prelude.{◌≡◌, ◌<◌, ◌≤◌, ◌⊎◌, le
 ghost use Rattle.dt_cluster.specs.Valid.{IsValidCluster};
 ghost use Rattle.dt_workload.specs.Valid.{IsValidWorkload};
 ghost use Rattle.dt_command.specs.TaskCode.{IsRight, word_of};
-ghost use Rattle.dt_command.specs.TaskFiles.{HasCluster, HasFile, HoldCluster, HoldEvents, HoldWorkload, KeepsFiles, file_limit};
+ghost use Rattle.dt_command.specs.TaskFiles.{HasCluster, HasFile, HoldCluster, HoldEvents, HoldWorkload, file_limit};
 ghost use Rattle.dt_command.specs.Causes.{WasMissed};
-ghost use Rattle.dt_command.specs.RefusalCode.{IsClusterRefusal, IsEventsRefusal, IsFileRefusal, IsLoadRefusal, IsWorkloadRefusal};
+ghost use Rattle.dt_command.specs.RefusalCode.{IsClusterRefusal, IsEventsRefusal, IsFileRefusal, IsLoadRefusal, IsWorkloadRefusal, KeepsFiles};
 
 use crate::status::{EventsCause, Status};
 use crate::words::ClusterWord;

@@ -1,6 +1,7 @@
--- What a session submits next, by what its region keeps: its sessions, with where each stands, and the outcomes of what it
--- executed. No world is mentioned: a world of all regions reads its next submission from this, and so does a node that sees only
--- its own region. Read `Sessions` of dt_session before, for the numbers alone (`IsNext`); read next: src/outcome.rt, the call.
+-- What became of the attempt that a session waits for (`last_here`), and what the session submits next (`IsNextHere`), by what
+-- its region keeps: its sessions, with where each stands, and the outcomes of what it executed. No world is mentioned: a world
+-- of all regions reads both from this, and so does a node that sees only its own region. Read `Sessions` of dt_session before,
+-- for the numbers alone (`IsNext`); read next: src/outcome.rt, the call.
 use Rattle.std.specs.Prelude.{◌≡◌, ℕ, Option, Some, None, IsSome, option_and_then, option_map}
 use Rattle.dt_access.specs.Clash.{Bytes}
 use Rattle.dt_txn.specs.declared.Body.{Body}

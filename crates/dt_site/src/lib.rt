@@ -12,8 +12,9 @@
 //!   unit, so that it may execute (`holds_valid`, `can_move`);
 //! - after its call answers that it was made, it stands in the world after the event, and so do all other sites.
 //!
-//! What the tables of all regions have at first, they share ([`opening_of`], [`first_site`]). What became of a
-//! session's attempt, its region says ([`last_outcome_at`]), and so what the session submits next ([`next_attempt`]).
+//! What the tables of all regions have at first, they share ([`opening_of`], [`first_site`]). What became of the
+//! attempt that a session waits for, its region says ([`last_outcome_at`]); from this, and from where the session stands, follows
+//! what it submits next ([`next_attempt`]).
 //!
 //! The proofs speak of one site and a world, not of how the others are held. So they serve a world that holds all sites, as
 //! well as a node that has only its own and learns of the others by packets.
