@@ -18,7 +18,7 @@ use Rattle.dt_workload.specs.declared.Workload.{Workload}
 use Rattle.dt_node.specs.MeasureInner.{left_for}
 use Rattle.dt_node.specs.NodeView.{NodeView, number_of}
 use Rattle.dt_node.specs.NodeInWorld.{AreTold, NodeFits}
-use Rattle.dt_node.specs.Turn.{HasPlacedOwn, HasTaken, MayAnswerAt, MaySubmitAt}
+use Rattle.dt_node.specs.Turn.{HasPlacedOwn, HasTaken, MayAnswerAt, MaySubmitAt, MovesOn}
 use Rattle.dt_node.specs.Steps.{HasTakenEach, own_left}
 use Rattle.dt_node.specs.StepsInner.{HasPlaced, IsPlacedTo}
 
