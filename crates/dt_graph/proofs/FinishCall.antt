@@ -13,7 +13,7 @@ use Rattle.dt_waits.specs.declared.open.Open.{Open}
 use Rattle.dt_waits.specs.LeftInGraph.{IsLeft, IsOrderly}
 use Rattle.dt_waits.specs.Waits.{id_at}
 use Rattle.dt_waits.specs.Graph.{GraphView, KeepsGraph, IsOpened, IsPlaceOfClass, vertex_at}
-use Rattle.dt_graph.specs.NamesInner.{IsNumberOf}
+use Rattle.dt_graph.specs.SubsetInner.{StandsAtPlace}
 use Rattle.dt_waits.specs.Steps.{FinishesId, IsReadyWithout, Leaves, MayLeave, before, last, one_done}
 use Rattle.dt_graph.specs.SmallStepsInner.{FinishesIn, MayFinishIn, all, one}
 use Rattle.dt_waits.proofs.Callers.{at_named, class_of_resolved, distinct_members, executable_left, left_after, may_leave, member_of, next_is, pairwise_get}
@@ -72,8 +72,8 @@ module _ (g : GraphView) (id : TxnId) (r : MayFinish g id) where
   left : IsLeft r.0 r.2 id
   left = executable_left r.0 r.1 r.2 id r.4
 
-  pub number_there : (n : Option ℕ) → n ≡ None → ¬ (IsNumberOf g.ids id n)
-  number_there n e i = subst (IsNumberOf g.ids id) e i ((r.5.present id).1 left.0)
+  pub number_there : (n : Option ℕ) → n ≡ None → ¬ (StandsAtPlace g.ids id n)
+  number_there n e i = subst (StandsAtPlace g.ids id) e i ((r.5.present id).1 left.0)
 
   pub is_ready : (v : ℕ) → slice_get g.ids v ≡ Some id → Has g.ready v
   is_ready v at = (r.5.ready v).1 (slice_get_within g.ids v id at, subst (IsExecutable r.0 r.1 r.2) (sym (at_named g.ids v id at)) r.4)

@@ -15,7 +15,7 @@ use Rattle.dt_access.specs.declared.TxnId.{TxnId}
 use Rattle.dt_access.proofs.Callers.{by_parts, compare_less, compare_same, id_of_test, same_by_parts, same_id_turned, test_of_id}
 use Rattle.dt_graph.specs.declared.graph.Member.{Member}
 use Rattle.dt_waits.specs.Graph.{GraphView, vertex_at}
-use Rattle.dt_graph.specs.NamesInner.{IsNumberOf}
+use Rattle.dt_graph.specs.SubsetInner.{StandsAtPlace}
 use Rattle.dt_waits.specs.Steps.{RunInOrder, RunsBefore}
 use Rattle.dt_waits.specs.Waits.{id_at}
 use Rattle.dt_waits.proofs.Callers.{at_named, take_all}
@@ -40,8 +40,8 @@ members_more g ids i d members rank vertex lt a at is =
       are = all_append (IsMemberOf g) members (member ∷ []) a.are ((at, is), tt);
     }
 
-pub all_numbered : (g : GraphView) (ids : List TxnId) (i : ℕ) (d : TxnId) (n : Option ℕ) → AllIn (Has g.ids) ids → i < length ids → n ≡ None → IsNumberOf g.ids (get_or ids i d) n → ⊥
-all_numbered g ids i d n there lt none is = subst (IsNumberOf g.ids (get_or ids i d)) none is (all_get (Has g.ids) ids there (get_or ids i d) (has_at ids i d lt))
+pub all_numbered : (g : GraphView) (ids : List TxnId) (i : ℕ) (d : TxnId) (n : Option ℕ) → AllIn (Has g.ids) ids → i < length ids → n ≡ None → StandsAtPlace g.ids (get_or ids i d) n → ⊥
+all_numbered g ids i d n there lt none is = subst (StandsAtPlace g.ids (get_or ids i d)) none is (all_get (Has g.ids) ids there (get_or ids i d) (has_at ids i d lt))
 
 -- what is gathered of all ids
 pub gathered : (g : GraphView) (ids : List TxnId) (i : ℕ) (members : List Member) → length ids ≤ i → AreMembers g (take i ids) members → AreMembers g ids members

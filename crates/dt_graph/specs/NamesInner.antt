@@ -1,8 +1,9 @@
 -- The ids of the vertices: the number of an id is its place in a list in which none stands twice, and an index of dt_index leads
 -- to it. Read next: `HeldInner`, of which they are a part.
-use Rattle.std.specs.Prelude.{◌≡◌, ◌<◌, ◌^◌, ℕ, List, length, slice_get, Option, None, Some}
-use Rattle.dt_lists.specs.Lists.{Distinct, Has}
+use Rattle.std.specs.Prelude.{◌<◌, ◌^◌, ℕ, List, length, Option}
+use Rattle.dt_lists.specs.Lists.{Distinct}
 use Rattle.dt_access.specs.declared.TxnId.{TxnId}
+use Rattle.dt_graph.specs.SubsetInner.{StandsAtPlace}
 
 -- the ids by their numbers, and how many more fit in without taking memory: into the list of them, and into the
 -- index
@@ -15,13 +16,8 @@ pub record NamesView : Type 0 where
 abbrev pub HasRoomForId : NamesView → Type 0
 HasRoomForId n = (0 < n.room) × (0 < n.spare)
 
--- the number of the id, if it has one
-abbrev pub IsNumberOf : List TxnId → TxnId → Option ℕ → Type 0
-IsNumberOf ids id None = ¬ (Has ids id)
-IsNumberOf ids id (Some number) = slice_get ids number ≡ Some id
-
 -- each id stands once and has its number; numbers have 32 bits
 pub record AreIdsNumbered (ids : List TxnId) (numbers : TxnId → Option ℕ) : Type 0 where
   pub few : length ids < 2 ^ 32
   pub once : Distinct ids
-  pub found : (id : TxnId) → IsNumberOf ids id (numbers id)
+  pub found : (id : TxnId) → StandsAtPlace ids id (numbers id)

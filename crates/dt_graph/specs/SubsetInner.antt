@@ -4,10 +4,10 @@
 use Rattle.std.specs.Prelude.{◌≡◌, ◌≢◌, ◌<◌, ◌≤◌, ◌^◌, ◌⊎◌, ◌↔◌, ℕ, List, length, get_or, slice_get, Option, None, Some}
 use Rattle.dt_lists.specs.Lists.{AllIn, Has, Distinct}
 
--- the number stands at the place in the list, or nowhere
-abbrev pub StandsAtPlace : List ℕ → ℕ → Option ℕ → Type 0
-StandsAtPlace items number None = ¬ (Has items number)
-StandsAtPlace items number (Some place) = slice_get items place ≡ Some number
+-- the item stands at the place in the list, or nowhere
+abbrev pub StandsAtPlace : {A : Type 0} → List A → A → Option ℕ → Type 0
+StandsAtPlace items item None = ¬ (Has items item)
+StandsAtPlace items item (Some place) = slice_get items place ≡ Some item
 
 -- the list and the places of its items are kept right, with this much room for the list; the bound, and so the places, have 32 bits
 pub record IsSubset (items : List ℕ) (places : List (Option ℕ)) (room : ℕ) : Type 0 where

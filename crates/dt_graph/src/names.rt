@@ -1,6 +1,7 @@
 ghost use Rattle.std.specs.Prelude.{◌≡◌, ◌+◌, ◌<◌, ◌^◌, [], ◌∷◌, ◌++◌, OnOk, length};
 ghost use Rattle.dt_lists.specs.Lists.{Has, Distinct};
-ghost use Rattle.dt_graph.specs.NamesInner.{HasRoomForId, IsNumberOf};
+ghost use Rattle.dt_graph.specs.NamesInner.{HasRoomForId};
+ghost use Rattle.dt_graph.specs.SubsetInner.{StandsAtPlace};
 ghost use Rattle.dt_waits.specs.Waits.{id_at};
 
 use crate::room::push_reserved;
@@ -53,7 +54,7 @@ impl Names {
 
     /// The number of an id, if it has one.
     pub fn number_of(&self, id: TxnId) -> Option<u32>
-        ensures number { IsNumberOf self.now.ids id result }
+        ensures number { StandsAtPlace self.now.ids id result }
         ensures once { Distinct self.now.ids }
     {
         let number = self.index.get(id)?;
