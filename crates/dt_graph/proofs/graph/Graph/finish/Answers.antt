@@ -3,12 +3,19 @@ use Rattle.dt_lists.specs.Lists.{AllIn}
 use Rattle.dt_waits.specs.Graph.{GraphView, vertex_at}
 use Rattle.dt_waits.specs.Steps.{AreEntriesBelow, HaveSlots, Leaves, alone}
 use Rattle.dt_waits.specs.Waits.{lowered_by}
-use Rattle.dt_graph.specs.HeldInner.{kept_of}
+use Rattle.dt_graph.specs.HeldInner.{IsFitted, kept_of}
 use Rattle.dt_graph.specs.VerticesInner.{IsVertexKept, VerticesView}
 use Rattle.dt_graph.specs.SmallStepsInner.{FinishesIn, MayFinishIn}
 use Rattle.dt_graph.proofs.FinishCall.{MayFinish, finishes_in, is_ready, may_finish, may_finish_without, may_leave_one, number_there}
 use Rattle.dt_graph.proofs.Bounds.{fitted_left, fitted_ready, ready_is_kept, ready_there, with_room}
 use Rattle.dt_graph.proofs.graph.Graph.finish.Goals as goal
+use Rattle.dt_graph.proofs.graph.Graph.finish.Goals.{After-take_ready}
+
+-- with the vertex no longer ready, the graph is fitted
+fitted_then : (c : After-take_ready) → IsFitted c.self.inside.names.ids (record c.self.inside.waits { vertices = c.take_ready.new.self }) c.self.inside.classes.items
+fitted_then c =
+    fitted_ready c.self.inside.names.ids c.self.inside.waits c.self.inside.classes.items c.self.invariant c.take_ready.new.self (with_room c.self.inside.waits.vertices c.take_ready.new.self c.take_ready.ensures.same)
+    (λ v h. ready_there c.self.inside.names.ids c.self.inside.waits c.self.inside.classes.items c.self.invariant v ((c.take_ready.ensures.removed v).0 h).0)
 
 pub take_ready-requires : goal.take_ready-requires
 take_ready-requires c =
@@ -55,14 +62,12 @@ leave-requires-clause-enough c =
 pub invariant_of-self : goal.invariant_of-self
 invariant_of-self c =
     fitted_left c.self.inside.names.ids (record c.self.inside.waits { vertices = c.take_ready.new.self }) c.self.inside.classes.items
-    (fitted_ready c.self.inside.names.ids c.self.inside.waits c.self.inside.classes.items c.self.invariant c.take_ready.new.self (with_room c.self.inside.waits.vertices c.take_ready.new.self c.take_ready.ensures.same)
-    (λ v h. ready_there c.self.inside.names.ids c.self.inside.waits c.self.inside.classes.items c.self.invariant v ((c.take_ready.ensures.removed v).0 h).0))
+    (fitted_then (goal.at.invariant_of-self c).After-take_ready)
     (c.in-Some.vertex ∷ []) c.leave.new.self c.self.inside.classes.items (c.leave.ensures.left c.self.inside.names.ids c.self.inside.classes.items) c.leave.ensures.first
 
 pub invariant_of-self-in-Some-get : goal.invariant_of-self-in-Some-get
 invariant_of-self-in-Some-get c =
-    fitted_ready c.self.inside.names.ids c.self.inside.waits c.self.inside.classes.items c.self.invariant c.take_ready.new.self (with_room c.self.inside.waits.vertices c.take_ready.new.self c.take_ready.ensures.same)
-    (λ v h. ready_there c.self.inside.names.ids c.self.inside.waits c.self.inside.classes.items c.self.invariant v ((c.take_ready.ensures.removed v).0 h).0)
+    fitted_then (goal.at.invariant_of-self-in-Some-get c).After-take_ready
 
 pub finish_in-requires : goal.finish_in-requires
 finish_in-requires c =

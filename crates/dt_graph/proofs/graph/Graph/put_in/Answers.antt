@@ -3,29 +3,36 @@ use Rattle.std.proofs.lemmas.List.{length-append}
 use Rattle.std.proofs.lemmas.Result.{on_ok_weaker}
 use Rattle.std.proofs.lemmas.Option.{slice_get_within}
 use Rattle.dt_lists.specs.Lists.{AllIn}
-use Rattle.dt_waits.specs.Graph.{GraphView}
+use Rattle.dt_waits.specs.Graph.{GraphView, vertex_at}
 use Rattle.dt_graph.specs.HeldInner.{kept_of}
 use Rattle.dt_graph.proofs.Bounds.{fitted_inserted, fitted_same, missing_kept}
 use Rattle.dt_waits.proofs.Callers.{at_named, counted_before, missing_before}
 use Rattle.dt_graph.proofs.InsertCall.{MayInsert, few_more, kept_as, not_ready, not_stuck, result_cases}
 use Rattle.dt_graph.proofs.graph.Graph.put_in.Goals as goal
+use Rattle.dt_graph.proofs.graph.Graph.put_in.Goals.{In-Some, In_err-add-in-None}
 
-pub extend-requires-clause-vertex : goal.extend-requires-clause-vertex
-extend-requires-clause-vertex c =
-    let g : GraphView = kept_of c.self.inside.names.ids c.self.inside.waits c.self.inside.classes.items in
-    let r : MayInsert g c.args.part.now = subst (λ g. MayInsert g c.args.part.now) (sym c.self.view_is) c.requires in
-    let lt : c.in-Some.vertex < length g.ids = slice_get_within g.ids c.in-Some.vertex c.args.part.now.id c.in-Some.ensures.number in (
-      missing_kept g.ids c.self.inside.waits g.classes c.self.invariant c.in-Some.vertex (missing_before r.0 r.1 r.2 c.args.part.now r.3 r.4 c.as_slice-homes.ensures.ascending g r.5 c.in-Some.vertex lt
-          (at_named g.ids c.in-Some.vertex c.args.part.now.id c.in-Some.ensures.number)),
-      subst (λ n. c.in-Some.vertex < n) (sym c.self.invariant.vertices) lt,
-    )
-
-pub extend-requires-clause-missing : goal.extend-requires-clause-missing
-extend-requires-clause-missing c =
+-- a vertex that was there already was not complete
+was_missing : (c : In-Some) → 0 < (vertex_at c.self.inside.waits.vertices.vertices c.in-Some.vertex).missing
+was_missing c =
     let g : GraphView = kept_of c.self.inside.names.ids c.self.inside.waits c.self.inside.classes.items in
     let r : MayInsert g c.args.part.now = subst (λ g. MayInsert g c.args.part.now) (sym c.self.view_is) c.requires in
     missing_before r.0 r.1 r.2 c.args.part.now r.3 r.4 c.as_slice-homes.ensures.ascending g r.5 c.in-Some.vertex (slice_get_within g.ids c.in-Some.vertex c.args.part.now.id c.in-Some.ensures.number)
     (at_named g.ids c.in-Some.vertex c.args.part.now.id c.in-Some.ensures.number)
+
+-- where memory ran out, the graph is as it was
+all_same : (c : In_err-add-in-None) → kept_of c.self.inside.names.ids c.add.new.self c.self.inside.classes.items ≡ kept_of c.self.inside.names.ids c.self.inside.waits c.self.inside.classes.items
+all_same c = c.in_err-add-in-None.ensures.same c.self.inside.names.ids c.self.inside.classes.items ∙ c.reserve-in-None.ensures.same c.self.inside.names.ids c.self.inside.classes.items
+
+pub extend-requires-clause-vertex : goal.extend-requires-clause-vertex
+extend-requires-clause-vertex c =
+    let g : GraphView = kept_of c.self.inside.names.ids c.self.inside.waits c.self.inside.classes.items in
+    let lt : c.in-Some.vertex < length g.ids = slice_get_within g.ids c.in-Some.vertex c.args.part.now.id c.in-Some.ensures.number in (
+      missing_kept g.ids c.self.inside.waits g.classes c.self.invariant c.in-Some.vertex (was_missing (goal.at.extend-requires-clause-vertex c).In-Some),
+      subst (λ n. c.in-Some.vertex < n) (sym c.self.invariant.vertices) lt,
+    )
+
+pub extend-requires-clause-missing : goal.extend-requires-clause-missing
+extend-requires-clause-missing c = was_missing (goal.at.extend-requires-clause-missing c).In-Some
 
 pub extend-requires-clause-counted : goal.extend-requires-clause-counted
 extend-requires-clause-counted c =
@@ -40,8 +47,7 @@ extend-requires-clause-not_ready c =
     let r : MayInsert g c.args.part.now = subst (λ g. MayInsert g c.args.part.now) (sym c.self.view_is) c.requires in
     let lt = slice_get_within g.ids c.in-Some.vertex c.args.part.now.id c.in-Some.ensures.number in
     not_ready g c.args.part.now r c.in-Some.vertex lt
-    (missing_before r.0 r.1 r.2 c.args.part.now r.3 r.4 c.as_slice-homes.ensures.ascending g r.5 c.in-Some.vertex lt
-    (at_named g.ids c.in-Some.vertex c.args.part.now.id c.in-Some.ensures.number))
+    (was_missing (goal.at.extend-requires-clause-not_ready c).In-Some)
 
 pub extend-requires-clause-not_stuck : goal.extend-requires-clause-not_stuck
 extend-requires-clause-not_stuck c =
@@ -49,20 +55,16 @@ extend-requires-clause-not_stuck c =
     let r : MayInsert g c.args.part.now = subst (λ g. MayInsert g c.args.part.now) (sym c.self.view_is) c.requires in
     let lt = slice_get_within g.ids c.in-Some.vertex c.args.part.now.id c.in-Some.ensures.number in
     not_stuck g c.args.part.now r c.in-Some.vertex lt
-    (missing_before r.0 r.1 r.2 c.args.part.now r.3 r.4 c.as_slice-homes.ensures.ascending g r.5 c.in-Some.vertex lt
-    (at_named g.ids c.in-Some.vertex c.args.part.now.id c.in-Some.ensures.number))
+    (was_missing (goal.at.extend-requires-clause-not_stuck c).In-Some)
 
 pub invariant_of-self : goal.invariant_of-self
 invariant_of-self c =
     let ids = c.self.inside.names.ids in
     let classes = c.self.inside.classes.items in
-    let g : GraphView = kept_of c.self.inside.names.ids c.self.inside.waits c.self.inside.classes.items in
-    let r : MayInsert g c.args.part.now = subst (λ g. MayInsert g c.args.part.now) (sym c.self.view_is) c.requires in
     result_cases c.extend.result c.extend.ensures.extended (c.extend.ensures.same ids classes)
     (λ e. let i = e ids classes (sym c.self.invariant.vertices) c.number_of.ensures.once (at_named ids c.in-Some.vertex c.args.part.now.id c.in-Some.ensures.number) in
     fitted_inserted ids c.self.inside.waits classes c.self.invariant ids c.extend.new.self c.args.part.now c.in-Some.vertex i.0 c.self.invariant.few (missing_kept ids c.self.inside.waits classes c.self.invariant c.in-Some.vertex
-    (missing_before r.0 r.1 r.2 c.args.part.now r.3 r.4 c.as_slice-homes.ensures.ascending g r.5 c.in-Some.vertex (slice_get_within g.ids c.in-Some.vertex c.args.part.now.id c.in-Some.ensures.number)
-    (at_named g.ids c.in-Some.vertex c.args.part.now.id c.in-Some.ensures.number))) i.1 c.extend.ensures.first)
+    (was_missing (goal.at.invariant_of-self c).In-Some)) i.1 c.extend.ensures.first)
     (λ e. fitted_same ids c.self.inside.waits classes c.self.invariant c.extend.new.self e c.extend.ensures.first)
 
 pub invariant_of-self-in_err-reserve-in-None-2 : goal.invariant_of-self-in_err-reserve-in-None-2
@@ -123,13 +125,13 @@ pub invariant_of-self-in_err-add-in-None : goal.invariant_of-self-in_err-add-in-
 invariant_of-self-in_err-add-in-None c =
     rw c.reserve.ensures.same
     (fitted_same c.self.inside.names.ids c.self.inside.waits c.self.inside.classes.items c.self.invariant c.add.new.self
-    (c.in_err-add-in-None.ensures.same c.self.inside.names.ids c.self.inside.classes.items ∙ c.reserve-in-None.ensures.same c.self.inside.names.ids c.self.inside.classes.items)
+    (all_same (goal.at.invariant_of-self-in_err-add-in-None c).In_err-add-in-None)
     (c.in_err-add-in-None.ensures.first ∙ c.reserve-in-None.ensures.first))
 
 pub returns-in_err-add-in-None-clause-same : goal.returns-in_err-add-in-None-clause-same
 returns-in_err-add-in-None-clause-same c =
     rw (← c.self.view_is) (kept_as c.from_residual-in_err-add-in-None.result c.self.inside.names.ids c.reserve.new.self.ids c.add.new.self c.self.inside.waits c.self.inside.classes.items c.reserve.ensures.same
-    (c.in_err-add-in-None.ensures.same c.self.inside.names.ids c.self.inside.classes.items ∙ c.reserve-in-None.ensures.same c.self.inside.names.ids c.self.inside.classes.items))
+    (all_same (goal.at.returns-in_err-add-in-None-clause-same c).In_err-add-in-None))
 
 pub add-requires-in-None-clause-few : goal.add-requires-in-None-clause-few
 add-requires-in-None-clause-few c =
