@@ -10,7 +10,9 @@ use Rattle.dt_region.specs.Conditions.{CanMove, HoldsValid}
 use Rattle.dt_region.specs.Region.{HasStamp, RegionView, sched_of}
 use Rattle.dt_region.specs.StepsInner.{InsertsSome, StepsOn}
 use Rattle.dt_region.proofs.OneStep.{executes, resolves, stops}
+use Rattle.dt_region.proofs.alone.step.Given.{Over}
 use Rattle.dt_region.proofs.alone.step.Goals as goal
+use Rattle.dt_region.proofs.alone.step.Goals.{In-Some}
 
 -- nothing was inserted
 none_inserted : (procs : List ProcTree) (r after : RegionView) (on : Bool) → on ≡ false → InsertsSome procs r (Ok on) after → HasInsertedAll r.state.logs r.state.here × (after ≡ r)
@@ -23,6 +25,10 @@ still procs off made = (none_inserted procs _ _ _ off (made procs)).1
 stopped : (procs : List ProcTree) (r after : RegionView) (result : Result Bool NoMemory) → IsErr result → after ≡ r → StepsOn procs r result after
 stopped procs r after (Err e) is same = same
 stopped procs r after (Ok on) is same = absurd (false≢true is)
+
+-- the transaction that is executed is the next that is ready
+next_ready : (g : Over) (c : In-Some g) → IsNextReady (sched_of c.insert_some.new.region.state.logs c.insert_some.new.region.state.here) [] (Some c.in-Some.id)
+next_ready g c = subst (IsNextReady (sched_of c.insert_some.new.region.state.logs c.insert_some.new.region.state.here) []) c.in-Some.is c.in_ok-id.ensures
 
 pub returns-in_err-insert_some-clause-steps : goal.returns-in_err-insert_some-clause-steps
 returns-in_err-insert_some-clause-steps g c = stopped c.args.procs.now _ _ _ c.from_residual.ensures.0 (c.in_err-insert_some.ensures.inserts c.args.procs.now)
@@ -46,14 +52,12 @@ execute-requires-clause-holds g c =
 pub execute-requires-clause-place : goal.execute-requires-clause-place
 execute-requires-clause-place g c =
     let same = still c.args.procs.now c.if-branch.false c.in_ok-insert_some.ensures.inserts in
-    let sched = sched_of c.insert_some.new.region.state.logs c.insert_some.new.region.state.here in
-    let next : IsNextReady sched [] (Some c.in-Some.id) = subst (IsNextReady sched []) c.in-Some.is c.in_ok-id.ensures in
+    let next = next_ready g (goal.at.execute-requires-clause-place g c).In-Some in
     subst (λ (r : RegionView). (id : TxnId) → CanExecute (sched_of r.state.logs r.state.here) id → CanMove r.state id) (sym same) c.requires.moves c.in-Some.id next.0
 
 pub returns-in-Some-clause-steps : goal.returns-in-Some-clause-steps
 returns-in-Some-clause-steps g c =
-    let sched = sched_of c.insert_some.new.region.state.logs c.insert_some.new.region.state.here in
-    let next : IsNextReady sched [] (Some c.in-Some.id) = subst (IsNextReady sched []) c.in-Some.is c.in_ok-id.ensures in
+    let next = next_ready g (goal.at.returns-in-Some-clause-steps g c).In-Some in
     executes c.args.procs.now c.args.region.now c.insert_some.new.region
     (still c.args.procs.now c.if-branch.false c.in_ok-insert_some.ensures.inserts) c.in-Some.id next.0 c.execute.result c.execute.new.self c.execute.ensures.makes
 

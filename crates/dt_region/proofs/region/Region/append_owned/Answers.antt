@@ -1,22 +1,29 @@
-use Rattle.std.proofs.Common.{[], ◌∷◌, ◌++◌, ap, ◌∙◌, arith, rules}
+use Rattle.std.proofs.Common.{◌<◌, ◌+◌, ◌^◌, [], ◌∷◌, ◌++◌, length, ap, ◌∙◌, arith, rules}
 use Rattle.dt_events.specs.declared.Event.TheVariants.{Append}
 use Rattle.dt_sched.specs.Sched.{with_part}
+use Rattle.dt_sched.specs.Views.{log_at}
 use Rattle.dt_txn.specs.Transaction.{part_of}
 use Rattle.dt_region.proofs.Rule2Append.{append_kept, append_keeps, append_made, append_room}
 use Rattle.dt_region.proofs.ViewOfRegion.{seen_as, under}
 use Rattle.dt_region.proofs.Stock.{stock_kept}
+use Rattle.dt_region.proofs.region.Region.append_owned.Given.{Over}
 use Rattle.dt_region.proofs.region.Region.append_owned.Goals as goal
+use Rattle.dt_region.proofs.region.Region.append_owned.Goals.{After-get}
+
+-- there is room for one part more, and the count may rise
+has_room : (g : Over) (c : After-get g) → (length (log_at c.self.inside.logs.items c.self.inside.number) + 1 < 2 ^ 32) × (c.args.number + 1 < 2 ^ 32)
+has_room g c =
+    let turn = c.if-number-taken.false ∙ c.taken.ensures.taken in
+    append_room _ _ _ _ _ _ (seen_as c.self.view_is c.self.invariant.well) c.args.source c.args.number c.args.txn c.requires.source c.requires.can turn
 
 pub place-requires-clause-room : goal.place-requires-clause-room
 place-requires-clause-room g c =
     let part_is = c.in_ok-part.ensures ∙ c.in_ok-cut.ensures ∙ ap (λ txn. part_of txn c.self.inside.number) c.get.ensures in
-    let turn = c.if-number-taken.false ∙ c.taken.ensures.taken in
-    rw part_is (append_room _ _ _ _ _ _ (seen_as c.self.view_is c.self.invariant.well) c.args.source c.args.number c.args.txn c.requires.source c.requires.can turn).0
+    rw part_is (has_room g (goal.at.place-requires-clause-room g c).After-get).0
 
 pub overflow_add-number : goal.overflow_add-number
 overflow_add-number g c =
-    let turn = c.if-number-taken.false ∙ c.taken.ensures.taken in
-    let fits = (append_room _ _ _ _ _ _ (seen_as c.self.view_is c.self.invariant.well) c.args.source c.args.number c.args.txn c.requires.source c.requires.can turn).1 in
+    let fits = (has_room g (goal.at.overflow_add-number g c).After-get).1 in
     search (rules, fits)
 
 pub invariant_of-self-2 : goal.invariant_of-self-2
