@@ -1,5 +1,5 @@
 -- What the type of a world keeps: what follows of it, and how it stays so when one site steps.
-use Rattle.std.proofs.Common.{◌≡◌, ◌<◌, ◌≤◌, ◌+◌, ℕ, true, false, cond, List, [], ◌∷◌, ◌++◌, length, map, get_or}
+use Rattle.std.proofs.Common.{◌≡◌, ◌<◌, ◌≤◌, ◌+◌, ℕ, Bool, true, false, cond, List, [], ◌∷◌, ◌++◌, length, map, get_or}
 use Rattle.std.proofs.Common.{set, Result, Ok, Err, IsErrAnd, sym, ap, ap₂, subst, ◌∙◌, inl, inr, arith}
 use Rattle.std.proofs.lemmas.List.{length-map, length_push, map-set, get_or_read, get_or-set_same, get_or-set_other}
 use Rattle.std.proofs.Math.ListN.{get_or-map}
@@ -11,6 +11,7 @@ use Rattle.dt_region.specs.Region.{RegionView, latest_stamp}
 use Rattle.dt_cluster.specs.declared.Cluster.{Cluster}
 use Rattle.dt_workload.specs.Valid.{IsValidSession}
 use Rattle.dt_workload.specs.declared.Session.{Session}
+use Rattle.dt_workload.specs.declared.Workload.{Workload}
 use Rattle.dt_session.specs.Sessions.{SessionsView}
 use Rattle.dt_agreement.proofs.Callers.{places_parallel}
 use Rattle.dt_session.specs.World.{World, Place, node_at}
@@ -43,6 +44,14 @@ made_before {cluster} {sessions} {sites} {steps} {event} {later} {after} {now} v
 pub read_at : (sites : List SiteView) (region : ℕ) (p : SiteView) → region < length sites → p ≡ get_or sites region p → p ≡ site_at sites region
 read_at sites region p lt e = get_or_read sites region p lt e no_site
 
+-- the events that the regions keep after this one, where it takes effect and where not
+abbrev kept_where : List SiteView → Event → Bool → List (List Event)
+kept_where sites event b = cond b (set (map kept_in sites) (region_of event) (get_or (map kept_in sites) (region_of event) [] ++ event ∷ [])) (map kept_in sites)
+
+-- what is seen one step later
+abbrev seen_next : Cluster → Workload → ℕ → World → List (List Event) → WorldView
+seen_next cluster workload steps w l = record { cluster = cluster; workload = workload; state = w; kept = l; steps = steps + 1 }
+
 module _ {cluster : Cluster} {sessions : WorldSessions} {sites : List SiteView} {steps : ℕ} (k : IsLawful cluster sessions sites steps) where
   abbrev w : World
   w = world_of sites (places_in sessions)
@@ -74,7 +83,7 @@ module _ {cluster : Cluster} {sessions : WorldSessions} {sites : List SiteView} 
       map-set kept_in sites region q
       ∙ ap (set (map kept_in sites) region) (kept ∙ ap (λ l. l ++ event ∷ []) (sym (get_or-map kept_in sites region no_site)))
       ∙ ap (λ r. set (map kept_in sites) r (get_or (map kept_in sites) r [] ++ event ∷ [])) (sym of)
-      ∙ sym (ap (λ b. cond b (set (map kept_in sites) (region_of event) (get_or (map kept_in sites) (region_of event) [] ++ event ∷ [])) (map kept_in sites)) effect)
+      ∙ sym (ap (kept_where sites event) effect)
 
   -- the session of a name, wherever it is, is of one of the regions
   at_region : (t : Session) → Has sessions.workload.sessions t → t.region < cluster.regions
@@ -101,7 +110,7 @@ module _ {cluster : Cluster} {sessions : WorldSessions} {sites : List SiteView} 
       listed = many;
       attended = λ r lq. subst (λ w. SessionsStandIn cluster sessions.workload w r (sessions_of later r)) (sym is) (standing r lq);
     };
-    is = ap₂ (λ w (l : List (List Event)). record { cluster = cluster; workload = sessions.workload; state = w; kept = l; steps = steps + 1 }) is (kept_stays event region q of s.kept effect);
+    is = ap₂ (seen_next cluster sessions.workload steps) is (kept_stays event region q of s.kept effect);
   }
     where
       then_reached : IsReached cluster sessions.workload (w_after event)
@@ -147,8 +156,8 @@ module _ {cluster : Cluster} {sessions : WorldSessions} {sites : List SiteView} 
       listed = k.listed;
       attended = k.attended;
     };
-    is = ap₂ (λ w (l : List (List Event)). record { cluster = cluster; workload = sessions.workload; state = w; kept = l; steps = steps + 1 }) (sym same)
-        (sym (ap (λ b. cond b (set (map kept_in sites) (region_of event) (get_or (map kept_in sites) (region_of event) [] ++ event ∷ [])) (map kept_in sites)) effect));
+    is = ap₂ (seen_next cluster sessions.workload steps) (sym same)
+        (sym (ap (kept_where sites event) effect));
   }
 
 -- the sites of all regions, where a call left this region in one of them
