@@ -1,11 +1,11 @@
 -- Rows by their places: the row at the place of a key is the row of that key.
-use Rattle.std.proofs.Common.{◌≡◌, ℕ, zero, suc, ◌<◌, cond, List, [], ◌∷◌, map, length, get_or, set, refl, sym, ap, ap₂, subst, ◌∙◌, arith}
+use Rattle.std.proofs.Common.{◌≡◌, ℕ, zero, suc, ◌<◌, false, cond, List, [], ◌∷◌, map, length, get_or, set, refl, sym, ap, ap₂, subst, ◌∙◌, arith}
 use Rattle.std.specs.Prelude.{Option}
 use Rattle.std.proofs.lemmas.List.{get_or-map, length-map, length-set}
 use Rattle.std.proofs.Math.Seq.{map-set_same}
 use Rattle.dt_lists.specs.Lists.{AllIn, EachThen}
 use Rattle.dt_text.specs.declared.Value.{Value}
-use Rattle.dt_access.specs.Clash.{Bytes}
+use Rattle.dt_access.specs.Clash.{Bytes, same_key}
 use Rattle.dt_access.specs.Orders.{KeyBefore}
 use Rattle.dt_access.proofs.Callers.{same_key_after, same_key_before, same_key_self}
 use Rattle.dt_eval.specs.declared.state.Row.{Row}
@@ -20,13 +20,17 @@ before_at key (k ∷ keys) (suc p) below all = before_at key keys p (omega arith
 below_keys : (rows : List Row) (p : ℕ) → p < length rows → p < length (keys_in rows)
 below_keys rows p below = subst (λ n. p < n) (sym (length-map rows (λ (r : Row). r.key))) below
 
+-- the key at a place behind the first row is not the first row's
+behind_first : (r : Row) (rows : List Row) (p : ℕ) → p < length rows → AllIn (KeyBefore r.key) (keys_in rows) → same_key (get_or (keys_in rows) p []) r.key ≡ false
+behind_first r rows p within behind = same_key_after (get_or (keys_in rows) p []) r.key (before_at r.key (keys_in rows) p (below_keys rows p within) behind)
+
 value_at : (rows : List Row) (p : ℕ) (d : Row) → p < length rows → EachThen KeyBefore (keys_in rows) → value_in rows (get_or (keys_in rows) p []) ≡ (get_or rows p d).value
 value_at [] p d below each = absurd (omega arith)
 value_at (r ∷ rows) zero d below each = ap (λ b. cond b r.value (value_in rows r.key)) (same_key_self r.key)
 value_at (r ∷ rows) (suc p) d below each =
     let key : Bytes = get_or (keys_in rows) p [] in
     let within : p < length rows = omega arith in
-    ap (λ b. cond b r.value (value_in rows (get_or (keys_in rows) p []))) (same_key_after (get_or (keys_in rows) p []) r.key (before_at r.key (keys_in rows) p (below_keys rows p within) each.0))
+    ap (λ b. cond b r.value (value_in rows (get_or (keys_in rows) p []))) (behind_first r rows p within each.0)
     ∙ value_at rows p d within each.1
 
 -- the row of a key that stands before all others is not among them
@@ -40,7 +44,7 @@ with_value_at (r ∷ rows) zero d v below each = ap₂ ◌∷◌ (ap (λ b. cond
 with_value_at (r ∷ rows) (suc p) d v below each =
     let within : p < length rows = omega arith in
     ap₂ ◌∷◌
-    (ap (λ b. cond b (changed v r) r) (same_key_after (get_or (keys_in rows) p []) r.key (before_at r.key (keys_in rows) p (below_keys rows p within) each.0)))
+    (ap (λ b. cond b (changed v r) r) (behind_first r rows p within each.0))
     (with_value_at rows p d v within each.1)
 
 place_below : (n : ℕ) (places : List ℕ) (k d : ℕ) → AllIn (λ p. p < n) places → k < length places → get_or places k d < n

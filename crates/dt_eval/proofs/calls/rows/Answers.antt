@@ -11,6 +11,11 @@ use Rattle.dt_eval.specs.Meaning.{unchanged}
 use Rattle.dt_eval.proofs.RowParts.{ok_moved}
 use Rattle.dt_eval.proofs.RunStart.{names_read, rows_named, rows_below, rows_ascend}
 use Rattle.dt_eval.proofs.calls.rows.Goals as goal
+use Rattle.dt_eval.proofs.calls.rows.Goals.{In_ok-places}
+
+-- the places that were found are those of the names in the rows that were read
+places_read : (c : In_ok-places) → ArePlaces (names_given c.args.args.now c.keys-declarations.result.now) (map (λ r. r.0) c.args.reads) c.in_ok-places.places.items
+places_read c = subst (λ (rs : List (Bytes × Option Value)). ArePlaces (names_given c.args.args.now c.keys-declarations.result.now) (map (λ r. r.0) rs) c.in_ok-places.places.items) c.as_slice.ensures c.in_ok-places.ensures
 
 pub places-requires-clause-within : goal.places-requires-clause-within
 places-requires-clause-within c =
@@ -23,9 +28,8 @@ places-requires-clause-read c =
 
 pub new-requires-clause-places : goal.new-requires-clause-places
 new-requires-clause-places c =
-    let keys : List (Bytes × Option Value) → List Bytes = map (λ r. r.0) in
     rows_below (names_given c.args.args.now c.keys-declarations.result.now) c.args.reads c.in_ok-places.places.items (map unchanged c.into_vec.result.items) (ap (map unchanged) c.into_vec.ensures)
-    (subst (λ rs. ArePlaces (names_given c.args.args.now c.keys-declarations.result.now) (keys rs) c.in_ok-places.places.items) c.as_slice.ensures c.in_ok-places.ensures)
+    (places_read (goal.at.new-requires-clause-places c).In_ok-places)
 
 pub new-requires-clause-keys : goal.new-requires-clause-keys
 new-requires-clause-keys c = rows_ascend c.args.body.now c.args.args.now c.args.reads (map unchanged c.into_vec.result.items) (ap (map unchanged) c.into_vec.ensures) c.requires.reads
@@ -36,4 +40,4 @@ returns c =
     ok_moved _ _ c.new.result c.new.ensures
     (rows_named c.args.body.now c.args.args.now c.args.reads c.in_ok-places.places.items (map unchanged c.into_vec.result.items) (ap (map unchanged) c.into_vec.ensures)
     (subst (λ ds. ArePlaces (names_given c.args.args.now ds) (keys c.args.reads) c.in_ok-places.places.items) c.keys-declarations.ensures.same
-    (subst (λ rs. ArePlaces (names_given c.args.args.now c.keys-declarations.result.now) (keys rs) c.in_ok-places.places.items) c.as_slice.ensures c.in_ok-places.ensures)))
+    (places_read (goal.at.returns c).In_ok-places)))

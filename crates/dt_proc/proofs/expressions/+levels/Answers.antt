@@ -1,8 +1,11 @@
 use Rattle.std.proofs.lemmas.Grind.{common_steps}
-use Rattle.std.proofs.Common.{inr, ap, sym, ◌∙◌, arith, Ok, refl, ◌∷◌, ◌++◌, rules}
+use Rattle.std.proofs.Common.{◌≡◌, ℕ, List, inr, ap, sym, ◌∙◌, arith, Ok, refl, ◌∷◌, ◌++◌, rules}
 use Rattle.std.proofs.lemmas.Result.{err_from_is_err_and}
 use Rattle.dt_syntax.specs.declared.token.Token.TheVariants as tok
-use Rattle.dt_syntax.specs.Grammar.{at, syntax_tokens, links_tokens}
+use Rattle.dt_syntax.specs.declared.token.Placed.{Placed}
+use Rattle.dt_syntax.specs.Fronts.{FrontStops}
+use Rattle.dt_syntax.specs.Grammar.{at, Syntax, IsLevel, syntax_tokens, links_tokens}
+use Rattle.dt_proc.specs.WalkInner.{StartsExpr, StartsOpen}
 use Rattle.dt_proc.specs.SecondPass.{check, check_links}
 use Rattle.dt_proc.specs.Tree as tree
 use Rattle.dt_proc.specs.declared.tree.Sort.TheVariants as sort
@@ -198,43 +201,37 @@ operand-inside-requires t c =
     let k = operand_when c.args.level c.args.scope.now s.one s.rest c.args.tokens.now c.first-item.result tok.Open c.requires.low s.good c.in-len1-up.len_at_least c.first-item.is s.cut c.in-Open.is in
     (grind (arith, common_steps), record { one = k.0; close_at = k.1; rest = s.rest; good = k.3; cut = k.4 })
 
+-- an expression in brackets comes first
+opens : {ts : List Placed} (o : ℕ) (x : Syntax) (q : ℕ) (rest : List Placed) → IsLevel 0 x → at o tok.Open ∷ (syntax_tokens x ++ at q tok.Close ∷ rest) ≡ ts → StartsOpen ts
+opens o x q rest good cut = record { open_at = o; after = syntax_tokens x ++ at q tok.Close ∷ rest; inside = record { one = x; close_at = q; rest = rest; good = good; cut = refl }; cut = cut }
+
+-- the operand of a `not` or a `-` comes first
+operand_next : {ts : List Placed} (n : ℕ) (x : Syntax) (rest : List Placed) → IsLevel 6 x → n ≡ 5 → FrontStops n rest → syntax_tokens x ++ rest ≡ ts → StartsExpr 6 ts
+operand_next n x rest good five stops cut = record { one = x; rest = rest; good = good; stops = six_stop rest n five stops; cut = cut }
+
 pub operand-of_brackets-requires : goal.operand-of_brackets-requires
 operand-of_brackets-requires t c =
     let s = c.requires.starts in
-    let k = operand_when c.args.level c.args.scope.now s.one s.rest c.args.tokens.now c.first-item.result tok.Len c.requires.low s.good c.in-len1-up.len_at_least c.first-item.is s.cut c.in-Len.is in (
-      grind (arith, common_steps),
-      record {
-        open_at = k.0;
-        after = syntax_tokens k.1 ++ at k.2 tok.Close ∷ s.rest;
-        inside = record { one = k.1; close_at = k.2; rest = s.rest; good = k.4; cut = refl };
-        cut = k.5;
-      },
-    )
+    let k = operand_when c.args.level c.args.scope.now s.one s.rest c.args.tokens.now c.first-item.result tok.Len c.requires.low s.good c.in-len1-up.len_at_least c.first-item.is s.cut c.in-Len.is in
+    (grind (arith, common_steps), opens k.0 k.1 k.2 s.rest k.4 k.5)
 
 pub operand-of_brackets-requires-in-Show : goal.operand-of_brackets-requires-in-Show
 operand-of_brackets-requires-in-Show t c =
     let s = c.requires.starts in
-    let k = operand_when c.args.level c.args.scope.now s.one s.rest c.args.tokens.now c.first-item.result tok.Show c.requires.low s.good c.in-len1-up.len_at_least c.first-item.is s.cut c.in-Show.is in (
-      grind (arith, common_steps),
-      record {
-        open_at = k.0;
-        after = syntax_tokens k.1 ++ at k.2 tok.Close ∷ s.rest;
-        inside = record { one = k.1; close_at = k.2; rest = s.rest; good = k.4; cut = refl };
-        cut = k.5;
-      },
-    )
+    let k = operand_when c.args.level c.args.scope.now s.one s.rest c.args.tokens.now c.first-item.result tok.Show c.requires.low s.good c.in-len1-up.len_at_least c.first-item.is s.cut c.in-Show.is in
+    (grind (arith, common_steps), opens k.0 k.1 k.2 s.rest k.4 k.5)
 
 pub operand-of_atom-requires : goal.operand-of_atom-requires
 operand-of_atom-requires t c =
     let s = c.requires.starts in
     let k = operand_when c.args.level c.args.scope.now s.one s.rest c.args.tokens.now c.first-item.result tok.Not c.requires.low s.good c.in-len1-up.len_at_least c.first-item.is s.cut c.in-Not.is in
-    (grind (arith, common_steps), record { one = k.0; rest = s.rest; good = k.2; stops = six_stop s.rest c.args.level k.3 s.stops; cut = k.4 })
+    (grind (arith, common_steps), operand_next c.args.level k.0 s.rest k.2 k.3 s.stops k.4)
 
 pub operand-of_atom-requires-in-Op : goal.operand-of_atom-requires-in-Op
 operand-of_atom-requires-in-Op t c =
     let s = c.requires.starts in
     let k = operand_when c.args.level c.args.scope.now s.one s.rest c.args.tokens.now c.first-item.result (tok.Op c.in-Op.field-0) c.requires.low s.good c.in-len1-up.len_at_least c.first-item.is s.cut c.in-Op.is in
-    (grind (arith, common_steps), record { one = k.0; rest = s.rest; good = k.2; stops = six_stop s.rest c.args.level k.3 s.stops; cut = k.4 })
+    (grind (arith, common_steps), operand_next c.args.level k.0 s.rest k.2 k.3 s.stops k.4)
 
 pub operand-unreachable-requires-in_default-token : goal.operand-unreachable-requires-in_default-token
 operand-unreachable-requires-in_default-token t c =

@@ -17,6 +17,7 @@ use Rattle.dt_queue.proofs.LanesOfCells.{all_before, kept_same, rows_refl, same_
 use Rattle.dt_queue.proofs.RowsUsed.{all_the_same, listed_same, queues_pushed}
 use Rattle.dt_queue.proofs.NewNumbers.{reserved}
 use Rattle.dt_queue.proofs.kept.Kept.push.Goals as goal
+use Rattle.dt_queue.proofs.kept.Kept.push.Goals.{In_ok-reserve}
 
 -- with its row added, and nothing else
 with_row : (k : Kept) (r : Rows) → AreQueuesKept k → AreRowsLinked (links r) → KeepsRows (links k.rows) (links r) → SameLanes (lanes_read k.rows.table.items) (lanes_read r.table.items)
@@ -31,6 +32,10 @@ with_row k r kept linked keeps reads writes =
 -- the lanes are the same whatever the cells are
 lanes_in : (e : Kept) (cells : Slab Cell) (m : Mode) (p : ℕ) → lane (record e { cells = cells }) m p ≡ lane e m p
 lanes_in e cells m p = same_lanes (record e { cells = cells }) e (same_self _) (same_self _) refl m p
+
+-- with room for its cell, and nothing else
+with_room : (c : In_ok-reserve) → AreQueuesKept (record c.enter.new.self { cells = c.reserve.new.self })
+with_room c = (reserved c.enter.new.self c.reserve.new.self c.in_ok-enter.ensures.kept (ap (λ (x : Slab Cell). x.slots) c.in_ok-reserve.ensures.rest_kept)).kept
 
 pub returns-in_err-row-clause-kept : goal.returns-in_err-row-clause-kept
 returns-in_err-row-clause-kept c =
@@ -60,9 +65,8 @@ add_mark-requires-clause-last c =
 
 pub returns-in_err-add_mark-clause-kept : goal.returns-in_err-add_mark-clause-kept
 returns-in_err-add_mark-clause-kept c =
-    let e = c.enter.new.self in
-    let mid : Kept = record e { cells = c.reserve.new.self } in
-    let kept : AreQueuesKept mid = (reserved e c.reserve.new.self c.in_ok-enter.ensures.kept (ap (λ (x : Slab Cell). x.slots) c.in_ok-reserve.ensures.rest_kept)).kept in
+    let mid : Kept = record c.enter.new.self { cells = c.reserve.new.self } in
+    let kept : AreQueuesKept mid = with_room (goal.at.returns-in_err-add_mark-clause-kept c).In_ok-reserve in
     let n : Kept = c.add_mark.new.self in
     let same = c.in_err-add_mark.ensures.same in
     let keeps : KeepsRows (links mid.rows) (links n.rows) = subst (KeepsRows (links mid.rows)) (sym same.rows) (rows_refl (links mid.rows)) in
@@ -87,7 +91,7 @@ returns-clause-kept c =
     let entered = c.in_ok-enter.ensures.same in
     let rows = ap (λ (y : Kept). links y.rows) entered in
     let mid : Kept = record e { cells = c.reserve.new.self } in
-    let kept : AreQueuesKept mid = (reserved e c.reserve.new.self c.in_ok-enter.ensures.kept (ap (λ (x : Slab Cell). x.slots) c.in_ok-reserve.ensures.rest_kept)).kept in
+    let kept : AreQueuesKept mid = with_room (goal.at.returns-clause-kept c).In_ok-reserve in
     let marked : Kept = c.add_mark.new.self in
     let n : Kept = record marked { cells = c.insert_reserved.new.self; next_number = k.next_number + 1 } in
     let cell : Cell = record { row = c.in_ok-row.row; mode = c.args.mode; vertex = c.args.vertex; number = k.next_number } in
