@@ -7,11 +7,11 @@ use Rattle.dt_site.proofs.Callers.{asked_held}
 use Rattle.dt_world.specs.WorldView.{WorldView}
 use Rattle.dt_world.proofs.OneSite.{region_here, same_lawful, same_view, stamp_here}
 use Rattle.dt_world.proofs.Rule2Append.{append_done, append_not, asks, can_place, few_asked, id_in, wanted_in}
-use Rattle.dt_world.proofs.WorldLaws.{SiteOf, a_site, holds_site, made_before, out_of_memory}
+use Rattle.dt_world.proofs.WorldLaws.{IsMade, SiteOf, a_site, holds_site, made_before, out_of_memory, with_region}
 use Rattle.dt_world.proofs.WorldFacts.{steps_few}
 use Rattle.dt_world.proofs.world.World.append.Given.{Over}
 use Rattle.dt_world.proofs.world.World.append.Goals as goal
-use Rattle.dt_world.proofs.world.World.append.Goals.{After-behind-self, After-behind-self-2}
+use Rattle.dt_world.proofs.world.World.append.Goals.{After-behind-self, After-behind-self-2, In_ok-append_owned}
 
 -- the site of the request's source
 source : (g : Over) (c : After-behind-self g) → SiteOf c.self.invariant c.args.source c.behind-self.inside.region c.behind-self.inside.origins.items
@@ -46,19 +46,22 @@ append_owned-requires-clause-can g c =
     let here = home g (goal.at.append_owned-requires-clause-can g c).After-behind-self-2 in
     can_place here c.if-source-self.false request (omega (arith, steps_few c.self.invariant c.self.view_is c.requires))
 
-pub invariant_of-self-2 : goal.invariant_of-self-2
-invariant_of-self-2 g c =
-    let from = source g (goal.at.invariant_of-self-2 g c).After-behind-self in
+-- the part is placed
+placed : (g : Over) (c : In_ok-append_owned g) →
+    let w = c.self.inside in
+    IsMade w.cluster (record { workload = w.workload; by_region = w.sessions.items }) w.sites.items w.steps (Append c.args.home c.args.source c.args.number)
+    (record { workload = w.workload; by_region = w.sessions.items }) (with_region w.sites.items c.args.home c.append_owned.new.self c.behind-self-2.inside.origins.items)
+placed g c =
+    let from = holds_site c.self.invariant c.if-source-self.false c.index.ensures c.behind-self.view_is in
     let request = asks from.site c.args.home c.args.number c.asked-asked.ensures c.if-number-asked.false c.in-Some.ensures c.in_ok-txn.ensures in
-    let here = home g (goal.at.invariant_of-self-2 g c).After-behind-self-2 in
-    (append_done here c.if-source-self.false request c.append_owned.new.self c.in_ok-append_owned.field-0 c.in_ok-append_owned.ensures.makes c.append_owned.ensures.sound).lawful
+    let here = holds_site c.self.invariant c.if-home-self.false c.index_mut.ensures.value c.behind-self-2.view_is in
+    append_done here c.if-source-self.false request c.append_owned.new.self c.in_ok-append_owned.field-0 c.in_ok-append_owned.ensures.makes c.append_owned.ensures.sound
+
+pub invariant_of-self-2 : goal.invariant_of-self-2
+invariant_of-self-2 g c = (placed g (goal.at.invariant_of-self-2 g c).In_ok-append_owned).lawful
 
 pub returns : goal.returns
-returns g c =
-    let from = source g (goal.at.returns g c).After-behind-self in
-    let request = asks from.site c.args.home c.args.number c.asked-asked.ensures c.if-number-asked.false c.in-Some.ensures c.in_ok-txn.ensures in
-    let here = home g (goal.at.returns g c).After-behind-self-2 in
-    made_before c.self.view_is (append_done here c.if-source-self.false request c.append_owned.new.self c.in_ok-append_owned.field-0 c.in_ok-append_owned.ensures.makes c.append_owned.ensures.sound)
+returns g c = made_before c.self.view_is (placed g (goal.at.returns g c).In_ok-append_owned)
 
 pub index-requires : goal.index-requires
 index-requires g c = let here : c.args.source < length c.self.inside.sites.items = a_site c.self.invariant c.if-source-self.false in grind (arith, common_steps, here)

@@ -8,11 +8,11 @@ use Rattle.dt_site.proofs.Callers.{joins_from, joins_to}
 use Rattle.dt_world.specs.WorldView.{WorldView}
 use Rattle.dt_world.proofs.OneSite.{region_here, sound_here, same_lawful, same_view, stamp_here}
 use Rattle.dt_world.proofs.Rule3Deliver.{IsDelivery, can_take, deliver_done, deliver_none, delivery_is, entries_are, out_of_order, past_log}
-use Rattle.dt_world.proofs.WorldLaws.{SiteOf, a_site, holds_site, made_before, out_of_memory}
+use Rattle.dt_world.proofs.WorldLaws.{IsMade, SiteOf, a_site, holds_site, made_before, out_of_memory, with_region}
 use Rattle.dt_world.proofs.WorldFacts.{steps_few}
 use Rattle.dt_world.proofs.world.World.deliver.Given.{Over}
 use Rattle.dt_world.proofs.world.World.deliver.Goals as goal
-use Rattle.dt_world.proofs.world.World.deliver.Goals.{After-behind-self, After-behind-self-2, After-behind-self-3, After-joins, then-first-last-via-then-first-last, then-first-last-via-else-first-last+then-last-len}
+use Rattle.dt_world.proofs.world.World.deliver.Goals.{After-behind-self, After-behind-self-2, After-behind-self-3, After-joins, In_ok-deliver, then-first-last-via-then-first-last, then-first-last-via-else-first-last+then-last-len}
 
 -- the home's site
 home : (g : Over) (c : After-behind-self g) → SiteOf c.self.invariant c.args.home c.behind-self.inside.region c.behind-self.inside.origins.items
@@ -89,19 +89,24 @@ deliver-requires-clause-can g c =
     let few = steps_few c.self.invariant c.self.view_is c.requires in
     can_take site c.if-home-self.false joined taken (omega (arith, few))
 
+-- the entries are delivered
+delivered : (g : Over) (c : In_ok-deliver g) →
+    let w = c.self.inside in
+    IsMade w.cluster (record { workload = w.workload; by_region = w.sessions.items }) w.sites.items w.steps (Deliver c.args.region c.args.home c.args.first c.args.last)
+    (record { workload = w.workload; by_region = w.sessions.items }) (with_region w.sites.items c.args.region c.deliver.new.self c.behind-self-3.inside.origins.items)
+delivered g c =
+    let from = holds_site c.self.invariant c.if-home-self.false c.index.ensures c.behind-self.view_is in
+    let to = holds_site c.self.invariant c.if-region-self.false c.index-2.ensures c.behind-self-2.view_is in
+    let joined = delivery_is from.site to.site c.args.first c.args.last _ c.len.ensures c.log.ensures c.if-last-len.false c.len-received.ensures c.log-2.ensures c.joins.ensures c.if-not-joins.false in
+    let taken = entries_are from.site _ c.args.last c.in_ok-entries.entries.items c.in_ok-entries.ensures.parts c.in_ok-entries.ensures.txns in
+    let site = holds_site c.self.invariant c.if-region-self.false c.index_mut.ensures.value c.behind-self-3.view_is in
+    deliver_done site c.if-home-self.false joined taken c.deliver.new.self c.in_ok-deliver.field-0 c.in_ok-deliver.ensures.makes c.deliver.ensures.sound
+
 pub invariant_of-self-2 : goal.invariant_of-self-2
-invariant_of-self-2 g c =
-    let joined = delivery g (goal.at.invariant_of-self-2 g c).After-joins c.if-not-joins.false in
-    let taken = entries_are (home g (goal.at.invariant_of-self-2 g c).After-behind-self).site _ c.args.last c.in_ok-entries.entries.items c.in_ok-entries.ensures.parts c.in_ok-entries.ensures.txns in
-    let site = here g (goal.at.invariant_of-self-2 g c).After-behind-self-3 in
-    (deliver_done site c.if-home-self.false joined taken c.deliver.new.self c.in_ok-deliver.field-0 c.in_ok-deliver.ensures.makes c.deliver.ensures.sound).lawful
+invariant_of-self-2 g c = (delivered g (goal.at.invariant_of-self-2 g c).In_ok-deliver).lawful
 
 pub returns : goal.returns
-returns g c =
-    let joined = delivery g (goal.at.returns g c).After-joins c.if-not-joins.false in
-    let taken = entries_are (home g (goal.at.returns g c).After-behind-self).site _ c.args.last c.in_ok-entries.entries.items c.in_ok-entries.ensures.parts c.in_ok-entries.ensures.txns in
-    let site = here g (goal.at.returns g c).After-behind-self-3 in
-    made_before c.self.view_is (deliver_done site c.if-home-self.false joined taken c.deliver.new.self c.in_ok-deliver.field-0 c.in_ok-deliver.ensures.makes c.deliver.ensures.sound)
+returns g c = made_before c.self.view_is (delivered g (goal.at.returns g c).In_ok-deliver)
 
 pub index-requires : goal.index-requires
 index-requires g c = let here : c.args.home < length c.self.inside.sites.items = a_site c.self.invariant c.if-home-self.false in grind (arith, common_steps, here)

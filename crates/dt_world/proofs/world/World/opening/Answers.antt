@@ -1,9 +1,11 @@
-use Rattle.std.proofs.Common.{◌≡◌, ◌∙◌, length, refl, sym, ap, subst}
+use Rattle.std.proofs.Common.{◌≡◌, ◌∙◌, List, ◌++◌, length, take, refl, sym, ap, subst}
 use Rattle.std.proofs.lemmas.List.{take_at}
 use Rattle.dt_lists.specs.Lists.{AllIn}
 use Rattle.dt_region.specs.Sound.{IsSoundRegion}
 use Rattle.dt_site.specs.Site.{SiteView}
-use Rattle.dt_world.specs.WorldInner.{opening_sites}
+use Rattle.dt_world.specs.WorldInner.{IsLawful, opening_sites, view_in}
+use Rattle.dt_world.specs.WorldSessions.{WorldSessions}
+use Rattle.dt_world.specs.WorldView.{opening_view}
 use Rattle.dt_world.proofs.Opening.{begun_from}
 use Rattle.dt_world.proofs.world.World.opening.Given.{Over}
 use Rattle.dt_world.proofs.world.World.opening.Goals as goal
@@ -24,14 +26,18 @@ sites_sound g c = subst (AllIn (λ (site : SiteView). IsSoundRegion site.region.
 sites_many : (g : Over) (c : In_ok-sessions g) → length c.expect_calls.new.sites ≡ c.in_ok-sites.sites.len
 sites_many g c = ap length (sites_same g c) ∙ sym c.in_ok-sites.sites.ok.0
 
+-- so the world begins, whatever stands behind the sites in the list
+begins : (g : Over) (c : In_ok-sessions g) (rest : List SiteView) →
+    let sessions : WorldSessions = record { workload = c.args.workload; by_region = c.in_ok-sessions.field-0.items } in
+    let sites = take c.in_ok-sites.sites.len (c.expect_calls.new.sites ++ rest) in
+    IsLawful c.args.cluster sessions sites 0 × (view_in c.args.cluster sessions sites 0 ≡ opening_view c.args.cluster c.args.workload)
+begins g c rest =
+    let all = take_at c.expect_calls.new.sites rest c.in_ok-sites.sites.len (sites_many g c) in
+    begun_from c.args.cluster c.args.cluster c.args.workload c.args.workload c.in_ok-sessions.field-0.items _ refl refl
+    c.requires.cluster c.requires.workload c.in_ok-sessions.ensures (all ∙ sites_open g c) (subst (AllIn (λ (site : SiteView). IsSoundRegion site.region.state)) (sym all) (sites_sound g c))
+
 pub invariant_of-result : goal.invariant_of-result
-invariant_of-result g c =
-    let all = take_at c.expect_calls.new.sites _ c.in_ok-sites.sites.len (sites_many g c) in
-    (begun_from c.args.cluster c.args.cluster c.args.workload c.args.workload c.in_ok-sessions.field-0.items _ refl refl
-    c.requires.cluster c.requires.workload c.in_ok-sessions.ensures (all ∙ sites_open g c) (subst (AllIn (λ (site : SiteView). IsSoundRegion site.region.state)) (sym all) (sites_sound g c))).0
+invariant_of-result g c = (begins g c _).0
 
 pub returns : goal.returns
-returns g c =
-    let all = take_at c.expect_calls.new.sites _ c.in_ok-sites.sites.len (sites_many g c) in
-    (begun_from c.args.cluster c.args.cluster c.args.workload c.args.workload c.in_ok-sessions.field-0.items _ refl refl
-    c.requires.cluster c.requires.workload c.in_ok-sessions.ensures (all ∙ sites_open g c) (subst (AllIn (λ (site : SiteView). IsSoundRegion site.region.state)) (sym all) (sites_sound g c))).1
+returns g c = (begins g c _).1
