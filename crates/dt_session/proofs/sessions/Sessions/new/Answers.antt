@@ -1,4 +1,4 @@
-use Rattle.std.proofs.Common.{◌≡◌, ◌-◌, ◌∙◌, List, length, drop, map, sym, ap, subst, arith}
+use Rattle.std.proofs.Common.{◌≡◌, ◌-◌, ◌∙◌, ◌++◌, ◌∷◌, [], List, length, drop, map, sym, ap, subst, arith}
 use Rattle.std.proofs.lemmas.Iterator.Adapters.{YieldsList-from_rev_slice}
 use Rattle.std.proofs.lemmas.Iterator.Consumers.{YieldsList-end, YieldsList-turn}
 use Rattle.std.proofs.lemmas.List.{length-map, length-reverse}
@@ -9,6 +9,18 @@ use Rattle.dt_session.specs.Eager.{sessions_at}
 use Rattle.dt_session.specs.Sessions.{IsSoundSeat, idle_seat}
 use Rattle.dt_session.proofs.SessionsLaws.{ascends, idle_sound, length_at, passed_over, put_among}
 use Rattle.dt_session.proofs.sessions.Sessions.new.Goals as goal
+use Rattle.dt_session.proofs.sessions.Sessions.new.Goals.{In_ok-insert}
+
+-- with the session's own among them, the seats are those of the sessions up to it
+put_in : (c : In_ok-insert) → (c.insert.new.self.entries ≡ map idle_seat (sessions_at c.args.region (drop (length c.args.workload.now.sessions - length (c.loop-session.yielded ++ c.in-Some.session ∷ [])) c.args.workload.now.sessions)))
+    × HasAscendingKeys c.insert.new.self.entries
+put_in c =
+    let turn = YieldsList-turn (YieldsList-from_rev_slice {s = c.into_iter-session-iterator.result} c.args.workload.now.sessions cc) c.loop-session.yielded c.loop-session.session-iterator c.loop-session.yielded_by _ _
+    c.in-Some.session c.in-Some.is c.next.ensures.steps in (
+      put_among c.args.region c.args.workload.now.sessions c.requires.names c.loop-session.yielded c.in-Some.session c.in-Some.session.now turn _ _ _ _ c.if-session-region.true c.loop-session.invariant.0
+          c.in_ok-copy-2.ensures.same c.in_ok-copy.ensures c.in_ok-insert.ensures.entries,
+      ascends _ c.in_ok-insert.ensures.ordered,
+    )
 
 pub loop-session-preserved : goal.loop-session-preserved
 loop-session-preserved c =
@@ -20,22 +32,10 @@ loop-session-preserved c =
     )
 
 pub loop-session-preserved-in_ok-insert : goal.loop-session-preserved-in_ok-insert
-loop-session-preserved-in_ok-insert c =
-    let turn = YieldsList-turn (YieldsList-from_rev_slice {s = c.into_iter-session-iterator.result} c.args.workload.now.sessions cc) c.loop-session.yielded c.loop-session.session-iterator c.loop-session.yielded_by _ _
-    c.in-Some.session c.in-Some.is c.next.ensures.steps in (
-      put_among c.args.region c.args.workload.now.sessions c.requires.names c.loop-session.yielded c.in-Some.session c.in-Some.session.now turn _ _ _ _ c.if-session-region.true c.loop-session.invariant.0
-          c.in_ok-copy-2.ensures.same c.in_ok-copy.ensures c.in_ok-insert.ensures.entries,
-      ascends _ c.in_ok-insert.ensures.ordered,
-    )
+loop-session-preserved-in_ok-insert c = put_in (goal.at.loop-session-preserved-in_ok-insert c).In_ok-insert
 
 pub loop-session-preserved-in_ok-insert-2 : goal.loop-session-preserved-in_ok-insert-2
-loop-session-preserved-in_ok-insert-2 c =
-    let turn = YieldsList-turn (YieldsList-from_rev_slice {s = c.into_iter-session-iterator.result} c.args.workload.now.sessions cc) c.loop-session.yielded c.loop-session.session-iterator c.loop-session.yielded_by _ _
-    c.in-Some.session c.in-Some.is c.next.ensures.steps in (
-      put_among c.args.region c.args.workload.now.sessions c.requires.names c.loop-session.yielded c.in-Some.session c.in-Some.session.now turn _ _ _ _ c.if-session-region.true c.loop-session.invariant.0
-          c.in_ok-copy-2.ensures.same c.in_ok-copy.ensures c.in_ok-insert.ensures.entries,
-      ascends _ c.in_ok-insert.ensures.ordered,
-    )
+loop-session-preserved-in_ok-insert-2 c = put_in (goal.at.loop-session-preserved-in_ok-insert-2 c).In_ok-insert
 
 pub invariant_of-result : goal.invariant_of-result
 invariant_of-result c =
