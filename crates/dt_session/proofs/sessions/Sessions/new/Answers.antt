@@ -12,7 +12,8 @@ use Rattle.dt_session.proofs.sessions.Sessions.new.Goals as goal
 use Rattle.dt_session.proofs.sessions.Sessions.new.Goals.{In_ok-insert}
 
 -- with the session's own among them, the seats are those of the sessions up to it
-put_in : (c : In_ok-insert) → (c.insert.new.self.entries ≡ map idle_seat (sessions_at c.args.region (drop (length c.args.workload.now.sessions - length (c.loop-session.yielded ++ c.in-Some.session ∷ [])) c.args.workload.now.sessions)))
+put_in : (c : In_ok-insert) →
+    (c.insert.new.self.entries ≡ map idle_seat (sessions_at c.args.region (drop (length c.args.workload.now.sessions - length (c.loop-session.yielded ++ c.in-Some.session ∷ [])) c.args.workload.now.sessions)))
     × HasAscendingKeys c.insert.new.self.entries
 put_in c =
     let turn = YieldsList-turn (YieldsList-from_rev_slice {s = c.into_iter-session-iterator.result} c.args.workload.now.sessions cc) c.loop-session.yielded c.loop-session.session-iterator c.loop-session.yielded_by _ _
