@@ -8,6 +8,7 @@ use Rattle.std.proofs.lemmas.List.Elements.{filter-append}
 use Rattle.std.proofs.lemmas.List.FromFn.{length-map-range_with_len, get_or-map-range_with_len}
 use Rattle.dt_workload.specs.declared.Ranked.{Ranked}
 use Rattle.dt_workload.specs.declared.Session.{Session}
+use Rattle.dt_workload.specs.Valid.{wanting}
 use Rattle.dt_gen.specs.Draws.{next_state, state_after}
 use Rattle.dt_gen.specs.Load.{load_call, load_calls, load_session, session_name, session_numbers}
 use Rattle.dt_gen.proofs.Ranges.{row_more}
@@ -26,11 +27,7 @@ calls_more n j =
     last true = refl
     last false = refl
 
--- a session that was given one more call
-abbrev pub with_call : Session → Ranked → Session
-with_call session call = record { name = session.name; region = session.region; calls = session.calls ++ call ∷ [] }
-
-session_given : (n j : ℕ) → (n % 64 == j) ≡ true → load_session (n + 1) j ≡ with_call (load_session n j) (load_call n)
+session_given : (n j : ℕ) → (n % 64 == j) ≡ true → load_session (n + 1) j ≡ wanting (load_session n j) (load_call n)
 session_given n j e =
     ap (λ (calls : List Ranked). record { name = session_name j; region = j / 16; calls = calls }) (calls_more n j ∙ ap (λ b. load_calls n j ++ cond b (load_call n ∷ []) []) e)
 
@@ -49,13 +46,13 @@ sessions_length n = length-map-range_with_len (load_session n) 0 64
 
 -- all sessions, with one call more for the one whose turn it is
 abbrev one_given : ℕ → List Session
-one_given n = set (map (load_session n) session_numbers) (n % 64) (with_call (load_session n (n % 64)) (load_call n))
+one_given n = set (map (load_session n) session_numbers) (n % 64) (wanting (load_session n (n % 64)) (load_call n))
 
 -- all sessions after one call more
-pub dealt : (n : ℕ) → set (map (load_session n) session_numbers) (n % 64) (with_call (load_session n (n % 64)) (load_call n)) ≡ map (load_session (n + 1)) session_numbers
+pub dealt : (n : ℕ) → set (map (load_session n) session_numbers) (n % 64) (wanting (load_session n (n % 64)) (load_call n)) ≡ map (load_session (n + 1)) session_numbers
 dealt n =
     let before = map (load_session n) session_numbers in
-    let given = with_call (load_session n (n % 64)) (load_call n) in
+    let given = wanting (load_session n (n % 64)) (load_call n) in
     let d = load_session n 0 in
     let long : length (set before (n % 64) given) ≡ 64 = length-set before (n % 64) given ∙ sessions_length n in
     ext_get_or d (set before (n % 64) given) (map (load_session (n + 1)) session_numbers) (long ∙ sym (sessions_length (n + 1))) (λ j h. at j (omega (arith, h, long)))
@@ -71,12 +68,12 @@ dealt n =
             let turn : n % 64 ≡ j = grind (arith, nat_tests) in
             let within : n % 64 < length (map (load_session n) session_numbers) = omega (arith, sessions_length n) in
             ap (λ k. get_or (one_given n) k (load_session n 0)) (sym turn)
-            ∙ get_or-set_same (map (load_session n) session_numbers) (n % 64) (with_call (load_session n (n % 64)) (load_call n)) (load_session n 0) within
-            ∙ ap (λ k. with_call (load_session n k) (load_call n)) turn
+            ∙ get_or-set_same (map (load_session n) session_numbers) (n % 64) (wanting (load_session n (n % 64)) (load_call n)) (load_session n 0) within
+            ∙ ap (λ k. wanting (load_session n k) (load_call n)) turn
             ∙ sym (session_given n j e)
         by false e =
             let other : j ≢ n % 64 = λ same. grind (arith, nat_tests) in
-            get_or-set_other (map (load_session n) session_numbers) (n % 64) j (with_call (load_session n (n % 64)) (load_call n)) (load_session n 0) other
+            get_or-set_other (map (load_session n) session_numbers) (n % 64) j (wanting (load_session n (n % 64)) (load_call n)) (load_session n 0) other
             ∙ session_there n j (load_session n 0) h
             ∙ sym (session_stays n j e)
 

@@ -24,10 +24,10 @@ use Rattle.dt_cluster.specs.declared.Cluster.{Cluster}
 use Rattle.dt_cluster.specs.Valid.{IsValidCluster}
 use Rattle.dt_text.specs.Texts.{Bytes}
 use Rattle.dt_workload.specs.Lines.{said, Form, session_line, call_line, move_line, SpellForm, HasForm, IsForm}
-use Rattle.dt_workload.specs.Valid.{session_names, session_count_at, calls_in}
+use Rattle.dt_workload.specs.Valid.{session_names, session_count_at, calls_in, wanting}
 use Rattle.dt_workload.specs.File.{AreSessions, IsWorkload, Needs, NothingMore, FitsIf, GivesKeys, proc_name, proc_named}
 use Rattle.dt_workload.specs.File.{IsFormFault, IsLineFault, IsWorkloadFault}
-use Rattle.dt_workload.specs.ReaderInner.{FormGoesOn, LineGoesOn, IsWithWanted, wanting}
+use Rattle.dt_workload.specs.ReaderInner.{FormGoesOn, LineGoesOn, IsWithWanted}
 use Rattle.dt_workload.specs.Laws.{WorkloadFilesHaveAnOutcome}
 use Rattle.dt_workload.specs.declared.workload.Ranked.{Ranked}
 use Rattle.dt_workload.specs.declared.workload.Wanted.TheVariants.{Call, Move}

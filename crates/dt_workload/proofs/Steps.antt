@@ -17,8 +17,8 @@ use Rattle.dt_cluster.specs.declared.Cluster.{Cluster}
 use Rattle.dt_text.specs.Texts.{Bytes}
 use Rattle.dt_workload.specs.Lines.{Form, session_line, call_line, move_line, HasForm}
 use Rattle.dt_workload.specs.File.{ranked_line, session_lines, all_lines, AreSessions, proc_named}
-use Rattle.dt_workload.specs.Valid.{session_names, session_count_at, calls_in, RankedFits, IsValidSession, IsValidWorkload}
-use Rattle.dt_workload.specs.ReaderInner.{wanting, IsWithWanted, FormGoesOn, LineGoesOn}
+use Rattle.dt_workload.specs.Valid.{session_names, session_count_at, calls_in, RankedFits, IsValidSession, IsValidWorkload, wanting}
+use Rattle.dt_workload.specs.ReaderInner.{IsWithWanted, FormGoesOn, LineGoesOn}
 use Rattle.dt_workload.specs.declared.workload.Ranked.{Ranked}
 use Rattle.dt_workload.specs.declared.workload.Wanted.TheVariants.{Call, Move}
 use Rattle.dt_workload.specs.declared.workload.Session.{Session}

@@ -8,7 +8,7 @@ use Rattle.dt_workload.specs.Lines as lines
 use Rattle.dt_text.specs.Texts.{Bytes}
 use Rattle.dt_workload.specs.Lines.{Said, bare, SpellForm, IsRanked, IsForm, HasForm}
 use Rattle.dt_workload.specs.File.{proc_name, Needs, NothingMore, FitsIf, GivesKeys}
-use Rattle.dt_workload.specs.Valid.{session_names, session_count_at, calls_in}
+use Rattle.dt_workload.specs.Valid.{session_names, session_count_at, calls_in, wanting}
 use Rattle.dt_proc.specs.Tree.{ProcTree}
 use Rattle.dt_text.specs.declared.Value.{Value}
 use Rattle.dt_lists.specs.Lists.{Has}
@@ -53,10 +53,6 @@ ReadsRegion fixed words answer =
 abbrev pub Refuses : (WorkloadCause → Type 0) → Refusal → Type 0
 Refuses IsCause (Cause why) = IsCause why
 Refuses IsCause NoMemory = Unit {0}
-
--- the session with one more call or move
-abbrev pub wanting : Session → Ranked → Session
-wanting session wanted = record { name = session.name; region = session.region; calls = session.calls ++ wanted ∷ [] }
 
 -- the sessions after are those before, the last of which wants one thing more
 abbrev pub IsWithWanted : List Session → Ranked → List Session → Type 0

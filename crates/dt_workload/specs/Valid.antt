@@ -1,7 +1,7 @@
 -- Which workloads a cluster can be given: what each call and each move needs, what a session needs, and the limits on
 -- their number. A workload file is one exactly where its lines say such a workload (`File`); whoever takes a workload may
 -- rely on all of this. Read next: `File`.
-use Rattle.std.specs.Prelude.{◌<◌, ◌≤◌, ◌==◌, ℕ, List, map, length, count_by}
+use Rattle.std.specs.Prelude.{◌<◌, ◌≤◌, ◌==◌, ℕ, List, [], ◌∷◌, ◌++◌, map, length, count_by}
 use Rattle.std.specs.List.{sum_by}
 use Rattle.dt_lists.specs.Lists.{AllIn, Distinct}
 use Rattle.dt_text.specs.Texts.{IsName}
@@ -30,6 +30,10 @@ pub record IsValidSession (cluster : Cluster) (session : Session) : Type 0 where
   pub name : IsName session.name
   pub region : session.region < cluster.regions
   pub calls : AllIn (RankedFits cluster) session.calls
+
+-- the session with one more call or move
+abbrev pub wanting : Session → Ranked → Session
+wanting session wanted = record { name = session.name; region = session.region; calls = session.calls ++ wanted ∷ [] }
 
 -- the names of sessions, in their order
 abbrev pub session_names : List Session → List Bytes

@@ -1,8 +1,9 @@
 use Rattle.std.proofs.Common.{◌≡◌, ◌%◌, ◌++◌, ◌∷◌, [], List, length, get_or, set, ap, ◌∙◌, arith, rules}
 use Rattle.dt_workload.specs.declared.Ranked.{Ranked}
 use Rattle.dt_workload.specs.declared.Session.{Session}
+use Rattle.dt_workload.specs.Valid.{wanting}
 use Rattle.dt_gen.specs.Load.{load_call, load_session}
-use Rattle.dt_gen.proofs.OneCallMore.{dealt, session_there, sessions_length, with_call}
+use Rattle.dt_gen.proofs.OneCallMore.{dealt, session_there, sessions_length}
 use Rattle.dt_gen.proofs.load.give.Goals as goal
 
 pub bounds-sessions-number : goal.bounds-sessions-number
@@ -17,7 +18,7 @@ returns c =
     let s = get_or c.args.sessions.now turn d in
     let longer : c.push.new.self ≡ s.calls ++ c.args.call ∷ [] = search rules in
     ap (λ (calls : List Ranked). set c.args.sessions.now turn (record { name = s.name; region = s.region; calls = calls })) longer
-    ∙ ap (λ (now : Session). set c.args.sessions.now turn (with_call now c.args.call)) there
-    ∙ ap (λ (call : Ranked). set c.args.sessions.now turn (with_call (load_session n turn) call)) c.requires.call
-    ∙ ap (λ (all : List Session). set all turn (with_call (load_session n turn) (load_call n))) c.requires.before
+    ∙ ap (λ (now : Session). set c.args.sessions.now turn (wanting now c.args.call)) there
+    ∙ ap (λ (call : Ranked). set c.args.sessions.now turn (wanting (load_session n turn) call)) c.requires.call
+    ∙ ap (λ (all : List Session). set all turn (wanting (load_session n turn) (load_call n))) c.requires.before
     ∙ dealt n
