@@ -6,7 +6,7 @@ use Rattle.std.proofs.Math.Seq.{map-set_same}
 use Rattle.std.proofs.lemmas.List.{get_or-map, get_or-set_other, length-append, length-map, map-append, map-set, set-get_or}
 use Rattle.std.proofs.lemmas.Option.{slice_get_within}
 use Rattle.dt_lists.specs.Lists.{AllIn, Has}
-use Rattle.dt_lists.proofs.Callers.{all_get, all_put, has_last}
+use Rattle.dt_lists.proofs.Callers.{all_get, all_put, has_last, none_in_empty}
 use Rattle.dt_waits.specs.declared.vertex.Vertex.{Vertex}
 use Rattle.dt_waits.specs.Graph.{vertex_at}
 use Rattle.dt_graph.specs.declared.kept.Kept.{Kept}
@@ -99,6 +99,10 @@ module _ (k : Kind) (states : List State) (items : List ℕ) (room : ℕ) (s : I
   module _ (place : ℕ) (is : place_of_kind k (get_or states number Neither) ≡ Some place) where
     at_place : get_or (map (place_of_kind k) states) number None ≡ Some place
     at_place = place_read k states number ∙ is
+
+    -- a list that has it isn't empty
+    pub some_in : (size : ℕ) → size ≡ 0 → ¬ (size ≡ length items)
+    some_in size none same = none_in_empty items number (seen place is) (omega (arith, none, same))
 
     -- a number is taken out that was the last one
     module _ (front : List ℕ) (e : items ≡ front ++ number ∷ []) where

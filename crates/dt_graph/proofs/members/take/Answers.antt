@@ -1,11 +1,11 @@
 use Rattle.std.proofs.Common.{◌≡◌, ◌<◌, ◌++◌, ◌∷◌, [], None, Some, get_or, length, map, set, vec_capacity, subst, sym, ap, arith, ◌∙◌}
 use Rattle.std.proofs.lemmas.List.{length-set}
 use Rattle.dt_lists.specs.Lists.{Has}
-use Rattle.dt_lists.proofs.Callers.{all_get, has_last, none_in_empty as not_empty}
+use Rattle.dt_lists.proofs.Callers.{all_get, has_last}
 use Rattle.dt_graph.specs.SubsetInner.{IsSubset}
 use Rattle.dt_graph.specs.VerticesInner.{other_kind, place_of_kind, state_of_kind}
 use Rattle.dt_graph.specs.declared.kept.State.TheVariants.{Neither}
-use Rattle.dt_graph.proofs.KeptVertices.{last_below, last_beside, members_removed, place_within, removes, removes_last, seen, taken, taken_beside, taken_last, unseen}
+use Rattle.dt_graph.proofs.KeptVertices.{last_below, last_beside, members_removed, place_within, removes, removes_last, some_in, taken, taken_beside, taken_last, unseen}
 use Rattle.dt_graph.proofs.members.take.Goals as goal
 use Rattle.dt_graph.proofs.members.take.Goals.{in-Some-pop+then-last-number, in-Some-pop+else-last-number, in_default-pop}
 
@@ -47,7 +47,7 @@ returns-clause-removed c =
       | in-Some-pop+else-last-number w ↦
           rw w.members-is (removes_last _ _ _ _ m.subset c.args.number below c.in-Some.place is front (w.in-Some-pop.ensures.items ∙ ap (λ x. front ++ x ∷ []) w.if-last-number.false))
       | in_default-pop w ↦
-          absurd (not_empty c.args.members.now.items c.args.number (seen _ _ _ _ m.subset c.args.number below c.in-Some.place is) (omega (arith, w.in_default-pop.ensures.cases.0, c.args.members.now.ok.0)))
+          absurd (some_in _ _ _ _ m.subset c.args.number below c.in-Some.place is _ w.in_default-pop.ensures.cases.0 c.args.members.now.ok.0)
     ]
 
 pub returns-clause-members : goal.returns-clause-members
@@ -85,7 +85,7 @@ returns-clause-members c =
           (subst (λ x. IsSubset front (map (place_of_kind k) x) (vec_capacity c.args.members.now)) (sym states) (taken_last _ _ _ _ m.subset n below c.in-Some.place is front is_last))
           (ap length states ∙ length-set old.states n Neither ∙ m.sizes ∙ sym (ap length vertices)) first)
       | in_default-pop w ↦
-          absurd (not_empty items n (seen _ _ _ _ m.subset n below c.in-Some.place is) (omega (arith, w.in_default-pop.ensures.cases.0, c.args.members.now.ok.0)))
+          absurd (some_in _ _ _ _ m.subset n below c.in-Some.place is _ w.in_default-pop.ensures.cases.0 c.args.members.now.ok.0)
     ]
 
 pub returns-clause-others : goal.returns-clause-others
@@ -108,5 +108,5 @@ returns-clause-others c =
           e ∙ ap (λ r. places (set r.states n Neither)) w.records-is
           ∙ last_beside _ _ _ _ m.subset n below c.in-Some.place is front (w.in-Some-pop.ensures.items ∙ ap (λ x. front ++ x ∷ []) w.if-last-number.false)
       | in_default-pop w ↦
-          absurd (not_empty items n (seen _ _ _ _ m.subset n below c.in-Some.place is) (omega (arith, w.in_default-pop.ensures.cases.0, c.args.members.now.ok.0)))
+          absurd (some_in _ _ _ _ m.subset n below c.in-Some.place is _ w.in_default-pop.ensures.cases.0 c.args.members.now.ok.0)
     ]
