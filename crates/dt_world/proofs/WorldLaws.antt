@@ -33,6 +33,10 @@ pub record IsMade (cluster : Cluster) (sessions : WorldSessions) (sites : List S
   pub lawful : IsLawful cluster later after (steps + 1)
   pub is : view_in cluster later after (steps + 1) ≡ made (view_in cluster sessions sites steps) event
 
+-- the same of a world that is known to be lawful, where a session of one region went on
+abbrev pub SessionStepOf : {cluster : Cluster} {sessions : WorldSessions} {sites : List SiteView} {steps : ℕ} → IsLawful cluster sessions sites steps → Event → ℕ → SessionsView → List SiteView → Type 0
+SessionStepOf {cluster} {sessions} {sites} {steps} k event region new after = IsMade cluster sessions sites steps event (record sessions { by_region = set sessions.by_region region new }) after
+
 -- so it is for the world as it was seen before
 pub made_before : {cluster : Cluster} {sessions : WorldSessions} {sites : List SiteView} {steps : ℕ} {event : Event} {later : WorldSessions} {after : List SiteView} {now : WorldView}
     → view_in cluster sessions sites steps ≡ now → IsMade cluster sessions sites steps event later after

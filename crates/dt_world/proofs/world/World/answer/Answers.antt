@@ -7,10 +7,10 @@ use Rattle.dt_world.specs.WorldInner.{MayBeTold, view_in}
 use Rattle.dt_world.proofs.OneSite.{same_lawful, same_view, stamp_here}
 use Rattle.dt_world.proofs.Rule7Answer.{answer_refused, answers_made, may_end}
 use Rattle.dt_world.proofs.WorldFacts.{HasRead, away_told, has_read, of_told, sessions_at_place, some_sessions, stands_again, steps_few, told_of}
-use Rattle.dt_world.proofs.WorldLaws.{SiteOf, a_site, behind, holds_site, made_before, out_of_memory}
+use Rattle.dt_world.proofs.WorldLaws.{SessionStepOf, SiteOf, a_site, behind, holds_site, made_before, out_of_memory, with_region}
 use Rattle.dt_world.proofs.world.World.answer.Given.{Over}
 use Rattle.dt_world.proofs.world.World.answer.Goals as goal
-use Rattle.dt_world.proofs.world.World.answer.Goals.{After-behind-self-2, After-index_mut-2, After-last_outcome_at-last}
+use Rattle.dt_world.proofs.world.World.answer.Goals.{After-answer_at, After-behind-self-2, After-index_mut-2, After-last_outcome_at-last}
 
 -- what the call reads at the region
 read : (g : Over) (c : After-last_outcome_at-last g) →
@@ -77,28 +77,26 @@ returns-in_err-answer g c =
 pub index-requires-3 : goal.index-requires-3
 index-requires-3 g c = let here : c.args.region < length c.self.inside.sites.items = a_site c.self.invariant c.if-region-self.false in grind (arith, common_steps, here)
 
-pub invariant_of-self-2 : goal.invariant_of-self-2
-invariant_of-self-2 g c =
+-- the event is made: the session is answered
+answered : (g : Over) (c : After-answer_at g) (here : SiteOf c.self.invariant c.args.region c.behind-self-2.inside.region c.behind-self-2.inside.origins.items)
+    (told : let w = c.self.inside in MayBeTold (view_in w.cluster (record { workload = w.workload; by_region = w.sessions.items }) w.sites.items w.steps) c.args.region c.args.name.now) →
+    StandsAt c.index_mut-2.result.now c.in-Some.place c.args.name.now →
+    SessionStepOf c.self.invariant (Answer c.args.region c.args.name.now) c.args.region c.answer_at.new.self (with_region c.self.inside.sites.items c.args.region c.answer.new.self c.behind-self-2.inside.origins.items)
+answered g c here told at =
     let name = c.args.name.now in
-    let here = site g (goal.at.invariant_of-self-2 g c).After-behind-self-2 in
-    let told = may g (goal.at.invariant_of-self-2 g c).After-behind-self-2 in
-    let at = stands g (goal.at.invariant_of-self-2 g c).After-index_mut-2 in
     let again = stands_again c.self.inside.sessions.items c.args.region (some_sessions c.self.invariant c.self.view_is c.if-region-self.false) c.index-sessions.result.now c.index-2.result.now
     c.index-sessions.ensures c.index-2.ensures c.in-Some.place name c.in-Some.ensures in
     let can = may_end here name told c.answer.new.self c.in_ok-answer.ensures.makes c.index_mut-2.result.now c.index_mut-2.ensures.value
     c.index-3.ensures c.behind-self-3.view_is c.index-2.result.now c.index-2.ensures _ (c.last_outcome_at-last-2.ensures.outcome name again) in
-    (answers_made here name told c.answer.new.self c.in_ok-answer.ensures.makes c.index_mut-2.result.now c.index_mut-2.ensures.value
-    c.answer_at.new.self (c.answer_at.ensures.answered ((c.answer_at.ensures.legal name at).1 can) name at)).lawful
+    answers_made here name told c.answer.new.self c.in_ok-answer.ensures.makes c.index_mut-2.result.now c.index_mut-2.ensures.value
+    c.answer_at.new.self (c.answer_at.ensures.answered ((c.answer_at.ensures.legal name at).1 can) name at)
+
+pub invariant_of-self-2 : goal.invariant_of-self-2
+invariant_of-self-2 g c =
+    let p = goal.at.invariant_of-self-2 g c in
+    (answered g p.After-answer_at (site g p.After-behind-self-2) (may g p.After-behind-self-2) (stands g p.After-index_mut-2)).lawful
 
 pub returns : goal.returns
 returns g c =
-    let name = c.args.name.now in
-    let here = site g (goal.at.returns g c).After-behind-self-2 in
-    let told = may g (goal.at.returns g c).After-behind-self-2 in
-    let at = stands g (goal.at.returns g c).After-index_mut-2 in
-    let again = stands_again c.self.inside.sessions.items c.args.region (some_sessions c.self.invariant c.self.view_is c.if-region-self.false) c.index-sessions.result.now c.index-2.result.now
-    c.index-sessions.ensures c.index-2.ensures c.in-Some.place name c.in-Some.ensures in
-    let can = may_end here name told c.answer.new.self c.in_ok-answer.ensures.makes c.index_mut-2.result.now c.index_mut-2.ensures.value
-    c.index-3.ensures c.behind-self-3.view_is c.index-2.result.now c.index-2.ensures _ (c.last_outcome_at-last-2.ensures.outcome name again) in
-    made_before c.self.view_is (answers_made here name told c.answer.new.self c.in_ok-answer.ensures.makes
-    c.index_mut-2.result.now c.index_mut-2.ensures.value c.answer_at.new.self (c.answer_at.ensures.answered ((c.answer_at.ensures.legal name at).1 can) name at))
+    let p = goal.at.returns g c in
+    made_before c.self.view_is (answered g p.After-answer_at (site g p.After-behind-self-2) (may g p.After-behind-self-2) (stands g p.After-index_mut-2))

@@ -1,16 +1,17 @@
 use Rattle.std.proofs.lemmas.Grind.{common_steps}
-use Rattle.std.proofs.Common.{◌<◌, Some, None, length, refl, ap, subst, arith}
+use Rattle.std.proofs.Common.{◌<◌, Some, None, length, set, refl, ap, subst, arith}
 use Rattle.dt_access.specs.Clash.{Bytes}
+use Rattle.dt_events.specs.declared.Event.TheVariants.{Submit}
 use Rattle.dt_session.specs.Sessions.{StandsAt}
 use Rattle.dt_site.specs.NextAttempt.{IsNextHere, last_here}
 use Rattle.dt_site.specs.Site.{SiteView}
 use Rattle.dt_world.proofs.OneSite.{put_back, stamp_left}
 use Rattle.dt_world.proofs.Rule1Submit.{SubmitsAt, may_wait, submit_fits, submit_place, submit_rank, submit_refused, submits_at, waits_made}
 use Rattle.dt_world.proofs.WorldFacts.{HasRead, has_next_call, has_read, next_of, some_sessions, stands_again, steps_few}
-use Rattle.dt_world.proofs.WorldLaws.{a_site, behind, made_before}
+use Rattle.dt_world.proofs.WorldLaws.{SessionStepOf, a_site, behind, made_before}
 use Rattle.dt_world.proofs.world.World.submit.Given.{Over}
 use Rattle.dt_world.proofs.world.World.submit.Goals as goal
-use Rattle.dt_world.proofs.world.World.submit.Goals.{After-index_mut, After-index_mut-2, After-site}
+use Rattle.dt_world.proofs.world.World.submit.Goals.{After-index_mut, After-index_mut-2, After-site, After-wait_at}
 
 -- what the call reads at the region of a session
 read : (g : Over) (c : After-site g) (name : Bytes) →
@@ -89,16 +90,21 @@ wait_at-requires g c =
     c.index-2.ensures c.behind-self.view_is c.index.result.now c.index.ensures _ (c.last_outcome_at-last.ensures.outcome name again) in
     (name, stands g c, may)
 
+-- the event is made: the session waits for what was submitted
+waits : (g : Over) (c : After-wait_at g)
+    (at : let w = c.self.inside in SubmitsAt w.cluster (record { workload = w.workload; by_region = w.sessions.items }) w.sites.items w.steps c.args.region c.args.name.now c.index_mut.result.now
+    c.in-Some-next.origin c.in-Some-next.rank c.in-Some-next.body) → StandsAt c.index_mut-2.result.now c.in-Some.place c.args.name.now →
+    SessionStepOf c.self.invariant (Submit c.args.region c.args.name.now) c.args.region c.wait_at.new.self (set c.self.inside.sites.items c.args.region c.submit.new.self)
+waits g c at here =
+    waits_made at c.in_ok-id.id c.submit.new.self c.in_ok-id.ensures.makes c.index_mut-2.result.now c.index_mut-2.ensures.value
+    c.in_ok-id.ensures.sound c.wait_at.new.self (c.wait_at.ensures c.args.name.now here)
+
 pub invariant_of-self-2 : goal.invariant_of-self-2
 invariant_of-self-2 g c =
-    let at = submits g (goal.at.invariant_of-self-2 g c).After-index_mut in
-    let here = stands g (goal.at.invariant_of-self-2 g c).After-index_mut-2 in
-    (waits_made at c.in_ok-id.id c.submit.new.self c.in_ok-id.ensures.makes c.index_mut-2.result.now c.index_mut-2.ensures.value
-    c.in_ok-id.ensures.sound c.wait_at.new.self (c.wait_at.ensures c.args.name.now here)).lawful
+    let p = goal.at.invariant_of-self-2 g c in
+    (waits g p.After-wait_at (submits g p.After-index_mut) (stands g p.After-index_mut-2)).lawful
 
 pub returns : goal.returns
 returns g c =
-    let at = submits g (goal.at.returns g c).After-index_mut in
-    let here = stands g (goal.at.returns g c).After-index_mut-2 in
-    made_before c.self.view_is (waits_made at c.in_ok-id.id c.submit.new.self c.in_ok-id.ensures.makes
-    c.index_mut-2.result.now c.index_mut-2.ensures.value c.in_ok-id.ensures.sound c.wait_at.new.self (c.wait_at.ensures c.args.name.now here))
+    let p = goal.at.returns g c in
+    made_before c.self.view_is (waits g p.After-wait_at (submits g p.After-index_mut) (stands g p.After-index_mut-2))
