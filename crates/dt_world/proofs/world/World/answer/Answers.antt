@@ -78,11 +78,11 @@ pub index-requires-3 : goal.index-requires-3
 index-requires-3 g c = let here : c.args.region < length c.self.inside.sites.items = a_site c.self.invariant c.if-region-self.false in grind (arith, common_steps, here)
 
 -- the event is made: the session is answered
-answered : (g : Over) (c : After-answer_at g) (here : SiteOf c.self.invariant c.args.region c.behind-self-2.inside.region c.behind-self-2.inside.origins.items)
+ended : (g : Over) (c : After-answer_at g) (here : SiteOf c.self.invariant c.args.region c.behind-self-2.inside.region c.behind-self-2.inside.origins.items)
     (told : let w = c.self.inside in MayBeTold (view_in w.cluster (record { workload = w.workload; by_region = w.sessions.items }) w.sites.items w.steps) c.args.region c.args.name.now) →
     StandsAt c.index_mut-2.result.now c.in-Some.place c.args.name.now →
     SessionStepOf c.self.invariant (Answer c.args.region c.args.name.now) c.args.region c.answer_at.new.self (with_region c.self.inside.sites.items c.args.region c.answer.new.self c.behind-self-2.inside.origins.items)
-answered g c here told at =
+ended g c here told at =
     let name = c.args.name.now in
     let again = stands_again c.self.inside.sessions.items c.args.region (some_sessions c.self.invariant c.self.view_is c.if-region-self.false) c.index-sessions.result.now c.index-2.result.now
     c.index-sessions.ensures c.index-2.ensures c.in-Some.place name c.in-Some.ensures in
@@ -94,9 +94,9 @@ answered g c here told at =
 pub invariant_of-self-2 : goal.invariant_of-self-2
 invariant_of-self-2 g c =
     let p = goal.at.invariant_of-self-2 g c in
-    (answered g p.After-answer_at (site g p.After-behind-self-2) (may g p.After-behind-self-2) (stands g p.After-index_mut-2)).lawful
+    (ended g p.After-answer_at (site g p.After-behind-self-2) (may g p.After-behind-self-2) (stands g p.After-index_mut-2)).lawful
 
 pub returns : goal.returns
 returns g c =
     let p = goal.at.returns g c in
-    made_before c.self.view_is (answered g p.After-answer_at (site g p.After-behind-self-2) (may g p.After-behind-self-2) (stands g p.After-index_mut-2))
+    made_before c.self.view_is (ended g p.After-answer_at (site g p.After-behind-self-2) (may g p.After-behind-self-2) (stands g p.After-index_mut-2))
