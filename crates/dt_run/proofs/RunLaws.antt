@@ -39,6 +39,10 @@ use Rattle.dt_run.proofs.Laws.{are_kept, merge_changes, merge_keeps, merge_legal
 use Rattle.dt_run.proofs.TurnsInOrder.{good_world}
 use Rattle.dt_run.proofs.SitesAfter.{sites_stand}
 
+-- what was merged of the nodes as they are seen was merged of the nodes
+pub merged_of_seen : {v seen : NodesView} {events found : List Event} → v ≡ seen → events ≡ found → AreMerged (kept_by seen.nodes) found → AreMerged (kept_by v.nodes) events
+merged_of_seen {events = events} is same merged = subst (λ (w : NodesView). AreMerged (kept_by w.nodes) events) (sym is) (subst (AreMerged _) (sym same) merged)
+
 -- the events of a region, with or without their stamps
 events_at_region : (region : ℕ) (items : List Stamped) → filter (λ event. eqb (region_of event) region) (events_of items) ≡ events_of (those_at region items)
 events_at_region region [] = refl
