@@ -10,9 +10,9 @@ use Rattle.std.specs.declared.cmp.Ordering.TheVariants.{Less, Equal, Greater}
 use Rattle.std.specs.Cmp.Lexicographic.{slice_cmp, pointwise, nat_list_cmp_total, bytes_decides}
 use Rattle.std.proofs.lemmas.Map.Lookups.{exact_unsigned}
 use Rattle.std.proofs.lemmas.Bool.{or_left, or_right, or_cases}
-use Rattle.std.proofs.lemmas.List.{take-append-drop, append-nil}
+use Rattle.std.proofs.lemmas.List.{take-append-drop, append-nil, take_rest}
 use Rattle.dt_lists.specs.Lists.{AnyIn, Has}
-use Rattle.dt_lists.proofs.Callers.{all_get, any_get, any_append_right, any_of_test, test_of_any, all_index, rest_from}
+use Rattle.dt_lists.proofs.Callers.{all_get, any_get, any_append_right, any_of_test, test_of_any, all_index}
 use Rattle.dt_access.specs.declared.access.Mode.{Mode}
 use Rattle.dt_access.specs.Granules.{Bytes, granule_of}
 use Rattle.dt_access.specs.Clash.{same_key}
@@ -181,11 +181,11 @@ found xs i j g asc ends rows = same_tests (begins_with (drop i xs) g || begins_w
 pub found_at_first : (xs : List (Bytes × Mode)) (i j : ℕ) (g : Bytes) (first : Bool) → HasAscendingKeys xs → EndsAt g xs i → EndsAt (g ++ 47 ∷ []) xs j
     → first ≡ begins_with (take (length xs - i) (drop i xs)) g → first ≡ true → first ≡ has_granule xs g
 found_at_first xs i j g first asc ends rows is passes =
-    let shown : begins_with (drop i xs) g ≡ true = ap (λ ys. begins_with ys g) (sym (rest_from xs i)) ∙ sym is ∙ passes in
+    let shown : begins_with (drop i xs) g ≡ true = ap (λ ys. begins_with ys g) (sym (take_rest xs i)) ∙ sym is ∙ passes in
     passes ∙ sym (or_left _ (begins_with (drop j xs) g) shown) ∙ found xs i j g asc ends rows
 
 pub found_at_second : (xs : List (Bytes × Mode)) (i j : ℕ) (g : Bytes) (first second : Bool) → HasAscendingKeys xs → EndsAt g xs i → EndsAt (g ++ 47 ∷ []) xs j
     → first ≡ begins_with (take (length xs - i) (drop i xs)) g → first ≡ false → second ≡ begins_with (take (length xs - j) (drop j xs)) g → second ≡ has_granule xs g
 found_at_second xs i j g first second asc ends rows is fails then =
-    let none : begins_with (drop i xs) g ≡ false = ap (λ ys. begins_with ys g) (sym (rest_from xs i)) ∙ sym is ∙ fails in
-    then ∙ ap (λ ys. begins_with ys g) (rest_from xs j) ∙ ap (λ t. t || begins_with (drop j xs) g) (sym none) ∙ found xs i j g asc ends rows
+    let none : begins_with (drop i xs) g ≡ false = ap (λ ys. begins_with ys g) (sym (take_rest xs i)) ∙ sym is ∙ fails in
+    then ∙ ap (λ ys. begins_with ys g) (take_rest xs j) ∙ ap (λ t. t || begins_with (drop j xs) g) (sym none) ∙ found xs i j g asc ends rows

@@ -1,7 +1,6 @@
 -- Events, each tried after those before it.
 use Rattle.std.proofs.Common.{◌≡◌, ℕ, ◌+◌, ◌<◌, List, [], ◌∷◌, ◌++◌, length, get_or, take, drop, map, ap, sym, ◌∙◌, subst, refl}
-use Rattle.std.proofs.lemmas.List.{take_more, drop_more, get_or-map, length-map, take-append-drop, take-map}
-use Rattle.dt_lists.proofs.Callers.{same_inside}
+use Rattle.std.proofs.lemmas.List.{take_more, drop_more, get_or-map, length-map, take-append-drop, take-map, get_or_default}
 use Rattle.dt_events.specs.declared.Event.{Event}
 use Rattle.dt_cluster.specs.declared.Cluster.{Cluster}
 use Rattle.dt_workload.specs.declared.Workload.{Workload}
@@ -113,7 +112,7 @@ refused_by cluster workload events line (errors.NoMemory) first = tt
 pub inside_any : (numbered : List (ℕ × Event)) (i a b : ℕ) → i < length (unnumbered numbered) → get_or (map (λ (event : ℕ × Event). event.0) numbered) i a ≡ get_or (map (λ (event : ℕ × Event). event.0) numbered) i b
 inside_any numbered i a b within =
     let as_many : length (unnumbered numbered) ≡ length (map number numbered) = length-map numbered (λ (event : ℕ × Event). event.1) ∙ sym (length-map numbered number) in
-    same_inside (map number numbered) i a b (subst (λ n. i < n) as_many within)
+    get_or_default (map number numbered) i a b (subst (λ n. i < n) as_many within)
   where
     number : ℕ × Event → ℕ
     number event = event.0

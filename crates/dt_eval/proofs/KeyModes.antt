@@ -2,7 +2,7 @@
 use Rattle.std.proofs.Common.{◌≡◌, ◌<◌, ◌≤◌, ◌+◌, ◌||◌, ℕ, if◌then◌else◌, length, take, drop, set, ◌++◌, ap₂, arith, zero, suc, Bool, true, false, List, []}
 use Rattle.std.proofs.Common.{◌∷◌, get_or, refl, sym, ap, subst, ◌∙◌}
 use Rattle.std.proofs.Math.Seq.{drop-cons}
-use Rattle.std.proofs.lemmas.List.{take_all, drop_all}
+use Rattle.std.proofs.lemmas.List.{take_all, drop_all, set_split}
 use Rattle.std.specs.Ordering.{nat_cmp}
 use Rattle.std.specs.declared.cmp.Ordering.{Ordering}
 use Rattle.std.specs.declared.cmp.Ordering.TheVariants.{Less, Equal, Greater}
@@ -55,11 +55,6 @@ moded_use (v ∷ vs) u = go (slice_cmp nat_cmp u.0 v.0) (moded_use vs u)
 
 -- a use that is put in at a place
 
-set_cut : {A : Type 0} (xs : List A) (i : ℕ) (x : A) → i < length xs → set xs i x ≡ take i xs ++ x ∷ drop (suc i) xs
-set_cut [] i x below = absurd (omega arith)
-set_cut (y ∷ xs) zero x below = refl
-set_cut (y ∷ xs) (suc i) x below = ap (λ ys. y ∷ ys) (set_cut xs i x (omega arith))
-
 module _ (xs : List Moded) (i : ℕ) (v : Moded) (u : Bytes × Bool) (below : i < length xs) (is : v ≡ get_or xs i v) (further : with_mode xs u ≡ take i xs ++ with_mode (drop i xs) u) where
   cut : drop i xs ≡ v ∷ drop (suc i) xs
   cut = drop-cons xs i v below ∙ ap (λ x. x ∷ drop (suc i) xs) (sym is)
@@ -71,7 +66,7 @@ module _ (xs : List Moded) (i : ℕ) (v : Moded) (u : Bytes × Bool) (below : i 
   use_before e = ap (λ ys. take i xs ++ (u.0, mode_of u.1) ∷ ys) cut ∙ sym (placed_at Less e)
 
   pub use_same : slice_cmp nat_cmp u.0 v.0 ≡ Equal → set xs i (v.0, if u.1 then Write else v.1) ≡ with_mode xs u
-  use_same e = set_cut xs i (v.0, if u.1 then Write else v.1) below ∙ sym (placed_at Equal e)
+  use_same e = set_split xs i (v.0, if u.1 then Write else v.1) below ∙ sym (placed_at Equal e)
 
 pub use_last : (xs : List Moded) (i : ℕ) (u : Bytes × Bool) → length xs ≤ i → with_mode xs u ≡ take i xs ++ with_mode (drop i xs) u → xs ++ (u.0, mode_of u.1) ∷ [] ≡ with_mode xs u
 use_last xs i u past further = sym (further ∙ ap₂ (λ ys zs. ys ++ with_mode zs u) (take_all i xs past) (drop_all i xs past))

@@ -4,6 +4,7 @@ use Rattle.std.specs.Prelude.{Option}
 use Rattle.std.proofs.lemmas.List.{get_or-map, length-map, length-set}
 use Rattle.std.proofs.Math.Seq.{map-set_same}
 use Rattle.dt_lists.specs.Lists.{AllIn, EachThen}
+use Rattle.dt_lists.proofs.Callers.{all_or}
 use Rattle.dt_text.specs.declared.Value.{Value}
 use Rattle.dt_access.specs.Clash.{Bytes, same_key}
 use Rattle.dt_access.specs.Orders.{KeyBefore}
@@ -12,17 +13,12 @@ use Rattle.dt_eval.specs.declared.state.Row.{Row}
 use Rattle.dt_eval.specs.Data.{declared_key, value_in, changed, with_value}
 use Rattle.dt_eval.specs.Data.{keys_in, names_at}
 
-before_at : (key : Bytes) (keys : List Bytes) (p : ℕ) → p < length keys → AllIn (KeyBefore key) keys → KeyBefore key (get_or keys p [])
-before_at key [] p below all = absurd (omega arith)
-before_at key (k ∷ keys) zero below all = all.0
-before_at key (k ∷ keys) (suc p) below all = before_at key keys p (omega arith) all.1
-
 below_keys : (rows : List Row) (p : ℕ) → p < length rows → p < length (keys_in rows)
 below_keys rows p below = subst (λ n. p < n) (sym (length-map rows (λ (r : Row). r.key))) below
 
 -- the key at a place behind the first row is not the first row's
 behind_first : (r : Row) (rows : List Row) (p : ℕ) → p < length rows → AllIn (KeyBefore r.key) (keys_in rows) → same_key (get_or (keys_in rows) p []) r.key ≡ false
-behind_first r rows p within behind = same_key_after (get_or (keys_in rows) p []) r.key (before_at r.key (keys_in rows) p (below_keys rows p within) behind)
+behind_first r rows p within behind = same_key_after (get_or (keys_in rows) p []) r.key (all_or (KeyBefore r.key) (keys_in rows) p [] behind (below_keys rows p within))
 
 value_at : (rows : List Row) (p : ℕ) (d : Row) → p < length rows → EachThen KeyBefore (keys_in rows) → value_in rows (get_or (keys_in rows) p []) ≡ (get_or rows p d).value
 value_at [] p d below each = absurd (omega arith)

@@ -2,10 +2,10 @@
 use Rattle.std.proofs.Common.{◌≡◌, ◌+◌, ◌<◌, ◌∙◌, ℕ, List, drop, length, get_or, sym, ap, subst, arith}
 use Rattle.std.proofs.lemmas.List.Sums.{sum_by-cons}
 use Rattle.std.specs.List.{sum_by}
+use Rattle.std.proofs.lemmas.List.{drop_more}
 use Rattle.dt_queue.specs.Queues.{Waiting}
 use Rattle.dt_waits.specs.Waits.{lowered, slots_of}
 use Rattle.dt_graph.specs.SmallStepsInner.{AreLowered}
-use Rattle.dt_graph.proofs.WalkByPlaces.{left_at}
 
 -- degrees are lowered item by item: with what those that are left are still to take from it each degree is what it was, but
 -- for what all of them take
@@ -22,7 +22,7 @@ pub lowered_next : (takes : ℕ → ℕ → ℕ) (items : List ℕ) (place : ℕ
     → AreLowered (takes (get_or items place 0)) now next → IsLoweringBy takes items (drop (place + 1) items) old next
 lowered_next takes items place lt old now next l a = record {
   size = a.0 ∙ l.size;
-  still = λ v lv. taken _ _ _ _ _ _ _ (l.still v lv) (ap (sum_by (λ x. takes x v)) (left_at items place lt) ∙ sum_by-cons (λ x. takes x v) (get_or items place 0) (drop (place + 1) items))
+  still = λ v lv. taken _ _ _ _ _ _ _ (l.still v lv) (ap (sum_by (λ x. takes x v)) (drop_more items place 0 lt) ∙ sum_by-cons (λ x. takes x v) (get_or items place 0) (drop (place + 1) items))
       (a.1 v (subst (λ n. v < n) (sym l.size) lv));
 }
   where

@@ -3,7 +3,7 @@ use Rattle.std.proofs.Common.{◌≡◌, ◌+◌, ◌<◌, ◌≤◌, ◌⊎◌,
 use Rattle.std.proofs.Common.{None, Some, IsPermutation, IsSorted, refl, sym, ap, ap₂, subst, inl, inr, eqb-true, eq-eqb, arith}
 use Rattle.std.proofs.lemmas.Bool.{and_from, and_parts}
 use Rattle.std.proofs.lemmas.Bool.Decides.{nat_tests}
-use Rattle.std.proofs.lemmas.List.{append-nil, map-append, take_more}
+use Rattle.std.proofs.lemmas.List.{append-nil, map-append, take_all, take_more}
 use Rattle.std.proofs.lemmas.List.Sorted.{IsPermutation-map}
 use Rattle.std.specs.Ordering.{nat_cmp, ordering_then, is_lt}
 use Rattle.std.specs.declared.cmp.Ordering.{Ordering}
@@ -18,7 +18,7 @@ use Rattle.dt_waits.specs.Graph.{GraphView, vertex_at}
 use Rattle.dt_graph.specs.SubsetInner.{StandsAtPlace}
 use Rattle.dt_waits.specs.Steps.{RunInOrder, RunsBefore}
 use Rattle.dt_waits.specs.Waits.{id_at}
-use Rattle.dt_waits.proofs.Callers.{at_named, take_all}
+use Rattle.dt_waits.proofs.Callers.{at_named}
 
 -- the member is a vertex of the graph, with its id and its rank
 abbrev pub IsMemberOf : GraphView → Member → Type 0

@@ -1,20 +1,13 @@
 -- A walk along a list by its places: the item at a place stands between those before it and those after it.
-use Rattle.std.proofs.Common.{◌≡◌, ◌<◌, ◌⊎◌, ◌↔◌, ◌+◌, ◌∙◌, ℕ, suc, List, [], ◌∷◌, ◌++◌, length, get_or, take, drop, refl, sym, ap, subst, inl, inr, arith}
-use Rattle.std.proofs.Math.Seq.{drop-cons}
+use Rattle.std.proofs.Common.{◌≡◌, ◌<◌, ◌⊎◌, ◌↔◌, ◌+◌, ℕ, List, [], ◌∷◌, ◌++◌, length, get_or, take, drop, refl, sym, subst, inl, inr}
 use Rattle.std.proofs.lemmas.Grind.{take_at_read}
+use Rattle.std.proofs.lemmas.List.{drop_more}
 use Rattle.dt_lists.specs.Lists.{Has}
 use Rattle.dt_lists.proofs.Callers.{any_append, any_append_left, any_append_right}
 
--- what is left at a place is the item there and what is left after it
-pub left_at : (items : List ℕ) (place : ℕ) → place < length items → drop place items ≡ get_or items place 0 ∷ drop (place + 1) items
-left_at items place lt = drop-cons items place 0 lt ∙ ap (λ n. get_or items place 0 ∷ drop n items) (one_more place)
-  where
-    one_more : (n : ℕ) → suc n ≡ n + 1
-    one_more n = omega arith
-
 -- and the item there is one of what is left
 pub next_in : (items : List ℕ) (place : ℕ) → place < length items → Has (drop place items) (get_or items place 0)
-next_in items place lt = subst (λ l. Has l (get_or items place 0)) (sym (left_at items place lt)) (inl refl)
+next_in items place lt = subst (λ l. Has l (get_or items place 0)) (sym (drop_more items place 0 lt)) (inl refl)
 
 -- an item is in what is passed after a place where it is in what was passed before, or is the item there
 pub passed_at : (items : List ℕ) (place : ℕ) → place < length items → (v : ℕ) → Has (take (place + 1) items) v ↔ Has (take place items) v ⊎ (get_or items place 0 ≡ v)

@@ -1,4 +1,4 @@
--- What a caller's proof needs of lists: some items, each item, fronts, places, searches, filters, what is decided, chains, and sorts.
+-- What a caller's proof needs of lists: some items, each item, fronts, places, searches, filters, what is decided, chains, sums, and sorts.
 -- All other lemmas of this crate are its own.
 pub use Rattle.dt_lists.proofs.Words.{all_any, all_append, all_append_left, all_append_right, all_at, all_get, all_image, all_map, all_of_image}
 pub use Rattle.dt_lists.proofs.Words.{all_put, any_append, any_append_left, any_append_right, any_at, any_from_at, any_get, any_image, any_map}
@@ -18,8 +18,8 @@ pub use Rattle.dt_lists.proofs.Before.{get_filtered, get_front, get_seam, has_be
 pub use Rattle.dt_lists.proofs.Filters.{filter_all, filter_before, filter_each, filter_whole, has_filter, of_filter}
 pub use Rattle.dt_lists.proofs.Places.{all_more, any_in_joined, any_of_joined, at_place, distinct_by_key, each_of_set, field_of_set, flat_map_of_set}
 pub use Rattle.dt_lists.proofs.Places.{from_item, from_right, get_of_replicate, has_at, has_last, has_longer, has_more, has_of_filtered, has_place}
-pub use Rattle.dt_lists.proofs.Places.{all_index, all_or, all_set, has_dropped, last_place, none_in_empty, rest_from, one_place, place_in_longer, place_in_more, place_of}
-pub use Rattle.dt_lists.proofs.Places.{all_of_places, at_back, same_inside}
+pub use Rattle.dt_lists.proofs.Places.{all_index, all_or, all_set, has_dropped, last_place, none_in_empty, one_place, place_in_longer, place_in_more, place_of}
+pub use Rattle.dt_lists.proofs.Places.{all_of_places, at_back}
 pub use Rattle.dt_lists.proofs.Searches.{Tells, added_new, found_at, lookup_has, missed, not_some, tells_number}
 pub use Rattle.dt_lists.proofs.Chains.{chain_before, chain_decided, chain_join, chain_keeps, chain_map, chain_step, chain_takes_back, chain_turned}
 pub use Rattle.dt_lists.proofs.Changes.{both_empty, joined_more, joined_none, none_some, same_head, same_rest, same_tail, set_beside, set_here, some_same}

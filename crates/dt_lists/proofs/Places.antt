@@ -1,9 +1,9 @@
 -- Lists by place: an item is put in or added at the end; and what is said of a list by its last item.
 use Rattle.std.proofs.Common.{◌≡◌, ◌<◌, ◌⊎◌, ℕ, zero, suc, Bool, true, false, List, [], ◌∷◌, ◌++◌, length, get_or, drop, set, replicate, slice_index_or}
-use Rattle.std.proofs.Common.{flat_map, slice_get, take, ◌-◌, ◌+◌, ◌∙◌, Some, refl, sym, ap, subst, inl, inr, append_assoc, append-nil, length-drop, arith}
+use Rattle.std.proofs.Common.{flat_map, slice_get, ◌-◌, ◌+◌, ◌∙◌, Some, refl, sym, ap, subst, inl, inr, append_assoc, append-nil, arith}
 use Rattle.std.specs.Prelude.{filter}
 use Rattle.std.proofs.lemmas.Bool.{cases_Bool}
-use Rattle.std.proofs.lemmas.List.{drop_more, length-append, take_all}
+use Rattle.std.proofs.lemmas.List.{drop_more, length-append}
 use Rattle.dt_lists.specs.Lists.{AnyIn, AllIn, Has, Distinct}
 use Rattle.dt_lists.proofs.Words.{any_append, any_append_left, any_append_right, all_append, all_get, all_put}
 use Rattle.dt_lists.proofs.Filters.{has_filter, of_filter}
@@ -15,10 +15,6 @@ from_right {A = A} P none more xs = go [] xs none
     go : (front rest : List A) → P front → P (front ++ rest)
     go front [] p = subst P (sym (append-nil front)) p
     go front (x ∷ rest) p = subst P (append_assoc front (x ∷ []) rest) (go (front ++ x ∷ []) rest (more front x p))
-
--- the rest of a list from a place on, as a slice has it
-pub rest_from : {A : Type 0} (xs : List A) (i : ℕ) → take (length xs - i) (drop i xs) ≡ drop i xs
-rest_from xs i = take_all (length xs - i) (drop i xs) (omega (arith, length-drop i xs))
 
 -- the rest of a list from an item on begins with that item
 pub from_item : {A : Type 0} (xs : List A) (i : ℕ) (x d : A) → i < length xs → x ≡ get_or xs i d → drop i xs ≡ x ∷ drop (i + 1) xs
@@ -106,12 +102,6 @@ all_or P (x ∷ xs) (suc i) d all lt = all_or P xs i d all.1 (omega arith)
 pub all_of_places : {A : Type 0} (P : A → Type 0) (d : A) (xs : List A) → ((i : ℕ) → i < length xs → P (get_or xs i d)) → AllIn P xs
 all_of_places P d [] f = tt
 all_of_places P d (x ∷ xs) f = (f zero (omega arith), all_of_places P d xs (λ i lt. f (suc i) (omega (arith, lt))))
-
--- what stands at a place of a list hangs on no other value
-pub same_inside : {A : Type 0} (xs : List A) (i : ℕ) (a b : A) → i < length xs → get_or xs i a ≡ get_or xs i b
-same_inside [] i a b lt = absurd (omega (arith, lt))
-same_inside (x ∷ xs) zero a b lt = refl
-same_inside (x ∷ xs) (suc i) a b lt = same_inside xs i a b (omega (arith, lt))
 
 -- what stands in the rest of a list stands in the list
 pub has_dropped : {A : Type 0} (n : ℕ) (xs : List A) (x : A) → Has (drop n xs) x → Has xs x

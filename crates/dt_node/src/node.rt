@@ -4,11 +4,11 @@ ghost use Rattle.dt_txn.specs.Replica.{IsDrained};
 ghost use Rattle.dt_region.specs.Rounds.{Continues};
 ghost use Rattle.dt_cluster.specs.Valid.{IsValidCluster};
 ghost use Rattle.dt_workload.specs.Valid.{IsValidWorkload};
-ghost use Rattle.dt_node.specs.NodeView.{new_items, opening_node_of};
+ghost use Rattle.dt_node.specs.NodeView.{opening_node_of};
 ghost use Rattle.dt_node.specs.TurnPackets.{HasSent, LeavesNothingOut};
 ghost use Rattle.dt_node.specs.NodeInWorld.{NodeStands};
 ghost use Rattle.dt_node.specs.Steps.{HasMadePasses, HasTurned, IsPass};
-ghost use Rattle.dt_node.specs.Turn.{AreBrought, BeginsEagerly, HasGone, HasTaken, IsSettled, MovesOn, StampsRise};
+ghost use Rattle.dt_node.specs.Turn.{BeginsEagerly, HasTaken, IsSettled, MovesOn};
 ghost use Rattle.dt_node.specs.TurnInner.{CanGo, KnowsTheSame, PassesOnce, RestsWhereDrained};
 
 use dt_cluster::Cluster;
@@ -118,9 +118,7 @@ impl<S: Scheduler + Drop> Node<S> {
         requires ends { length outs.old + 1 ≡ self.old.site.region.state.regions }
         requires places { AllIn (λ out. 2 ≤ (O.seen out).free) outs.old }
         requires turns { self.old.turns + 1 < 2 ^ 64 }
-        ensures gone { HasGone procs.now (flat_map I.waits ins.old) self.old self.new }
-        ensures brought { AreBrought (flat_map I.waits ins.old) (new_items self.old self.new) }
-        ensures stamps { StampsRise (flat_map I.waits ins.old) self.old self.new }
+        ensures moved { MovesOn procs.now (flat_map I.waits ins.old) self.old self.new }
         ensures emptied { OnOk result (flat_map I.waits ins.new ≡ []) }
         ensures taken { OnOk result (HasTaken (flat_map I.waits ins.old) self.old self.new) }
         ensures settled { OnOk result (IsSettled self.old self.new) }

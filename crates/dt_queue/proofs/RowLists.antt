@@ -59,7 +59,7 @@ found_at (y ∷ ys) f (suc i) x lt e = found_at ys f i x (omega (arith, lt)) e
 abbrev pub same_name : ℕ × Bytes → ℕ × Bytes → Bool
 same_name a b = (a.0 == b.0) && same_key a.1 b.1
 
--- the test tells them apart
+-- the test tells names apart
 pub tells_name : Tells same_name
 tells_name = record {
   of_test = λ a b e. (

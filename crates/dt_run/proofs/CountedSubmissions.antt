@@ -1,8 +1,8 @@
 -- What a region has submitted and placed is as much as it kept events of submissions and of placings.
-use Rattle.std.proofs.Common.{◌≡◌, ◌≢◌, ◌<◌, ◌+◌, ℕ, zero, suc, true, false, cond, eqb, leb, ltb, ◌&&◌, Bool, List, []}
-use Rattle.std.proofs.Common.{◌∷◌, ◌++◌, length, filter, get_or, replicate, Some, None, Option, refl, sym, ap, subst, ◌∙◌, inl, inr, arith, append-nil, eq-eqb, eqb-true}
+use Rattle.std.proofs.Common.{◌≡◌, ◌≢◌, ◌<◌, ◌+◌, ℕ, true, false, cond, eqb, leb, ltb, ◌&&◌, Bool, List, []}
+use Rattle.std.proofs.Common.{◌∷◌, ◌++◌, length, filter, Some, None, Option, refl, sym, ap, subst, ◌∙◌, inl, inr, arith, append-nil, eq-eqb, eqb-true}
 use Rattle.std.proofs.lemmas.Bool.{false_from_ne_true}
-use Rattle.std.proofs.lemmas.List.{length-append, length_push, map-append}
+use Rattle.std.proofs.lemmas.List.{get_or-replicate, length-append, length_push, map-append}
 use Rattle.std.proofs.lemmas.List.Elements.{filter-append}
 use Rattle.dt_lists.specs.Lists.{Either}
 use Rattle.dt_lists.proofs.Callers.{either_nat, from_right}
@@ -147,12 +147,10 @@ pub record RegionIsCounted (cluster : Cluster) (workload : Workload) (items : Li
 
 module _ {cluster : Cluster} (ok : IsValidCluster cluster) {workload : Workload} (fits : IsValidWorkload cluster workload) (q : ℕ) (lq : q < cluster.regions) where
   opening_counted : RegionIsCounted cluster workload [] q
-  opening_counted = record { submitted = ap (λ (n : Node). length n.submitted) (none cluster.regions q lq); placed = ap (λ (n : Node). length n.log) (none cluster.regions q lq) }
+  opening_counted = record { submitted = ap (λ (n : Node). length n.submitted) none; placed = ap (λ (n : Node). length n.log) none }
     where
-      none : (n k : ℕ) → k < n → get_or (replicate n (opening_node cluster.regions (opening_table cluster))) k no_node ≡ opening_node cluster.regions (opening_table cluster)
-      none zero k lt = absurd (omega (arith, lt))
-      none (suc n) zero lt = refl
-      none (suc n) (suc k) lt = none n k (omega (arith, lt))
+      none : node_at (opening_world cluster workload) q ≡ opening_node cluster.regions (opening_table cluster)
+      none = get_or-replicate cluster.regions q (opening_node cluster.regions (opening_table cluster)) no_node lq
 
   -- the world after these
   abbrev after : List Stamped → World

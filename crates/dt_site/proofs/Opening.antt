@@ -1,5 +1,6 @@
 -- A site before anything happens stands in the opening world.
-use Rattle.std.proofs.Common.{◌≡◌, ◌<◌, ℕ, zero, suc, List, [], ◌∷◌, length, map, get_or, set, replicate, refl, sym, ap, ap₂, subst, ◌∙◌, arith}
+use Rattle.std.proofs.Common.{◌≡◌, ◌<◌, ℕ, zero, suc, List, [], ◌∷◌, length, map, set, replicate, refl, sym, ap, ap₂, subst, ◌∙◌}
+use Rattle.std.proofs.lemmas.List.{get_or-replicate}
 use Rattle.dt_lists.specs.Lists.{AllIn}
 use Rattle.dt_access.specs.declared.Part.{Part}
 use Rattle.dt_sched.specs.Views.{View}
@@ -43,11 +44,6 @@ no_logs : (n : ℕ) (x : Node) → x.log ≡ [] → map (λ (y : Node). y.log) (
 no_logs zero x e = refl
 no_logs (suc n) x e = ap₂ (λ (a : List Part) (l : View). a ∷ l) e (no_logs n x e)
 
-one_of_all : {A : Type 0} (n i : ℕ) (x d : A) → i < n → get_or (replicate n x) i d ≡ x
-one_of_all zero i x d lt = absurd (omega arith)
-one_of_all (suc n) zero x d lt = refl
-one_of_all (suc n) (suc i) x d lt = one_of_all n i x d (omega arith)
-
 pub opening_node_is : (number regions : ℕ) (t : Table) → node_of (opening_site number regions t) ≡ opening_node regions t
 opening_node_is number regions t = ap₂ (λ (a : List Part) (b : List ℕ). record (opening_node regions t) { log = a; received = b }) (empty_log regions number) (no_lengths regions number)
 
@@ -62,5 +58,5 @@ module _ (cluster : Cluster) (workload : Workload) (region : ℕ) (lr : region <
     origins = refl;
     known = λ id txn h. cc;
     node = opening_node_is region cluster.regions (opening_table cluster)
-        ∙ sym (one_of_all cluster.regions region (opening_node cluster.regions (opening_table cluster)) no_node lr);
+        ∙ sym (get_or-replicate cluster.regions region (opening_node cluster.regions (opening_table cluster)) no_node lr);
   }

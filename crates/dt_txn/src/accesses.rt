@@ -26,7 +26,7 @@ enum Items {
     One(Access),
     /// Two of them.
     Two([Access; 2]),
-    /// Any number of them, elsewhere. None at all take no memory.
+    /// Any other number of them, elsewhere. None at all take no memory.
     Many(Vec<Access>),
 }
 

@@ -10,7 +10,7 @@ pub use Rattle.dt_waits.proofs.MissingParts.{none_lacking}
 pub use Rattle.dt_waits.proofs.Classes.{each_leads, member_stuck, none_blocked, not_all_blocked, place_leads, source_resolvable}
 pub use Rattle.dt_waits.proofs.RunInOrder.{pairwise_get}
 pub use Rattle.dt_waits.proofs.InsertStep.{counted_before, missing_before}
-pub use Rattle.dt_waits.proofs.FinishStep.{distinct_members, member_of, next_is, take_all}
+pub use Rattle.dt_waits.proofs.FinishStep.{distinct_members, member_of, next_is}
 pub use Rattle.dt_waits.proofs.LeavingDegrees.{may_leave}
 pub use Rattle.dt_waits.proofs.KeepsGraph.{at_named, keeping_finish, keeping_first, keeping_pushed, keeping_resolve, next_ready_told, ready_executable}
 pub use Rattle.dt_waits.proofs.PastVertices.{past_entries}

@@ -3,7 +3,7 @@
 use Rattle.std.proofs.Common.{◌≡◌, ◌≢◌, ◌+◌, ◌<◌, ◌≤◌, ◌⊎◌, ◌↔◌, ◌∙◌, ℕ, zero, suc, false, not, List, [], ◌∷◌, ◌++◌, length, map}
 use Rattle.std.proofs.Common.{filter, get_or, take, drop, slice_get, Some, refl, sym, ap, subst, inl, inr, arith}
 use Rattle.std.proofs.lemmas.Bool.{false_from_ne_true}
-use Rattle.std.proofs.lemmas.List.{length-map}
+use Rattle.std.proofs.lemmas.List.{length-map, take_all}
 use Rattle.std.proofs.lemmas.Option.{slice_get_within}
 use Rattle.dt_lists.specs.Lists.{AllIn, Has, Distinct, Either, Pairwise}
 use Rattle.dt_lists.proofs.Callers.{all_get, all_map, all_put, any_get, any_put, either_has, either_nat, has_longer, has_last, has_more, has_map, has_place, each_map, each_of_image}
@@ -28,13 +28,6 @@ use Rattle.dt_waits.proofs.DegreeZero.{free_by_degree, same_place}
 use Rattle.dt_waits.proofs.InsertStep.{in_resolved_decided, pairwise_map}
 use Rattle.dt_waits.proofs.EntriesThatStay.{degrees_together, followed_of_lowered, free_together, leaving_has, left_vertex, slots_together, uses_together}
 use Rattle.dt_waits.proofs.RunInOrder.{front_longer, next_of_soonest, pairwise_get, pairwise_set, rest_shorter, sooner_of_next, waits_of_next}
-
--- a front as long as the list is the list
-pub take_all : {A : Type 0} (n : ℕ) (xs : List A) → length xs ≤ n → take n xs ≡ xs
-take_all zero [] le = refl
-take_all zero (x ∷ xs) le = absurd (omega (arith, le))
-take_all (suc n) [] le = refl
-take_all (suc n) (x ∷ xs) le = ap (λ l. x ∷ l) (take_all n xs (omega (arith, le)))
 
 mapped_get : {A B : Type 0} (f : A → B) (xs : List A) (i : ℕ) (x : A) → slice_get xs i ≡ Some x → slice_get (map f xs) i ≡ Some (f x)
 mapped_get f [] i x e = cc

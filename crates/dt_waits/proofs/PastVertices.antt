@@ -1,7 +1,7 @@
 -- A vertex that is complete, neither ready nor stuck, and in no class that isn't done is of a transaction that has left: so no entry
 -- waits for it.
 use Rattle.std.proofs.Common.{◌≡◌, ◌≤◌, ◌<◌, ◌↔◌, ◌∙◌, ℕ, List, [], length, map, slice_get, Option, None, Some, sym, subst, inl, inr}
-use Rattle.std.proofs.lemmas.List.{length-map}
+use Rattle.std.proofs.lemmas.List.{length-map, take_all}
 use Rattle.dt_lists.specs.Lists.{AllIn, Has}
 use Rattle.dt_lists.proofs.Callers.{all_get, all_map, any_at, any_get, either_nat, has_place, some_same}
 use Rattle.dt_access.specs.declared.TxnId.{TxnId}
@@ -13,7 +13,6 @@ use Rattle.dt_waits.specs.Waits.{degree, id_at}
 use Rattle.dt_waits.specs.Graph.{GraphView, IsClassDone, IsOpened, IsPast, IsPlaceOfClass, KeepsGraph, vertex_at}
 use Rattle.dt_waits.proofs.DegreeZero.{free_by_degree, id_has}
 use Rattle.dt_waits.proofs.ExecutableTest.{executable_of_free}
-use Rattle.dt_waits.proofs.FinishStep.{take_all}
 use Rattle.dt_waits.proofs.MissingParts.{complete_of_none}
 use Rattle.dt_waits.proofs.RunInOrder.{pairwise_get}
 

@@ -3,9 +3,6 @@ use Rattle.dt_lists.proofs.Callers.{pairwise_refl}
 use Rattle.dt_ring.specs.Rings.{SameIn, SameOut}
 use Rattle.dt_run.proofs.seat.turn_node.Goals as goal
 
-pub returns-clause-once : goal.returns-clause-once
-returns-clause-once g c = record { gone = c.turn.ensures.gone; brought = c.turn.ensures.brought; stamps = c.turn.ensures.stamps }
-
 pub returns-clause-ins : goal.returns-clause-ins
 returns-clause-ins g c = c.turn.ensures.same_ins c.args.ins.now (pairwise_refl SameIn (λ x. record { ring = refl; order = refl }) c.args.ins.now)
 

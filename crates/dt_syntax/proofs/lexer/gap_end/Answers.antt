@@ -1,5 +1,5 @@
 use Rattle.std.proofs.Common.{◌+◌, sym, ◌∙◌, arith, length-drop}
-use Rattle.dt_lists.proofs.Callers.{rest_from}
+use Rattle.std.proofs.lemmas.List.{take_rest}
 use Rattle.dt_syntax.proofs.LexerLemmas.{gap_blank, gap_comment}
 use Rattle.dt_syntax.proofs.lexer.gap_end.Goals as goal
 
@@ -12,7 +12,7 @@ loop-end-preserved-then-is_blank c = record {
 
 pub loop-end-preserved : goal.loop-end-preserved
 loop-end-preserved c =
-    let rest = rest_from c.args.text.now (c.loop-end.end + 1) in
+    let rest = take_rest c.args.text.now (c.loop-end.end + 1) in
     let inside = rw rest at c.line_end-end.ensures.within in
     let is = rw rest at c.line_end-end.ensures.same in
     record {

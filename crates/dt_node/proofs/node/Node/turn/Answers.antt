@@ -1,7 +1,6 @@
 use Rattle.std.proofs.Common.{[], ◌+◌, flat_map, sym, subst, ◌∙◌}
 use Rattle.dt_site.proofs.Callers.{on_ok}
-use Rattle.dt_node.specs.NodeView.{new_items}
-use Rattle.dt_node.specs.Turn.{AreBrought, BeginsEagerly, HasGone, HasTaken, IsSettled, MovesOn, StampsRise}
+use Rattle.dt_node.specs.Turn.{BeginsEagerly, HasTaken, IsSettled, MovesOn}
 use Rattle.dt_node.proofs.WholePackets.{sends_whole}
 use Rattle.dt_node.proofs.CallAfterCall.{moves_on}
 use Rattle.dt_node.proofs.PassesOfTurn.{turn_begins, turn_can, turn_moves, turn_ready, turn_settles, turn_steps, turn_takes}
@@ -21,33 +20,15 @@ ended g c = turn_moves (c.receive_all.ensures.moved c.args.procs.now) c.go_on.en
 pub receive_all-requires : goal.receive_all-requires
 receive_all-requires g c = record { can = record { procs = c.args.procs.now; can = may_begin c.requires.stands } }
 
-pub returns-in_err-receive_all-clause-gone : goal.returns-in_err-receive_all-clause-gone
-returns-in_err-receive_all-clause-gone g c =
-    (c.receive_all.ensures.moved c.args.procs.now).gone
-
-pub returns-in_err-receive_all-clause-brought : goal.returns-in_err-receive_all-clause-brought
-returns-in_err-receive_all-clause-brought g c =
-    (c.receive_all.ensures.moved c.args.procs.now).brought
-
-pub returns-in_err-receive_all-clause-stamps : goal.returns-in_err-receive_all-clause-stamps
-returns-in_err-receive_all-clause-stamps g c =
-    (c.receive_all.ensures.moved c.args.procs.now).stamps
+pub returns-in_err-receive_all-clause-moved : goal.returns-in_err-receive_all-clause-moved
+returns-in_err-receive_all-clause-moved g c = c.receive_all.ensures.moved c.args.procs.now
 
 pub go_on-requires-clause-can : goal.go_on-requires-clause-can
 go_on-requires-clause-can g c =
     turn_can c.requires.stands (c.receive_all.ensures.moved c.args.procs.now)
 
-pub returns-in_err-go_on-clause-gone : goal.returns-in_err-go_on-clause-gone
-returns-in_err-go_on-clause-gone g c =
-    (went g (goal.at.returns-in_err-go_on-clause-gone g c).After-go_on).gone
-
-pub returns-in_err-go_on-clause-brought : goal.returns-in_err-go_on-clause-brought
-returns-in_err-go_on-clause-brought g c =
-    (went g (goal.at.returns-in_err-go_on-clause-brought g c).After-go_on).brought
-
-pub returns-in_err-go_on-clause-stamps : goal.returns-in_err-go_on-clause-stamps
-returns-in_err-go_on-clause-stamps g c =
-    (went g (goal.at.returns-in_err-go_on-clause-stamps g c).After-go_on).stamps
+pub returns-in_err-go_on-clause-moved : goal.returns-in_err-go_on-clause-moved
+returns-in_err-go_on-clause-moved g c = went g (goal.at.returns-in_err-go_on-clause-moved g c).After-go_on
 
 pub send-requires-clause-ready : goal.send-requires-clause-ready
 send-requires-clause-ready g c =
@@ -57,17 +38,9 @@ pub send-requires-clause-ends : goal.send-requires-clause-ends
 send-requires-clause-ends g c =
     c.requires.ends ∙ sym (went g (goal.at.send-requires-clause-ends g c).After-go_on).gone.regions
 
-pub returns-clause-gone : goal.returns-clause-gone
-returns-clause-gone g c =
-    subst (λ n. HasGone c.args.procs.now (flat_map g.I.Inlet.waits c.args.ins.now) c.args.self.now n) (sym c.send.ensures.still) (ended g (goal.at.returns-clause-gone g c).After-go_on).gone
-
-pub returns-clause-brought : goal.returns-clause-brought
-returns-clause-brought g c =
-    subst (λ n. AreBrought (flat_map g.I.Inlet.waits c.args.ins.now) (new_items c.args.self.now n)) (sym c.send.ensures.still) (ended g (goal.at.returns-clause-brought g c).After-go_on).brought
-
-pub returns-clause-stamps : goal.returns-clause-stamps
-returns-clause-stamps g c =
-    subst (λ n. StampsRise (flat_map g.I.Inlet.waits c.args.ins.now) c.args.self.now n) (sym c.send.ensures.still) (ended g (goal.at.returns-clause-stamps g c).After-go_on).stamps
+pub returns-clause-moved : goal.returns-clause-moved
+returns-clause-moved g c =
+    subst (λ n. MovesOn c.args.procs.now (flat_map g.I.Inlet.waits c.args.ins.now) c.args.self.now n) (sym c.send.ensures.still) (ended g (goal.at.returns-clause-moved g c).After-go_on)
 
 pub returns-clause-taken : goal.returns-clause-taken
 returns-clause-taken g c =
