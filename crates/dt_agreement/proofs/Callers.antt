@@ -1,6 +1,6 @@
 -- What a proof of a crate above may cite of this crate: nothing else of `proofs/` is cited from there. First
 -- the laws of legal lists and of what events do, then small facts of one world that keeps the invariant, by what they speak of:
--- ids, logs, views, sessions.
+-- ids, logs, views, requests, sessions.
 pub use Rattle.dt_agreement.proofs.LegalWorlds.{legal_keeps, next_keeps}
 pub use Rattle.dt_agreement.proofs.LaterWorlds.{next_found, next_txns}
 pub use Rattle.dt_agreement.proofs.Runs.{world_from_append, world_after_more, legal_append, legal_more, append_legal, more_legal, run_front, with_executed, ordered, order_of_more}

@@ -1,6 +1,7 @@
 -- Lists of which an item was replaced, what equal lists and equal options have in common, and lists that may be missing.
 use Rattle.std.proofs.Common.{◌≡◌, ◌≢◌, ◌<◌, ℕ, zero, suc, List, [], ◌∷◌, ◌++◌, length, set, slice_get, Option, Some, None, refl, ap, arith, append_assoc}
 use Rattle.std.specs.Option.{option_map}
+use Rattle.std.proofs.lemmas.Option.{same_Some}
 
 -- an item was put at a place: it stands there, and what stands at each other place is as before
 
@@ -33,9 +34,9 @@ pub both_empty : {A : Type 0} (xs ys : List A) → xs ++ ys ≡ [] → (xs ≡ [
 both_empty [] ys e = (refl, e)
 both_empty (x ∷ xs) ys e = cc
 
--- equal options hold one thing
+-- equal options hold one thing: the kit's lemma, with what they hold left to be found
 pub some_same : {A : Type 0} {x y : A} → Some x ≡ Some y → x ≡ y
-some_same e = cc
+some_same e = same_Some _ _ e
 
 -- an option that holds nothing holds no thing
 pub none_some : {A : Type 0} {x : A} {o : Option A} → o ≡ None → o ≡ Some x → ⊥

@@ -106,23 +106,20 @@ proc_sound p name scope last kinds keys body h small named ps ks b =
       body = subst (λ v. AreSound v (map (λ (k : KeyDecl). k.write) keys) body) made.2 (subst (λ v. AreSound (sorts last) v body) modes fits);
     }
 
--- what follows the parameters, and what follows the keys
+-- what follows the parameters; the body follows the keys
 after_params : ProcSyntax → Scope × List Kind → Checked ProcTree
 after_params p s =
     after_ok {A = Scope × List KeyDecl} (keys_told s.0 [] (p.key ∷ p.more_keys))
     (with_body p s.1)
-
-after_keys : ProcSyntax → List Kind → Scope × List KeyDecl → Checked ProcTree
-after_keys p kinds r = with_body p kinds r
 
 told_after_params : (before : List ProcTree) (p : ProcSyntax) (s : Scope × List Kind) → Free before p → params_told p.params ≡ Ok s → check_proc before p ≡ after_params p s
 unfolding after_params
 told_after_params before p s free ps = proc_is before p free ∙ ap (λ t. after_ok {A = Scope × List Kind} {E = ProcError} t (after_params p)) ps
 
 told_after_keys : (before : List ProcTree) (p : ProcSyntax) (s : Scope × List Kind) (r : Scope × List KeyDecl) → Free before p → params_told p.params ≡ Ok s →
-    keys_told s.0 [] (p.key ∷ p.more_keys) ≡ Ok r → check_proc before p ≡ after_keys p s.1 r
-unfolding after_params after_keys
-told_after_keys before p s r free ps ks = told_after_params before p s free ps ∙ ap (λ t. after_ok {A = Scope × List KeyDecl} {E = ProcError} t (after_keys p s.1)) ks
+    keys_told s.0 [] (p.key ∷ p.more_keys) ≡ Ok r → check_proc before p ≡ with_body p s.1 r
+unfolding after_params
+told_after_keys before p s r free ps ks = told_after_params before p s free ps ∙ ap (λ t. after_ok {A = Scope × List KeyDecl} {E = ProcError} t (with_body p s.1)) ks
 
 -- the first fault is reported, wherever it is
 pub params_first_fault : (before : List ProcTree) (p : ProcSyntax) (left rest : List Placed) (e : ProcError) → Free before p →
@@ -133,14 +130,13 @@ params_first_fault before p left rest e free (inr s) = inr (proc_is before p fre
 
 pub keys_first_fault : (before : List ProcTree) (p : ProcSyntax) (s : Scope × List Kind) (left rest : List Placed) (e : ProcError) → Free before p →
     params_told p.params ≡ Ok s → WalkAnswers (keys_told s.0 [] (p.key ∷ p.more_keys)) left (Err e) → WalkAnswers (check_proc before p) rest (Err e)
-unfolding after_params after_keys
+unfolding after_params
 keys_first_fault before p s left rest e free ps (inl m) = inl m
 keys_first_fault before p s left rest e free ps (inr k) =
-    inr (told_after_params before p s free ps ∙ ap (λ t. after_ok {A = Scope × List KeyDecl} {E = ProcError} t (after_keys p s.1)) k)
+    inr (told_after_params before p s free ps ∙ ap (λ t. after_ok {A = Scope × List KeyDecl} {E = ProcError} t (with_body p s.1)) k)
 
 pub body_first_fault : (before : List ProcTree) (p : ProcSyntax) (s : Scope × List Kind) (r : Scope × List KeyDecl) (left rest : List Placed) (e : ProcError) → Free before p →
     params_told p.params ≡ Ok s → keys_told s.0 [] (p.key ∷ p.more_keys) ≡ Ok r → WalkAnswers (check_block r.0 p.body) left (Err e) → WalkAnswers (check_proc before p) rest (Err e)
-unfolding after_keys
 body_first_fault before p s r left rest e free ps ks (inl m) = inl m
 body_first_fault before p s r left rest e free ps ks (inr b) =
     inr (told_after_keys before p s r free ps ks ∙ ap (λ t. after_ok {A = BlockTree} {E = ProcError} t (λ b. Ok (record { name = p.name; params = s.1; keys = r.1; body = b }))) b)

@@ -9,7 +9,7 @@ use Rattle.std.proofs.lemmas.Option.{same_Some, slice_get-get_or}
 use Rattle.slab.specs.Slab.{Updates, get, entries, entries_from}
 use Rattle.dt_lists.specs.Lists.{AnyIn, Distinct, EachThen, Has, IsFront}
 use Rattle.dt_lists.proofs.Callers.{any_get, any_image, any_of_image, any_of_test, any_put, ascending_same, each_image, each_map, filter_each, has_filter, has_map, has_of_filtered, one_place}
-use Rattle.dt_lists.proofs.Callers.{test_of_any}
+use Rattle.dt_lists.proofs.Callers.{none_some, test_of_any}
 use Rattle.dt_access.specs.Clash.{Bytes, is_whole, may_change}
 use Rattle.dt_access.proofs.Callers.{clash_cases, uses_of_granule, uses_of_row}
 use Rattle.dt_queue.specs.declared.cell.Cell.{Cell}
@@ -277,10 +277,7 @@ shown_push k n slot name mode vertex kept later front adds =
 
 -- no entry waited at the slot
 pub shown_fresh : (k n : Kept) (slot : ℕ) (name : ℕ × Bytes) (mode : Mode) (vertex : ℕ) → AreQueuesKept k → AddsCell k n slot name mode vertex → ¬ (IsQueued (waiting_of k) slot)
-shown_fresh k n slot name mode vertex kept adds w = let c = waits k kept slot w in none c.0 (sym adds.vacant ∙ c.1)
-  where
-    none : (d : Cell) → None ≡ Some d → ⊥
-    none d e = cc
+shown_fresh k n slot name mode vertex kept adds w = let c = waits k kept slot w in none_some adds.vacant c.1
 
 -- a cell that was taken out shows no more
 pub shown_remove : (k n : Kept) (slot : ℕ) → AreQueuesKept k → AreQueuesKept n → Updates k.cells n.cells slot None → (links n.rows) ≡ (links k.rows) → waiting_of n ≡ taken_out (waiting_of k) slot

@@ -2,6 +2,7 @@
 use Rattle.std.proofs.Common.{◌≡◌, ◌⊎◌, ◌↔◌, ℕ, ◌<◌, ◌≤◌, List, []}
 use Rattle.std.proofs.Common.{◌∷◌, Option, Some, None, refl, ap, sym, subst, inl, inr, arith, ◌∙◌}
 use Rattle.std.proofs.lemmas.Bool.{cases_order, false≢true}
+use Rattle.std.proofs.lemmas.Option.{none-some}
 use Rattle.std.proofs.Math.Nat.{lt_trans}
 use Rattle.slab.specs.Slab.{get}
 use Rattle.dt_lists.specs.Lists.{Has}
@@ -247,11 +248,8 @@ module _ (k : Kept) (kept : AreQueuesKept k) (x : Cell) (waits : IsKeptCell k x)
     where
       by : (o : Option Mark) → IsFirstBetween x.number top taken o → ((j : Mark) → InUseOf x.mode k x.row j → ¬ (IsBetween x.number (number_or o top) j)) → ((j : Mark) → IsNextMark k x j → Has taken j)
           → IsNextMark k x m ↔ (o ≡ Some m)
-      by None l none all = (λ n. absurd (l m (all m n) (above n, below_top m n.0 (record { there = n.1; is = n.2 }))), λ e. absurd (no_some e))
+      by None l none all = (λ n. absurd (l m (all m n) (above n, below_top m n.0 (record { there = n.1; is = n.2 }))), λ e. absurd (none-some m e))
         where
-          no_some : None ≡ Some m → ⊥
-          no_some e = cc
-
           above : IsNextMark k x m → x.number < m.number
           above n = omega (arith, n.3, number_of_mark k m n.0 (record { there = n.1; is = n.2 }))
       by (Some w) l none all = (λ n. ap Some (is_w n), λ e. subst (IsNextMark k x) (some_same e) next_w)

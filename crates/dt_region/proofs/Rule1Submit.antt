@@ -2,8 +2,7 @@
 use Rattle.std.proofs.Common.{◌≡◌, ◌<◌, ◌+◌, ℕ, List, [], ◌∷◌, ◌++◌, length, Option, Some, None, cond, slice_get, refl, sym, ap, ap₂, subst, ◌∙◌, inl, inr, arith}
 use Rattle.std.proofs.lemmas.Option.{slice_get_past}
 use Rattle.dt_lists.specs.Lists.{AllIn}
-use Rattle.dt_lists.proofs.Callers.{all_map}
-use Rattle.dt_lists.proofs.Callers.{all_more}
+use Rattle.dt_lists.proofs.Callers.{all_map, all_more, none_some}
 use Rattle.dt_access.specs.declared.TxnId.{TxnId}
 use Rattle.dt_sched.specs.Views.{log_at}
 use Rattle.dt_sched.specs.Sched.{Sched}
@@ -44,11 +43,8 @@ module _ (procs : List ProcTree) (s : RegionState) (sound : IsSoundRegion s) (ra
       let own : find_txn s.submitted (id_for s) ≡ slice_get s.submitted (length s.submitted) = counted_at s.number 1 (length s.submitted) s.submitted (id_for s) sound.counted refl (omega arith) in
       find_only s.submitted s.foreign (id_for s) (apart s.number s.foreign (id_for s) sound.foreign refl) ∙ own ∙ slice_get_past s.submitted (length s.submitted) (omega arith)
 
-  none_some : (other : Txn) → ◌≡◌ {A = Option Txn} None (Some other) → ⊥
-  none_some other e = cc
-
   keeps : (id : TxnId) (other : Txn) → held s id ≡ Some other → held (after_submit procs s rank body) id ≡ Some other
-  keeps id other e = found_still s.submitted s.foreign new id other (ap (λ b. cond b (Some new) None) (test_of_other (id_for s) id (λ same. none_some other (sym own_new ∙ ap (held s) same ∙ e)))) e
+  keeps id other e = found_still s.submitted s.foreign new id other (ap (λ b. cond b (Some new) None) (test_of_other (id_for s) id (λ same. none_some own_new (ap (held s) same ∙ e)))) e
 
   pub submit_sound : IsSoundRegion (after_submit procs s rank body)
   submit_sound = record {

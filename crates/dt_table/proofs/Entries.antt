@@ -8,6 +8,7 @@ use Rattle.std.specs.FinMap.{get, insert, from_entries, same_map}
 use Rattle.std.proofs.lemmas.Map.Made.{lookup-map_values}
 use Rattle.indexmap.specs.IndexMap.{insert_entry}
 use Rattle.dt_lists.specs.Lists.{AllIn}
+use Rattle.dt_lists.proofs.Callers.{all_get, lookup_has}
 use Rattle.dt_access.specs.Clash.{Bytes, same_key}
 use Rattle.dt_table.proofs.SortedEntries.{order, exact, get-lookup}
 use Rattle.dt_table.proofs.TableLaws.{get-put}
@@ -47,14 +48,7 @@ module _ {K V : Type 0} (eq : K → K → Bool) where
 
     -- what holds of each entry holds of the one that a look-up finds
     pub AllIn-lookup : (es : List (K × V)) (k : K) (v : V) → AllIn P es → lookup (eq k) es ≡ Some v → P (k, v)
-    AllIn-lookup [] k v all there = cc
-    AllIn-lookup (e ∷ es) k v all there =
-        elim (eq k e.0) as (λ b. eq k e.0 ≡ b → cond b (Some e.1) (lookup (eq k) es) ≡ Some v → P (k, v)) [
-          | true ↦ λ tied is.
-              let value : e.1 ≡ v = cc in
-              subst (λ x. P (k, x)) value (subst (λ x. P (x, e.1)) (sym (same k e.0 tied)) all.0)
-          | false ↦ λ _ later. AllIn-lookup es k v all.1 later
-        ] refl there
+    AllIn-lookup es k v all there = all_get P es all (k, v) (lookup_has (eq k) k (λ other tied. sym (same k other tied)) es v there)
 
 -- where the entries answer as others do with k at a new value, their map is the map of the others with it
 pub insert-lookup : {X : Type 0} (es fs : List (Bytes × X)) (k : Bytes) (x : X) → ((q : Bytes) → lookup (same_key q) fs ≡ cond (same_key k q) (Some x) (lookup (same_key q) es))
