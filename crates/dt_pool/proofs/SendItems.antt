@@ -21,13 +21,18 @@ use Rattle.dt_pool.specs.contracts.lent.Lent.TheInside as lent
 use Rattle.dt_pool.specs.contracts.lent.Worked as Worked
 use Rattle.dt_pool.specs.contracts.lent.Worked.TheInside as worked
 
+-- the end of a ring that gives items
+inlet_send : (R : RattleType) → IsSend R → IsSend (consumer.the_field R Heap.the_row AnyItems.the_row ghosts (items.ghosts R)).row
+inlet_send R s = search (sendable, crosses, consumer_send.the_field_send) depth 20 parts 0
+
+-- each has an item, an inlet of what items were, a number, and its name for the types
 pub lent_inside_send : (X N : RattleType) (g : Lending.Ghosts N.Denot X.Denot) → IsSend X → IsSend N → IsSend (lent.the_row X N g)
 lent_inside_send X N g x n = recorded_send (lent.the_field X N g).row _ _ (lent.the_type X N g).to_one
-    (struct_send (shape (lent.the_type X N g)) (x, (search (sendable, crosses, consumer_send.the_field_send) depth 20 parts 0, (search sendable depth 20, (search (sendable, n) depth 20, tt)))))
+    (struct_send (shape (lent.the_type X N g)) (x, (inlet_send _ (search sendable depth 20), (search sendable depth 20, (search (sendable, n) depth 20, tt)))))
 
 pub worked_inside_send : (X N : RattleType) (g : Lending.Ghosts N.Denot X.Denot) → IsSend X → IsSend N → IsSend (worked.the_row X N g)
 worked_inside_send X N g x n = recorded_send (worked.the_field X N g).row _ _ (worked.the_type X N g).to_one
-    (struct_send (shape (worked.the_type X N g)) (x, (search (sendable, crosses, consumer_send.the_field_send) depth 20 parts 0, (search sendable depth 20, (search (sendable, n) depth 20, tt)))))
+    (struct_send (shape (worked.the_type X N g)) (x, (inlet_send _ (search sendable depth 20), (search sendable depth 20, (search (sendable, n) depth 20, tt)))))
 
 pub lent_send : (X N : RattleType) (g : Lending.Ghosts N.Denot X.Denot) → IsSend X → IsSend N → IsSend (Lent.the_row X N g)
 lent_send X N g x n = view_send _ _ _ _ _ (lent_inside_send X N g x n)
@@ -37,9 +42,6 @@ worked_send X N g x n = view_send _ _ _ _ _ (worked_inside_send X N g x n)
 
 option_send : (R : RattleType) → IsSend R → IsSend (Option.the_row R)
 option_send R s = search sendable depth 12
-
-inlet_send : (R : RattleType) → IsSend R → IsSend (consumer.the_field R Heap.the_row AnyItems.the_row ghosts (items.ghosts R)).row
-inlet_send R s = search (sendable, crosses, consumer_send.the_field_send) depth 20 parts 0
 
 outlet_send : (R : RattleType) → IsSend R → IsSend (producer.the_field R Heap.the_row AnyItems.the_row ghosts (items.ghosts R)).row
 outlet_send R s = search (sendable, crosses, producer_send.the_field_send) depth 20 parts 0
