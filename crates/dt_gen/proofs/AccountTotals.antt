@@ -2,7 +2,7 @@
 use Rattle.std.proofs.Common.{◌≡◌, ◌≢◌, ℕ, ◌+◌, ◌-◌, ◌<◌, ◌≤◌, Bool, true, false, cond, Option, Some, None, unwrap_or, pos, refl, sym, ap, ◌∙◌, arith}
 use Rattle.std.specs.FinMap.{get}
 use Rattle.dt_lists.specs.Lists.{Distinct, Has}
-use Rattle.dt_lists.proofs.Callers.{each_map}
+use Rattle.dt_lists.proofs.Callers.{each_map, sum_changes, within_sum}
 use Rattle.dt_text.specs.Texts.{Bytes}
 use Rattle.dt_text.specs.declared.Value.{Value}
 use Rattle.dt_text.specs.declared.Value.TheVariants.{Int}
@@ -14,7 +14,7 @@ use Rattle.dt_gen.specs.Load.{account, account_numbers}
 use Rattle.dt_gen.proofs.AccountKeys.{account_apart}
 use Rattle.dt_gen.proofs.ValidLoad.{accounts_apart}
 use Rattle.dt_gen.specs.Balances.{HoldsAccounts, amount_of, balance}
-use Rattle.dt_gen.proofs.Totals.{row_has, row_within, sum_changes, within_sum}
+use Rattle.dt_gen.proofs.Ranges.{row_has, row_within}
 
 -- a row that has a number, which is not negative
 abbrev pub holding : ℕ → Option Value

@@ -3,7 +3,6 @@ pub mod AccountKeys
 pub mod Ranges
 pub mod ValidLoad
 pub mod TransferMeaning
-pub mod Totals
 pub mod AccountTotals
 pub mod LoadTransactions
 pub mod LoadWorlds

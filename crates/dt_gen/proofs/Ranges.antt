@@ -1,12 +1,12 @@
--- Numbers in a row: what holds of each, when what is made of them is distinct, and how often one stands among them.
-use Rattle.std.proofs.Common.{◌≡◌, ◌≢◌, ℕ, zero, suc, ◌+◌, ◌<◌, ◌≤◌, Bool, true, false, cond, ◌==◌, [], ◌∷◌, ◌++◌, map, refl, sym, ap, ◌∙◌, arith}
+-- Numbers in a row: what holds of each, when what is made of them is distinct, which stand among them, and how often.
+use Rattle.std.proofs.Common.{◌≡◌, ◌≢◌, ℕ, zero, suc, ◌+◌, ◌<◌, ◌≤◌, Bool, true, false, cond, ◌==◌, [], ◌∷◌, ◌++◌, map, refl, sym, ap, ◌∙◌, inl, inr, arith}
 use Rattle.std.specs.List.{range_with_len, count_by, list_all}
 use Rattle.std.proofs.lemmas.List.Sums.{sum_by-cons}
 use Rattle.std.proofs.lemmas.List.FromFn.{map-range_with_len_more}
 use Rattle.std.proofs.lemmas.List.{map-id}
-use Rattle.std.proofs.lemmas.Bool.{and_parts}
+use Rattle.std.proofs.lemmas.Bool.{and_parts, cases_lt}
 use Rattle.std.proofs.lemmas.Bool.Decides.{nat_tests}
-use Rattle.dt_lists.specs.Lists.{AllIn, Distinct}
+use Rattle.dt_lists.specs.Lists.{AllIn, Distinct, Has}
 
 -- what holds of each number of a row
 pub all_in_row : (P : ℕ → Type 0) (a n : ℕ) → ((q : ℕ) → a ≤ q → q < a + n → P q) → AllIn P (range_with_len a n)
@@ -32,6 +32,17 @@ distinct_row f a (suc n) apart = (others (a + 1) n (omega arith) (omega arith), 
     others : (b m : ℕ) → a < b → b + m ≤ a + suc n → AllIn (λ y. ¬ (f a ≡ y)) (map f (range_with_len b m))
     others b zero above within = tt
     others b (suc m) above within = (apart a b (omega arith) above (omega arith), others (b + 1) m (omega arith) (omega arith))
+
+-- a list of numbers in a row has each of them
+pub row_has : (a n q : ℕ) → a ≤ q → q < a + n → Has (range_with_len a n) q
+row_has a zero q low high = absurd (omega arith)
+row_has a (suc n) q low high = elim (cases_lt a q) [ inl above ↦ inr (row_has (a + 1) n q (omega arith) (omega arith)) | inr below ↦ inl (omega arith) ]
+
+-- and no other number
+pub row_within : (a n q : ℕ) → Has (range_with_len a n) q → (a ≤ q) × (q < a + n)
+row_within a zero q h = absurd h
+row_within a (suc n) q (inl e) = (omega (arith, e), omega (arith, e))
+row_within a (suc n) q (inr h) = let later = row_within (a + 1) n q h in (omega (arith, later.0), omega (arith, later.1))
 
 -- one number more in a row
 pub row_more : (n : ℕ) → range_with_len 0 (n + 1) ≡ range_with_len 0 n ++ n ∷ []

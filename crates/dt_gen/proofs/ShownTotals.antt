@@ -11,7 +11,7 @@ use Rattle.std.specs.Cmp.Lexicographic.{slice_cmp, nat_list_cmp_total, texts_tie
 use Rattle.std.specs.FinMap.{FinMap, contains_key-keys, entries, entries_sorted, get, get-from_entries, get-retain_keys, is_sorted, keys, retain_keys}
 use Rattle.std.specs.FinMap.Entries.{below_all, is_some-find}
 use Rattle.dt_lists.specs.Lists.{AllIn, Distinct, Has}
-use Rattle.dt_lists.proofs.Callers.{any_get, any_of_image, any_put, any_image, each_image, either_any, sum_mapped}
+use Rattle.dt_lists.proofs.Callers.{any_get, any_of_image, any_put, any_image, each_image, either_any, same_sums, sum_mapped}
 use Rattle.dt_text.specs.Texts.{Bytes}
 use Rattle.dt_text.specs.declared.Value.{Value}
 use Rattle.dt_text.specs.declared.Value.TheVariants.{Int}
@@ -27,7 +27,6 @@ use Rattle.dt_gen.specs.Balances.{HoldsAccounts, amount_of, balance, total_of}
 use Rattle.dt_gen.specs.Summary.{number_of_row}
 use Rattle.dt_gen.specs.Laws.{ShownSumIsTotal}
 use Rattle.dt_gen.proofs.AccountTotals.{account_in, account_within}
-use Rattle.dt_gen.proofs.Totals.{same_sums}
 
 -- ---- keys of a map
 

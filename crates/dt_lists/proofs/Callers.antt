@@ -23,5 +23,5 @@ pub use Rattle.dt_lists.proofs.Places.{all_of_places, at_back}
 pub use Rattle.dt_lists.proofs.Searches.{Tells, added_new, found_at, lookup_has, missed, not_some, tells_number}
 pub use Rattle.dt_lists.proofs.Chains.{chain_before, chain_decided, chain_join, chain_keeps, chain_map, chain_step, chain_takes_back, chain_turned}
 pub use Rattle.dt_lists.proofs.Changes.{both_empty, joined_more, joined_none, none_some, same_head, same_rest, same_tail, set_beside, set_here, some_same}
-pub use Rattle.dt_lists.proofs.Sums.{sum_mapped, sum_of_sums, sum_same}
+pub use Rattle.dt_lists.proofs.Sums.{same_sums, sum_changes, sum_mapped, sum_of_sums, sum_same, within_sum}
 pub use Rattle.dt_lists.proofs.Sorted.{each_of_sorted, has_listed, listed_has, permuted_apart, permuted_distinct, permuted_has}

@@ -1,9 +1,9 @@
 -- A site before anything happens stands in the opening world.
 use Rattle.std.proofs.Common.{◌≡◌, ◌<◌, ℕ, zero, suc, List, [], ◌∷◌, length, map, set, replicate, refl, sym, ap, ap₂, subst, ◌∙◌}
+use lib.LanesLaws.{map-replicate}
 use Rattle.std.proofs.lemmas.List.{get_or-replicate}
 use Rattle.dt_lists.specs.Lists.{AllIn}
 use Rattle.dt_access.specs.declared.Part.{Part}
-use Rattle.dt_sched.specs.Views.{View}
 use Rattle.dt_table.specs.Table.{Table}
 use Rattle.dt_txn.specs.Replica.{fronts}
 use Rattle.dt_sched.proofs.Callers.{empty_log}
@@ -27,11 +27,7 @@ opening_is_for cluster valid = record {
 
 no_lengths : (n h : ℕ) → set (map length (replicate {A = List Part} n [])) h 0 ≡ replicate n 0
 no_lengths zero h = refl
-no_lengths (suc n) zero = ap (λ l. 0 ∷ l) (all_zero n)
-  where
-    all_zero : (m : ℕ) → map length (replicate {A = List Part} m []) ≡ replicate m 0
-    all_zero zero = refl
-    all_zero (suc m) = ap (λ l. 0 ∷ l) (all_zero m)
+no_lengths (suc n) zero = ap (λ l. 0 ∷ l) (map-replicate length n [])
 no_lengths (suc n) (suc h) = ap (λ l. 0 ∷ l) (no_lengths n h)
 
 no_fronts : (lengths : List ℕ) (n : ℕ) → fronts lengths (replicate n []) ≡ replicate n []
@@ -39,10 +35,6 @@ no_fronts lengths zero = refl
 no_fronts [] (suc n) = ap (λ l. [] ∷ l) (no_fronts [] n)
 no_fronts (zero ∷ lengths) (suc n) = ap (λ l. [] ∷ l) (no_fronts lengths n)
 no_fronts (suc m ∷ lengths) (suc n) = ap (λ l. [] ∷ l) (no_fronts lengths n)
-
-no_logs : (n : ℕ) (x : Node) → x.log ≡ [] → map (λ (y : Node). y.log) (replicate n x) ≡ replicate n []
-no_logs zero x e = refl
-no_logs (suc n) x e = ap₂ (λ (a : List Part) (l : View). a ∷ l) e (no_logs n x e)
 
 pub opening_node_is : (number regions : ℕ) (t : Table) → node_of (opening_site number regions t) ≡ opening_node regions t
 opening_node_is number regions t = ap₂ (λ (a : List Part) (b : List ℕ). record (opening_node regions t) { log = a; received = b }) (empty_log regions number) (no_lengths regions number)
@@ -54,7 +46,7 @@ module _ (cluster : Cluster) (workload : Workload) (region : ℕ) (lr : region <
     number = refl;
     many = refl;
     sound = sound;
-    logs = sym (ap (fronts _) (no_logs cluster.regions (opening_node cluster.regions (opening_table cluster)) refl) ∙ no_fronts _ cluster.regions);
+    logs = sym (ap (fronts _) (map-replicate (λ (y : Node). y.log) cluster.regions (opening_node cluster.regions (opening_table cluster))) ∙ no_fronts _ cluster.regions);
     origins = refl;
     known = λ id txn h. cc;
     node = opening_node_is region cluster.regions (opening_table cluster)

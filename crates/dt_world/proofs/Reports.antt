@@ -1,6 +1,7 @@
 -- What the parts of a report are, step by step.
-use Rattle.std.proofs.Common.{◌≡◌, ◌≢◌, ◌<◌, ◌≤◌, ◌+◌, ℕ, zero, suc, Bool, Bor, true, false, ◌||◌, not, List, [], ◌∷◌, ◌++◌, length, map, get_or, replicate, take}
+use Rattle.std.proofs.Common.{◌≡◌, ◌≢◌, ◌<◌, ◌≤◌, ◌+◌, ℕ, suc, Bool, Bor, true, false, ◌||◌, not, List, [], ◌∷◌, ◌++◌, length, map, get_or, replicate, take}
 use Rattle.std.proofs.Common.{drop, slice_get, Some, None, Ok, Err, refl, sym, ap, ap₂, subst, subst₂, ◌∙◌, ◌⊎◌, inr, append_assoc, append-nil, arith}
+use lib.LanesLaws.{map-replicate}
 use Rattle.std.specs.Prelude.{Option, Result, IfOk, option_map, option_and_then, option_to_list, filter_map}
 use Rattle.std.specs.List.{position, range_with_len}
 use Rattle.std.proofs.Math.Seq.{take-length}
@@ -335,13 +336,9 @@ no_waits : (sessions : List Session) → replicate {A = Option TxnId} (length se
 no_waits [] = refl
 no_waits (s ∷ sessions) = ap (λ l. None ∷ l) (no_waits sessions)
 
-no_counts : (n : ℕ) (x : Node) → length x.submitted ≡ 0 → replicate n 0 ≡ map (λ (y : Node). length y.submitted) (replicate n x)
-no_counts zero x e = refl
-no_counts (suc n) x e = ap₂ (λ (a : ℕ) (l : List ℕ). a ∷ l) (sym e) (no_counts n x e)
-
 pub course_begins : (cluster : Cluster) (workload : Workload)
     → ◌≡◌ {A = SessionReplayView} (record { waits = replicate (length workload.sessions) None; submitted = replicate cluster.regions 0 }) (replay_of (opening_world cluster workload))
-course_begins cluster workload = ap₂ (λ (a : List (Option TxnId)) (b : List ℕ). record { waits = a; submitted = b }) (no_waits workload.sessions) (no_counts cluster.regions (opening_node cluster.regions (opening_table cluster)) refl)
+course_begins cluster workload = ap₂ (λ (a : List (Option TxnId)) (b : List ℕ). record { waits = a; submitted = b }) (no_waits workload.sessions) (sym (map-replicate (λ (y : Node). length y.submitted) cluster.regions (opening_node cluster.regions (opening_table cluster))))
 
 -- small steps
 
