@@ -338,7 +338,9 @@ no_waits (s ∷ sessions) = ap (λ l. None ∷ l) (no_waits sessions)
 
 pub course_begins : (cluster : Cluster) (workload : Workload)
     → ◌≡◌ {A = SessionReplayView} (record { waits = replicate (length workload.sessions) None; submitted = replicate cluster.regions 0 }) (replay_of (opening_world cluster workload))
-course_begins cluster workload = ap₂ (λ (a : List (Option TxnId)) (b : List ℕ). record { waits = a; submitted = b }) (no_waits workload.sessions) (sym (map-replicate (λ (y : Node). length y.submitted) cluster.regions (opening_node cluster.regions (opening_table cluster))))
+course_begins cluster workload =
+    let counts : map (λ (y : Node). length y.submitted) (replicate cluster.regions (opening_node cluster.regions (opening_table cluster))) ≡ replicate cluster.regions 0 = map-replicate _ cluster.regions _ in
+    ap₂ (λ (a : List (Option TxnId)) (b : List ℕ). record { waits = a; submitted = b }) (no_waits workload.sessions) (sym counts)
 
 -- small steps
 
