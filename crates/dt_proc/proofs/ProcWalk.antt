@@ -144,7 +144,6 @@ body_first_fault before p s r left rest e free ps ks (inr b) =
 pub proc_told : (before : List ProcTree) (p : ProcSyntax) (s : Scope × List Kind) (r : Scope × List KeyDecl) (b : BlockTree) → Free before p →
     params_told p.params ≡ Ok s → keys_told s.0 [] (p.key ∷ p.more_keys) ≡ Ok r → check_block r.0 p.body ≡ Ok b →
     check_proc before p ≡ Ok (record { name = p.name; params = s.1; keys = r.1; body = b })
-unfolding after_keys
 proc_told before p s r b free ps ks is =
     told_after_keys before p s r free ps ks ∙ ap (λ t. after_ok {A = BlockTree} {E = ProcError} t (λ c. Ok (record { name = p.name; params = s.1; keys = r.1; body = c }))) is
 
