@@ -1,9 +1,9 @@
 -- What a turn makes of a node. A node in a turn takes the packets that wait, lets its sessions go on, makes a round, and sends
 -- one packet to each other region. One learns here what holds of this, one record each: its new events are legal after those
--- of every world in which the node stood, and it stands in the world after them (`GoesAfter`); what it used of other regions came
--- by packets (`AreBrought`); its stamps rise (`StampsRise`); these three are `MovesOn`; it took all of every packet, and knows the
--- greatest counts that they report (`HasTaken`); in the end nothing is left to do by itself (`IsSettled`); and its first turn
--- begins with the first calls of its sessions (`BeginsEagerly`). Read next: `Steps`, for the order in which all this is done.
+-- of every world in which the node stood, and it stands in the world after them (`HasGone`, by `GoesAfter`); what it used of other
+-- regions came by packets (`AreBrought`); its stamps rise (`StampsRise`); these three are `MovesOn`; it took all of every packet, and
+-- knows the greatest counts that they report (`HasTaken`); in the end nothing is left to do by itself (`IsSettled`); and its first
+-- turn begins with the first calls of its sessions (`BeginsEagerly`). Read next: `Steps`, for the order in which all this is done.
 use Rattle.std.specs.Prelude.{◌≡◌, ◌≢◌, ◌<◌, ◌≤◌, ◌+◌, ◌==◌, ◌⊎◌, ℕ, List, [], ◌∷◌, ◌++◌, length, map, filter, max, get_or, Option}
 use Rattle.dt_lists.specs.Lists.{AllIn, AnyIn, EachThen, IsFront}
 use Rattle.dt_access.specs.Clash.{Bytes}

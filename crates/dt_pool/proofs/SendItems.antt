@@ -25,7 +25,7 @@ use Rattle.dt_pool.specs.contracts.lent.Worked.TheInside as worked
 inlet_send : (R : RattleType) → IsSend R → IsSend (consumer.the_field R Heap.the_row AnyItems.the_row ghosts (items.ghosts R)).row
 inlet_send R s = search (sendable, crosses, consumer_send.the_field_send) depth 20 parts 0
 
--- each has an item, an inlet of what items were, a number, and its name for the types
+-- each has an item, the inlet that remembers what it was, a number, and a mark without bytes for its types
 pub lent_inside_send : (X N : RattleType) (g : Lending.Ghosts N.Denot X.Denot) → IsSend X → IsSend N → IsSend (lent.the_row X N g)
 lent_inside_send X N g x n = recorded_send (lent.the_field X N g).row _ _ (lent.the_type X N g).to_one
     (struct_send (shape (lent.the_type X N g)) (x, (inlet_send _ (search sendable depth 20), (search sendable depth 20, (search (sendable, n) depth 20, tt)))))

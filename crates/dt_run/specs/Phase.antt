@@ -1,6 +1,7 @@
 -- What a phase makes of all nodes. One learns here that every node makes one turn, by what waited for it and by nothing of this
--- phase (`IsPhase`, by `MovesOn` of dt_node), and that, unless it runs out of memory, one mark is added for each region, and on each link waits what
--- its source sent (`EndsInStep`); and that no phase takes back what was kept (`KeepsEvents`). Read next: `EndOfRun`, for when no phase is left to make.
+-- phase (`IsPhase`, which says `MovesOn` of dt_node for each), and that, unless it runs out of memory, one mark is added for each
+-- region, and on each link waits what its source sent (`EndsInStep`); and that no phase takes back what was kept (`KeepsEvents`).
+-- Read next: `EndOfRun`, for when no phase is left to make.
 use Rattle.std.specs.Prelude.{◌≡◌, ◌≢◌, ◌<◌, ◌+◌, ◌++◌, ◌∷◌, ℕ, [], length}
 use Rattle.dt_lists.specs.Lists.{IsFront}
 use Rattle.dt_node.specs.NodeView.{packet_for}
