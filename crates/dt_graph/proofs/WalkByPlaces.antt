@@ -5,7 +5,7 @@ use Rattle.std.proofs.lemmas.List.{drop_more}
 use Rattle.dt_lists.specs.Lists.{Has}
 use Rattle.dt_lists.proofs.Callers.{any_append, any_append_left, any_append_right}
 
--- the item at a place is one of what is left from there on
+-- and the item there is one of what is left
 pub next_in : (items : List ℕ) (place : ℕ) → place < length items → Has (drop place items) (get_or items place 0)
 next_in items place lt = subst (λ l. Has l (get_or items place 0)) (sym (drop_more items place 0 lt)) (inl refl)
 

@@ -1,23 +1,17 @@
-use Rattle.std.proofs.Common.{◌≡◌, ◌<◌, ◌-◌, ℕ, [], get_or, length, map, set, vec_capacity, vec_len, ap, sym, subst, arith, ◌∙◌}
+use Rattle.std.proofs.Common.{◌<◌, ◌-◌, [], get_or, length, vec_capacity, vec_len, ap, sym, subst, arith, ◌∙◌}
 use Rattle.std.proofs.Math.Seq.{map-set_same}
 use Rattle.dt_queue.specs.declared.listed.Log.{Log}
 use Rattle.dt_queue.proofs.RowSets.{empty_behind, told_here}
 use Rattle.dt_queue.proofs.listed.make_log.Goals as goal
-use Rattle.dt_queue.proofs.listed.make_log.Goals.{After-reserve}
 
 pub loop-alloc-preserved : goal.loop-alloc-preserved
 loop-alloc-preserved c = λ g. rw c.in_ok-push.ensures.items (empty_behind c.loop-alloc.logs.items (λ (r : Log). r.listings.items) (record { listings = c.new.result; tidied = 0 }) g c.new.ensures.items ∙ c.loop-alloc.invariant g)
 
--- room in the log of the granule leaves what all logs show
-logs_stay : (c : After-reserve) (g : ℕ) → get_or (map (λ (r : Log). r.listings.items) (set c.loop-alloc.logs.items c.args.granule (record c.index_mut.result.now { listings = c.reserve.new.self }))) g []
-    ≡ get_or (map (λ (r : Log). r.listings.items) c.args.logs.now.items) g []
-logs_stay c g =
+pub returns-in_err-reserve-clause-same : goal.returns-in_err-reserve-clause-same
+returns-in_err-reserve-clause-same c = λ g.
     ap (λ l. get_or l g []) (map-set_same (λ (r : Log). r.listings.items) c.loop-alloc.logs.items c.args.granule (record c.index_mut.result.now { listings = c.reserve.new.self }) c.index_mut.result.now
     (c.reserve.ensures.items ∙ ap (λ (r : Log). r.listings.items) c.index_mut.ensures.value))
     ∙ c.loop-alloc.invariant g
-
-pub returns-in_err-reserve-clause-same : goal.returns-in_err-reserve-clause-same
-returns-in_err-reserve-clause-same c = logs_stay (goal.at.returns-in_err-reserve-clause-same c).After-reserve
 
 pub returns-clause-room : goal.returns-clause-room
 returns-clause-room c =
@@ -27,4 +21,7 @@ returns-clause-room c =
     (omega (arith, c.in_ok-reserve.ensures.ok, c.reserve.ensures.len))
 
 pub returns-clause-same : goal.returns-clause-same
-returns-clause-same c = logs_stay (goal.at.returns-clause-same c).After-reserve
+returns-clause-same c = λ g.
+    ap (λ l. get_or l g []) (map-set_same (λ (r : Log). r.listings.items) c.loop-alloc.logs.items c.args.granule (record c.index_mut.result.now { listings = c.reserve.new.self }) c.index_mut.result.now
+    (c.reserve.ensures.items ∙ ap (λ (r : Log). r.listings.items) c.index_mut.ensures.value))
+    ∙ c.loop-alloc.invariant g
